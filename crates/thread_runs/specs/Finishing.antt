@@ -7,14 +7,9 @@ use Rattle.script_calls.specs.SeenRow.{SeenRow}
 use Rattle.tx_cells.specs.Cell.{Cell}
 use Rattle.tx_cells.specs.LogCell.{LogCell}
 
--- The cells are of the same transactions, in the same order.
-abbrev pub AreOfSame : List Cell → List Cell → Type 0
-AreOfSame old new = map (λ c. c.tx.transaction.value) new ≡ map (λ c. c.tx.transaction.value) old
-
--- The cells are of the same transactions, and in each the same calls were entered.
-pub record HaveSameCalls (old new : List Cell) : Type 0 where
-  pub named : AreOfSame old new
-  pub rows : map (λ c. c.rows) new ≡ map (λ c. c.rows) old
+-- In each of the cells the same calls were entered.
+abbrev pub HaveSameCalls : List Cell → List Cell → Type 0
+HaveSameCalls old new = map (λ c. c.rows) new ≡ map (λ c. c.rows) old
 
 -- how many calls of a row weren't entered
 abbrev pub left_in : {C : Type 0} → SeenRow C → ℕ

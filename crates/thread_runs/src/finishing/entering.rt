@@ -1,11 +1,13 @@
 //! Entering the calls that the threads left.
-ghost use Rattle.std.specs.Prelude.{◌≡◌, ◌≢◌, ◌≤◌, ◌+◌, ◌<◌, IfNone, IfSome, Ok, OnOk, Some, None, false, length, slice_get, suc, true};
+ghost use Rattle.std.specs.Prelude.{◌≡◌, ◌≢◌, ◌≤◌, ◌+◌, IfNone, IfSome, MatchOption, None, Ok, OnOk, Some, false, length, nat_lt, slice_get, true};
 ghost use Rattle.std.specs.List.{All};
 ghost use Rattle.dtx_values.specs.declared.number.ActorNo.{ActorNo};
 ghost use Rattle.dtx_model.specs.Words.{each};
 ghost use Rattle.script_calls.specs.Managers.{AreManagers};
+ghost use Rattle.script_calls.specs.declared.calls.LogCall.{LogCall};
+ghost use Rattle.script_calls.specs.declared.rows.Due.{Due};
 ghost use Rattle.script_calls.specs.Rows.{are_entered, further, row_at};
-ghost use Rattle.thread_runs.specs.Finishing.{AreOfSame, left_of};
+ghost use Rattle.thread_runs.specs.Finishing.{left_among, left_of};
 ghost use Rattle.tx_cells.specs.Cell.{Cell};
 ghost use Rattle.tx_cells.specs.Entering.{next_of};
 ghost use Rattle.tx_cells.specs.LogEntering.{next_at_log};
@@ -20,9 +22,7 @@ use tx_cells::{CellState, LogState, Run, TurnError};
 
 /// Whether a call of this line comes before this one, where there is one.
 fn comes_before(line: u32, best: &Option<(usize, Due<Call>)>) -> bool
-    ensures { IfSome best.now (λ x. result ≡ false → x.1.line ≤ line) }
-    ensures first { IfNone best.now (result ≡ true) }
-    ensures lower { IfSome best.now (λ x. result ≡ true → line < x.1.line) }
+    ensures { MatchOption best.now (result ≡ true) (λ x. result ≡ nat_lt line x.1.line) }
 {
     match best {
         Some((_, due)) => line < due.line,
@@ -59,7 +59,6 @@ fn enter<D: Disk, N: Run>(
     requires objects { length resources.old ≡ N.objects }
     requires managers { AreManagers N.script N.script managers.now }
     requires next { next_of a state.old ≡ Some due }
-    ensures transaction { OnOk result (state.new.tx.transaction ≡ state.old.tx.transaction) }
     ensures row { OnOk result (row_at a state.new.rows ≡ further (row_at a state.old.rows)) }
     ensures others { OnOk result ((b : ActorNo) → b ≢ a → row_at b state.new.rows ≡ row_at b state.old.rows) }
     ensures log_rows { OnOk result (log.new.rows ≡ log.old.rows) }
@@ -85,7 +84,6 @@ fn enter_at<D: Disk, N: Run>(
     requires objects { length resources.old ≡ N.objects }
     requires managers { AreManagers N.script N.script managers.now }
     requires next { (c : Cell) × (slice_get states.old i ≡ Some c) × (next_of a c ≡ Some due) }
-    ensures named { OnOk result (AreOfSame states.old states.new) }
     ensures less { OnOk result (left_of a states.new log.new + 1 ≡ left_of a states.old log.old) }
     ensures others { OnOk result ((b : ActorNo) → b ≢ a → left_of b states.new log.new ≡ left_of b states.old log.old) }
     ensures objects { length resources.new ≡ length resources.old }
@@ -102,9 +100,7 @@ fn enter_at_log<D: Disk, N: Run>(
     a: ActorNo,
     line: u32,
 ) -> Result<(), RunStop>
-    requires next { IfSome (next_at_log a log.old) (λ d. d.line ≡ line) }
-    requires there { IfNone (next_at_log a log.old) (⊥) }
-    ensures named { OnOk result (AreOfSame states.old states.new) }
+    requires next { (d : Due LogCall) × (next_at_log a log.old ≡ Some d) × (d.line ≡ line) }
     ensures less { OnOk result (left_of a states.new log.new + 1 ≡ left_of a states.old log.old) }
     ensures others { OnOk result ((b : ActorNo) → b ≢ a → left_of b states.new log.new ≡ left_of b states.old log.old) }
 {
@@ -122,7 +118,6 @@ fn enter_next<D: Disk, N: Run>(
 ) -> Result<bool, RunStop>
     requires objects { length resources.old ≡ N.objects }
     requires managers { AreManagers N.script N.script managers.now }
-    ensures named { OnOk result (AreOfSame states.old states.new) }
     ensures none { result ≡ Ok false → left_of a states.new log.new ≡ 0 }
     ensures less { result ≡ Ok true → left_of a states.new log.new + 1 ≡ left_of a states.old log.old }
     ensures others { OnOk result ((b : ActorNo) → b ≢ a → left_of b states.new log.new ≡ left_of b states.old log.old) }
@@ -149,7 +144,6 @@ fn enter_actor<D: Disk, N: Run>(
 ) -> Result<(), RunStop>
     requires objects { length resources.old ≡ N.objects }
     requires managers { AreManagers N.script N.script managers.now }
-    ensures named { OnOk result (AreOfSame states.old states.new) }
     ensures none { OnOk result (left_of a states.new log.new ≡ 0) }
     ensures others { OnOk result ((b : ActorNo) → b ≢ a → left_of b states.new log.new ≡ left_of b states.old log.old) }
     ensures objects { length resources.new ≡ length resources.old }
@@ -170,7 +164,6 @@ fn enter_actors<D: Disk, N: Run>(
 ) -> Result<(), RunStop>
     requires objects { length resources.old ≡ N.objects }
     requires managers { AreManagers N.script N.script managers.now }
-    ensures named { OnOk result (AreOfSame states.old states.new) }
     ensures none { OnOk result ((a : ActorNo) → left_of a states.new log.new ≡ 0) }
     ensures objects { length resources.new ≡ length resources.old }
 {
@@ -178,5 +171,34 @@ fn enter_actors<D: Disk, N: Run>(
         let a = ActorNo::new(n).unwrap();
         enter_actor(managers, resources, states, log, a)?;
     }
+    Ok(())
+}
+
+/// That each call of the transactions was entered, where no actor has one left. It does nothing when it runs; a proof asks for it.
+fn each_is_entered<N: Run>(states: &[CellState<N>])
+    requires { (a : ActorNo) → left_among a states.now ≡ 0 }
+    ensures { each (λ c. are_entered c.rows) states.now ≡ true }
+{
+    for state in states {
+        prove!(state.are_entered());
+    }
+}
+
+/// Enters each call that isn't entered yet, actor by actor and in order of lines. Before an await its transaction is settled.
+pub(super) fn enter_all<D: Disk, N: Run>(
+    managers: &[Option<RmNo>],
+    resources: &mut [Box<dyn Resource + Send>],
+    states: &mut [CellState<N>],
+    log: &mut LogState<D, N>,
+) -> Result<(), RunStop>
+    requires objects { length resources.old ≡ N.objects }
+    requires managers { AreManagers N.script N.script managers.now }
+    ensures entered { OnOk result (each (λ c. are_entered c.rows) states.new ≡ true) }
+    ensures at_log { OnOk result (are_entered log.new.rows ≡ true) }
+    ensures objects { length resources.new ≡ length resources.old }
+{
+    enter_actors(managers, resources, states, log)?;
+    each_is_entered(states);
+    prove!(log.are_entered());
     Ok(())
 }

@@ -86,7 +86,7 @@ deed_entry s k x t = e_one x (passes s x k t)
 deed_sent : (c : Conn) (m : Message) → Each is_deed (Sent c Down m ∷ [])
 deed_sent c m = e_one (Sent c Down m) refl
 
-deed_commit : (k : Coordinated) → Each is_deed (commit_sends k)
+pub deed_commit : (k : Coordinated) → Each is_deed (commit_sends k)
 deed_commit k = of_commit_sends (deeds.lists []) k (λ c m l o. deed_sent c m)
 
 deed_core_got : (id : ℕ) (k : Coordinated) (c : Conn) (m : Message) → Each is_deed (core_got id k c m)
@@ -136,7 +136,7 @@ OfStep p Stops = p Stopped ≡ true
 OfStep p (Restarts found) = (p Stopped ≡ true) × (p (Restarted found) ≡ true)
 OfStep p _ = Unit {0}
 
-of_deeds : (p : Entry → Bool) → ((x : Entry) → is_deed x ≡ true → p x ≡ true) → {es : List Entry} → Each is_deed es → Each p es
+pub of_deeds : (p : Entry → Bool) → ((x : Entry) → is_deed x ≡ true → p x ≡ true) → {es : List Entry} → Each is_deed es → Each p es
 of_deeds p q {es} d = record { proof = each_more is_deed p q es d.proof }
 
 up_deed : (o : Observed) (c : Conn) (m : Message) → Each is_deed (to_up o c m)

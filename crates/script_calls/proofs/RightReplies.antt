@@ -20,7 +20,7 @@ use Rattle.dtx_model.specs.Replies.{fits, request_of}
 use Rattle.dtx_model.specs.Caused.{is_as_planned, is_outcome_planned, is_promotion_planned, is_request_planned, is_vote_planned, same_promotion, same_vote}
 use Rattle.dtx_model.specs.Entries.{same_outcome}
 use Rattle.dtx_model.proofs.Bools.{and_both, and_left, and_right, or_right}
-use Rattle.tx_cells.proofs.Blocks.{OfReply, OfStep, is_deed, of_block}
+use Rattle.script_calls.proofs.StepBlocks.{OfReply, OfStep, is_deed, of_block}
 
 -- the entry is as planned or free, whatever is before it
 abbrev pub is_right : (ℕ → Plan) → (ℕ → Bool) → Entry → Bool
@@ -165,8 +165,12 @@ step_right p free (Delivers c d) q = tt
 step_right p free Stops q = refl
 step_right p free (Restarts found) q = (refl, refl)
 
+-- So each entry of its block is.
+pub right_block : (p : ℕ → Plan) (free : ℕ → Bool) (t : ℕ) (w : World) (m : Step) → IsReplyRight p free m → each (is_right p free) (block_at t w m) ≡ true
+right_block p free t w m q = (of_block (is_right p free) (deed_right p free) t w m (step_right p free m q)).proof
+
 -- A history with a block after it: its replies are right where those of both are.
-right_onto : (p : ℕ → Plan) (free : ℕ → Bool) (h es : List Entry) → always (is_as_planned p free) h ≡ true → each (is_right p free) es ≡ true → always (is_as_planned p free) (onto h es) ≡ true
+pub right_onto : (p : ℕ → Plan) (free : ℕ → Bool) (h es : List Entry) → always (is_as_planned p free) h ≡ true → each (is_right p free) es ≡ true → always (is_as_planned p free) (onto h es) ≡ true
 right_onto p free h [] k q = k
 right_onto p free h (x ∷ es) k q =
     let first : is_as_planned p free h x ≡ true = right_any p free h x ∙ and_left (is_right p free x) (each (is_right p free) es) q in
@@ -175,7 +179,7 @@ right_onto p free h (x ∷ es) k q =
 -- So is the history after a step.
 pub right_step : (p : ℕ → Plan) (free : ℕ → Bool) (t : ℕ) (w : World) (m : Step) → IsReplyRight p free m → always (is_as_planned p free) w.past ≡ true
     → always (is_as_planned p free) (onto w.past (block_at t w m)) ≡ true
-right_step p free t w m q k = right_onto p free w.past (block_at t w m) k (of_block (is_right p free) (deed_right p free) t w m (step_right p free m q)).proof
+right_step p free t w m q k = right_onto p free w.past (block_at t w m) k (right_block p free t w m q)
 
 -- and with `stopped` after that
 pub right_stop : (p : ℕ → Plan) (free : ℕ → Bool) (h : List Entry) → always (is_as_planned p free) h ≡ true → always (is_as_planned p free) (Stopped ∷ h) ≡ true
