@@ -1,5 +1,6 @@
 pub mod ByCell
 pub mod Ended
+pub mod Laying
 pub mod Marked
 pub mod Placing
 pub mod Standing

@@ -16,7 +16,8 @@ use Rattle.dtx_model.specs.Words.{onto, past_of}
 use Rattle.dtx_model.proofs.Histories.{onto-append}
 use Rattle.tx_cells.specs.Cell.{Cell}
 use Rattle.thread_runs.specs.Contexts.{entries_of}
-use Rattle.thread_runs.specs.Gathering.{HasContexts, with_histories, with_log}
+use Rattle.thread_runs.specs.Gathering.{HasContexts, IsLaidBelow, with_histories, with_log}
+use Rattle.thread_runs.proofs.Laying.{laid_block}
 use Rattle.thread_runs.proofs.Placing.{entries_here, entries_there}
 
 -- A block of entries at the end of a trace is its newest part.
@@ -42,6 +43,7 @@ history_written T U V t u es h same wrote is past =
 
 -- The contexts of the actors below n were written: each has what its list has, and nothing stands elsewhere.
 pub record HasUpTo (n : ℕ) (ess : List (List Entry)) (T : List Placed) : Type 0 where
+  pub laid : IsLaidBelow n T
   pub contexts : (a : ActorNo) → at_context a.value T ≡ (if nat_lt a.value n then past_of (entries_of a ess) else [])
   pub transactions : (t : ℕ) → history t T ≡ []
   pub log : at_log T ≡ []
@@ -55,12 +57,13 @@ not_below a n low = grind (arith, nat_tests)
 pub up_to_first : (ess : List (List Entry)) (T : List Placed) → T ≡ [] → HasUpTo 1 ess (past_of T)
 up_to_first ess T none =
     subst (λ (U : List Placed). HasUpTo 1 ess (past_of U)) (sym none)
-    (record { contexts = λ a. rw (not_below a.value 1 a.in_range.0) refl; transactions = λ t. refl; log = refl })
+    (record { laid = record { in_order = refl; below = refl }; contexts = λ a. rw (not_below a.value 1 a.in_range.0) refl; transactions = λ t. refl; log = refl })
 
 pub up_to_more : (n m : ℕ) (ess : List (List Entry)) (T U : List Placed) (b : ActorNo) → b.value ≡ n → m ≡ n + 1 → U ≡ T ++ noted b (entries_of b ess) → HasUpTo n ess (past_of T) → HasUpTo m ess (past_of U)
 up_to_more n m ess T U b at next wrote h =
     subst (λ (V : List Placed). HasUpTo m ess V) (sym (ap past_of wrote ∙ past_written (Context b) T (entries_of b ess)))
     (record {
+      laid = laid_block (Context b) (past_of (entries_of b ess)) (past_of T) n m (omega (arith, at)) (omega (arith, at, next)) h.laid;
       contexts = λ a. context a;
       transactions = λ t. entries_there (is_at t) (Context b) (past_of (entries_of b ess)) (past_of T) refl ∙ h.transactions t;
       log = entries_there is_log (Context b) (past_of (entries_of b ess)) (past_of T) refl ∙ h.log;
@@ -81,9 +84,9 @@ up_to_more n m ess T U b at next wrote h =
           entries_there (is_context a.value) (Context b) (past_of (entries_of b ess)) (past_of T) e.0 ∙ (h.contexts a ∙ ap (λ c. if c then past_of (entries_of a ess) else []) tests)
     ]
 
-pub up_to_last : (n : ℕ) (ess : List (List Entry)) (T : List Placed) → 16 < n → HasUpTo n ess T → HasContexts ess T
+pub up_to_last : (n : ℕ) (ess : List (List Entry)) (T : List Placed) → n ≡ 17 → HasUpTo n ess T → HasContexts ess T
 up_to_last n ess T more h =
-    record { contexts = λ a. h.contexts a ∙ rw (below a.value n (let high = a.in_range.1 in omega (arith, high, more))) refl; transactions = h.transactions; log = h.log }
+    record { laid = subst (λ (k : ℕ). IsLaidBelow k T) more h.laid; contexts = λ a. h.contexts a ∙ rw (below a.value n (let high = a.in_range.1 in omega (arith, high, more))) refl; transactions = h.transactions; log = h.log }
 
 -- One more history is written after the others.
 pub one_history : (cs : List Cell) (c : Cell) (T : List Placed) → with_histories (cs ++ c ∷ []) T ≡ placed c.tx.transaction c.tx.world.past ++ with_histories cs T

@@ -13,6 +13,7 @@ use Rattle.call_order.specs.InOrder.{AreInActorOrder}
 use Rattle.script_calls.specs.Prefix.{lines_by}
 use Rattle.tx_cells.specs.LogAnswers.{is_no_log_answer}
 use Rattle.thread_runs.proofs.Ended.{IsGathered, ends_there, is_gathered, lines_there, put_together, rise_known, rise_of, rise_told, up_there}
+use Rattle.thread_runs.proofs.Laying.{laid_all}
 use Rattle.thread_runs.proofs.Standing.{all_follow, caused_there, followed_there, settled_there, tied_there}
 use Rattle.thread_runs.proofs.gathering.gathered.Goals as goal
 
@@ -47,6 +48,13 @@ returns-clause-run g c =
         followed = all_follow T (λ t. followed_there s k g.N.Run.honest log T t all.at_the_log (all.stands t));
       };
     }
+
+pub returns-clause-laid : goal.returns-clause-laid
+returns-clause-laid g c =
+    let log = c.args.log.now in
+    let is = put_together c.args.states.now log.past c.entries.result.now c.new.result c.write_contexts.new.trace.items c.write_histories.new.trace.items c.write_log.new.trace.items c.new.ensures c.in_ok-write_log.ensures c.entries.ensures
+    c.in_ok-write_histories.ensures in
+    laid_all g.N.Run.script c.args.states.now log.past (past_of c.write_contexts.new.trace.items) (past_of c.new.result) c.requires.finished.named is c.in_ok-write_contexts.ensures.laid
 
 pub returns-clause-tied : goal.returns-clause-tied
 returns-clause-tied g c h t =
