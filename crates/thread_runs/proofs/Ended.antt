@@ -1,5 +1,5 @@
 -- The trace of a run on threads is one of the script, and the log at its end is as the trace says.
-use Rattle.std.proofs.Common.{◌≡◌, ◌⊎◌, ◌≤◌, ◌<◌, ◌+◌, ◌-◌, ℕ, suc, nat_lt, Bool, true, false, List, [], ◌∷◌, map, Option, arith, inl, inr, refl, ap, sym, subst, ◌∙◌, if◌then◌else◌}
+use Rattle.std.proofs.Common.{◌≡◌, ◌⊎◌, ◌≤◌, ◌<◌, ◌+◌, ◌-◌, ℕ, nat_lt, Bool, true, false, List, [], Option, arith, inl, inr, refl, ap, sym, subst, ◌∙◌, if◌then◌else◌}
 use Rattle.std.specs.Prelude.{IsTrue, IfOk, Result, Ok, Err}
 use Rattle.std.specs.List.{All}
 use Rattle.std.proofs.lemmas.Bool.{cases_Bool}
@@ -30,7 +30,7 @@ use Rattle.thread_runs.specs.Contexts.{entries_of}
 use Rattle.thread_runs.specs.Finished.{AreFinished}
 use Rattle.thread_runs.specs.Gathering.{HasContexts, IsCellOf, with_histories, with_log}
 use Rattle.thread_runs.specs.Run.{EndsOnThreads, IsRise}
-use Rattle.thread_runs.proofs.ByCell.{IsFound, Rises, find_cell, is_among, rises_transactions, unmade}
+use Rattle.thread_runs.proofs.ByCell.{Rises, find_cell, rises_transactions, unmade}
 use Rattle.thread_runs.proofs.Marked.{marked_there}
 use Rattle.thread_runs.proofs.Placing.{contexts_before_log, contexts_kept, histories_before_log, log_kept, log_there}
 use Rattle.thread_runs.proofs.Standing.{IsDone, Stands, all_done, found_stands}
@@ -110,9 +110,9 @@ ends_there faults sure image s k honest from ess log T h held g =
     let is = up_there faults sure image s k honest from ess log (past_of T) g in
     record {
       up = λ said. let up : log.log.is_up ≡ true = is ∙ said in (
-          open_records log.log.slots,
-          held up,
-          λ t. marked_there s k honest log t (history t.value (past_of T)) (g.kept.up ∙ up) up (g.kept.held h up) (g.stands t),
-        );
+        open_records log.log.slots,
+        held up,
+        λ t. marked_there s k honest log t (history t.value (past_of T)) (g.kept.up ∙ up) up (g.kept.held h up) (g.stands t),
+      );
       own = λ c i. let l = g.kept.logs h c i in (l.0, l.1, found_so (AreOwn s) (log_has c) l.0 l.1 (g.kept.imaged h c i));
     }

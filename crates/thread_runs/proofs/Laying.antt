@@ -1,13 +1,13 @@
 -- The places of the trace of a run on threads stand in order: the contexts by actor, the transactions by number, and then the log.
-use Rattle.std.proofs.Common.{◌≡◌, ◌≤◌, ◌<◌, ◌+◌, ℕ, nat_le, nat_lt, Bool, true, false, ◌&&◌, List, [], ◌∷◌, ◌++◌, map, arith, ap, sym, subst, ◌∙◌}
+use Rattle.std.proofs.Common.{◌≡◌, ◌≤◌, ◌<◌, ◌+◌, ℕ, nat_le, nat_lt, true, List, [], ◌∷◌, ◌++◌, map, arith, ap, sym, subst, ◌∙◌}
 use Rattle.std.proofs.lemmas.Bool.Decides.{nat_tests}
 use Rattle.dtx_values.specs.declared.entry.Entry.{Entry}
 use Rattle.dtx_values.specs.declared.script.Line.{Line}
 use Rattle.dtx_values.specs.declared.trace.Place.{Place}
 use Rattle.dtx_values.specs.declared.trace.Place.TheVariants.{Log, Transaction}
 use Rattle.dtx_model.specs.Traces.{Placed, placed}
-use Rattle.dtx_model.specs.Words.{always, each}
-use Rattle.dtx_model.proofs.Bools.{and_both, and_left, and_right}
+use Rattle.dtx_model.specs.Words.{each}
+use Rattle.dtx_model.proofs.Bools.{and_both}
 use Rattle.outcome_law.proofs.Scans.{each_more}
 use Rattle.tx_cells.specs.Board.{transactions_of}
 use Rattle.tx_cells.specs.Cell.{Cell}

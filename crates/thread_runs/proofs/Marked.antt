@@ -1,6 +1,6 @@
 -- The log at the end of a run on threads has the records that the trace says.
-use Rattle.std.proofs.Common.{◌≡◌, ◌⊎◌, ◌≤◌, ◌<◌, ◌+◌, ℕ, suc, ◌==◌, nat_le, Bool, true, false, ◌&&◌, ◌||◌, not, List, [], ◌∷◌, filter, length, Option, Some, None, arith, inl, inr, refl, ap, sym, subst, ◌∙◌, if◌then◌else◌}
-use Rattle.std.specs.Prelude.{IsTrue, IfOk, Result, Ok, Err, is_some}
+use Rattle.std.proofs.Common.{◌≡◌, ◌⊎◌, ◌≤◌, ℕ, ◌==◌, nat_le, Bool, true, false, ◌&&◌, List, [], ◌∷◌, filter, length, Option, Some, arith, inl, inr, refl, ap, sym, subst, ◌∙◌, if◌then◌else◌}
+use Rattle.std.specs.Prelude.{IsTrue, is_some}
 use Rattle.std.proofs.lemmas.Bool.{cases_Bool}
 use Rattle.std.proofs.lemmas.Bool.Decides.{eqb_tells}
 use Rattle.dtx_values.specs.declared.entry.Entry.{Entry}
@@ -9,7 +9,7 @@ use Rattle.dtx_values.specs.declared.script.Line.{Line}
 use Rattle.dtx_values.specs.Table.{how_many}
 use Rattle.dtx_model.specs.AtLog.{is_opened, is_restart, is_stop}
 use Rattle.dtx_model.specs.Caused.{is_begin_sent}
-use Rattle.dtx_model.specs.Log.{CommitRecord, first_of, is_record_of, log_has}
+use Rattle.dtx_model.specs.Log.{CommitRecord, first_of, is_record_of}
 use Rattle.dtx_model.specs.Promotes.{identifier_of}
 use Rattle.dtx_model.specs.Tied.{has_mark}
 use Rattle.dtx_model.specs.Wires.{is_stopped}
@@ -18,9 +18,7 @@ use Rattle.dtx_model.specs.World.{core}
 use Rattle.dtx_model.proofs.Bools.{and_left, and_right, not_both}
 use Rattle.outcome_law.proofs.CoreStages.{recorded_mark, stopped_same}
 use Rattle.coordinator_log.specs.Slots.{open_records}
-use Rattle.coordinator_log.specs.State.{LogState}
-use Rattle.tx_world.specs.AtLog.{AtMostOne, Tie, id_of}
-use Rattle.tx_world.specs.State.{TxState}
+use Rattle.tx_world.specs.AtLog.{AtMostOne, id_of}
 use Rattle.tx_world.proofs.Begun.{stopped_begun}
 use Rattle.tx_world.proofs.Fitting.{one_found}
 use Rattle.tx_cells.specs.Board.{transactions_of}

@@ -1,58 +1,39 @@
 -- Each transaction of the trace of a run on threads: it has the history of its cell, or none.
-use Rattle.std.proofs.Common.{◌≡◌, ◌⊎◌, ◌≤◌, ◌<◌, ◌+◌, ◌-◌, ℕ, suc, ◌==◌, nat_le, nat_lt, Bool, true, false, ◌&&◌, ◌||◌, not, List, [], ◌∷◌, ◌++◌, filter, length, map, Option, Some, None, arith, inl, inr, refl, ap, sym, subst, ◌∙◌, if◌then◌else◌}
-use Rattle.std.specs.Prelude.{IsTrue, IfOk, Result, Ok, Err, is_some}
+use Rattle.std.proofs.Common.{◌≡◌, ◌⊎◌, ℕ, nat_le, Bool, true, false, List, [], ◌∷◌, arith, inl, inr, refl, ap, sym, subst, ◌∙◌}
+use Rattle.std.specs.Prelude.{IsTrue}
 use Rattle.std.specs.List.{All}
 use Rattle.std.proofs.lemmas.Bool.{cases_Bool}
 use Rattle.std.proofs.lemmas.Bool.Decides.{nat_tests}
 use Rattle.std.proofs.lemmas.List.Elements.{All-tail}
-use Rattle.dtx_values.specs.declared.call.Call.{Call}
 use Rattle.dtx_values.specs.declared.entry.Entry.{Entry}
-use Rattle.dtx_values.specs.declared.number.ActorNo.{ActorNo}
 use Rattle.dtx_values.specs.declared.number.TxNo.{TxNo}
 use Rattle.dtx_values.specs.declared.script.Line.{Line}
 use Rattle.dtx_values.specs.Table.{how_many}
-use Rattle.dtx_model.specs.AtLog.{armed, at_log, faults as faults_told, follow_log, follows_log, is_log_up, is_opened, is_restart, is_stop, one_if, transactions}
-use Rattle.dtx_model.specs.Caused.{Caused, FreelyCaused, IsCallOf, IsIn, IsOwnRun, Settled, is_begin_sent, world_of}
-use Rattle.dtx_model.specs.Contexts.{context}
-use Rattle.dtx_model.specs.Grammar.{OfTransaction, is_made}
-use Rattle.dtx_model.specs.Log.{CommitRecord, first_of, is_record_of, log_has}
+use Rattle.dtx_model.specs.AtLog.{at_log, follow_log, follows_log, is_opened, is_stop, transactions}
+use Rattle.dtx_model.specs.Caused.{Caused, IsCallOf, IsIn, Settled}
 use Rattle.dtx_model.specs.Outcome.{is_empty}
-use Rattle.dtx_model.specs.Promotes.{identifier_of}
 use Rattle.dtx_model.specs.Acts.{act_entries}
 use Rattle.dtx_model.specs.Coordinated.{coordinate, may_free, may_log}
 use Rattle.dtx_model.specs.Observed.{observe}
 use Rattle.dtx_model.specs.Replies.{all_due}
 use Rattle.dtx_model.specs.Steps.{local_pending, pending}
-use Rattle.dtx_model.specs.Tied.{has_mark, tied}
-use Rattle.dtx_model.specs.Traces.{Placed, at_context, history}
+use Rattle.dtx_model.specs.Tied.{tied}
+use Rattle.dtx_model.specs.Traces.{Placed, history}
 use Rattle.dtx_model.specs.Wires.{is_stopped}
-use Rattle.dtx_model.specs.Words.{each, has, past_of}
-use Rattle.dtx_model.specs.World.{core}
-use Rattle.dtx_model.proofs.Bools.{and_both, and_left, and_right, not_both}
+use Rattle.dtx_model.specs.Words.{each}
+use Rattle.dtx_model.proofs.Bools.{and_both, and_left, and_right}
 use Rattle.dtx_model.proofs.Lifting.{lift_ran}
 use Rattle.dtx_model.proofs.SameNumbers.{same_transaction}
-use Rattle.outcome_law.proofs.CoreStages.{recorded_mark, stopped_same}
 use Rattle.outcome_law.proofs.ReplaySame.{pending_same}
 use Rattle.outcome_law.proofs.ScriptCalls.{ran_calls}
-use Rattle.coordinator_log.specs.Crash.{AllHold}
-use Rattle.coordinator_log.specs.Slots.{open_records}
-use Rattle.coordinator_log.specs.State.{LogState}
-use Rattle.coordinator_log.specs.declared.stop.ArmedStop.{ArmedStop}
 use Rattle.script_calls.specs.Rows.{are_entered}
-use Rattle.tx_world.specs.AtLog.{AreFit, AreLogs, AtMostOne, Tie, id_of}
-use Rattle.tx_world.specs.State.{TxState}
-use Rattle.tx_world.proofs.Begun.{stopped_begun}
-use Rattle.tx_world.proofs.Fitting.{one_found}
 use Rattle.tx_cells.specs.Board.{transactions_of}
 use Rattle.tx_cells.specs.Cell.{Cell}
-use Rattle.tx_cells.specs.LogCell.{AreCounted, AreOwn, IsLogKept, LAST, LogCell, is_left, is_own, is_up_by}
+use Rattle.tx_cells.specs.LogCell.{LogCell}
 use Rattle.tx_cells.specs.Ties.{TiesWith}
-use Rattle.thread_runs.specs.Contexts.{AreContexts, entries_of}
-use Rattle.thread_runs.specs.Finished.{AreFinished, follows}
-use Rattle.thread_runs.specs.Gathering.{HasContexts, IsCellOf, with_histories, with_log}
-use Rattle.thread_runs.specs.Run.{AreMarked, AreTied, EachHolds, EndsOnThreads, IsRise, records_of}
-use Rattle.thread_runs.proofs.ByCell.{AllOf, IsFound, Rises, find_cell, is_among, numbers, rises_transactions, unmade}
-use Rattle.thread_runs.proofs.Placing.{contexts_before_log, contexts_kept, histories_before_log, log_kept, log_there}
+use Rattle.thread_runs.specs.Finished.{follows}
+use Rattle.thread_runs.specs.Gathering.{IsCellOf}
+use Rattle.thread_runs.proofs.ByCell.{AllOf, IsFound, is_among, numbers}
 
 -- A cell of a run that ended: all its calls were entered, nothing is pending, and it ties with the log and follows it.
 pub record IsDone {D : Type 0} (s : List Line) (k : ℕ) (honest : Bool) (log : LogCell D) (c : Cell) : Type 0 where
@@ -69,15 +50,15 @@ pub all_done : {D : Type 0} (s : List Line) (k : ℕ) (honest : Bool) (log : Log
     → All (λ c. TiesWith c.tx log.log) cs → each (λ c. follows log.past c.tx.world.past) cs ≡ true → All (IsCellOf s k honest) cs → AllOf (IsDone s k honest log) cs
 all_done s k honest log [] entered settled ties followed cells = tt
 all_done s k honest log (c ∷ cs) entered settled ties followed cells = (
-    record {
-      entered = and_left (are_entered c.rows) (each (λ c. are_entered c.rows) cs) entered;
-      settled = and_left (is_empty (pending c.tx.world)) (each (λ c. is_empty (pending c.tx.world)) cs) settled;
-      tied = all_head (λ c. TiesWith c.tx log.log) c cs ties;
-      followed = and_left (follows log.past c.tx.world.past) (each (λ c. follows log.past c.tx.world.past) cs) followed;
-      cell = all_head (IsCellOf s k honest) c cs cells;
-    },
-    all_done s k honest log cs (and_right (are_entered c.rows) (each (λ c. are_entered c.rows) cs) entered) (and_right (is_empty (pending c.tx.world)) (each (λ c. is_empty (pending c.tx.world)) cs) settled)
-    (All-tail (λ c. TiesWith c.tx log.log) c cs ties) (and_right (follows log.past c.tx.world.past) (each (λ c. follows log.past c.tx.world.past) cs) followed) (All-tail (IsCellOf s k honest) c cs cells),
+  record {
+    entered = and_left (are_entered c.rows) (each (λ c. are_entered c.rows) cs) entered;
+    settled = and_left (is_empty (pending c.tx.world)) (each (λ c. is_empty (pending c.tx.world)) cs) settled;
+    tied = all_head (λ c. TiesWith c.tx log.log) c cs ties;
+    followed = and_left (follows log.past c.tx.world.past) (each (λ c. follows log.past c.tx.world.past) cs) followed;
+    cell = all_head (IsCellOf s k honest) c cs cells;
+  },
+  all_done s k honest log cs (and_right (are_entered c.rows) (each (λ c. are_entered c.rows) cs) entered) (and_right (is_empty (pending c.tx.world)) (each (λ c. is_empty (pending c.tx.world)) cs) settled)
+      (All-tail (λ c. TiesWith c.tx log.log) c cs ties) (and_right (follows log.past c.tx.world.past) (each (λ c. follows log.past c.tx.world.past) cs) followed) (All-tail (IsCellOf s k honest) c cs cells),
 )
 
 -- A transaction of the trace, newest first: the history of one of these cells, or none, and then no line of the script makes it.

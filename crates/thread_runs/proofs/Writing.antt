@@ -1,6 +1,5 @@
 -- What is written at the end of a trace, place by place.
-use Rattle.std.proofs.Common.{◌≡◌, ◌⊎◌, ◌≤◌, ◌<◌, ◌+◌, ◌-◌, ℕ, ◌==◌, nat_lt, Bool, true, false, List, [], ◌∷◌, ◌++◌, map, drop, take, length, get_or, append_assoc, append-nil, arith, inl, inr, refl, ap, sym, subst, ◌∙◌, slice_index_or, if◌then◌else◌}
-use Rattle.std.proofs.lemmas.Bool.{cases_Bool}
+use Rattle.std.proofs.Common.{◌≡◌, ◌≤◌, ◌<◌, ◌+◌, ◌-◌, ℕ, nat_lt, true, false, List, [], ◌∷◌, ◌++◌, map, drop, take, length, append_assoc, append-nil, arith, inl, inr, refl, ap, sym, subst, ◌∙◌, slice_index_or, if◌then◌else◌}
 use Rattle.std.proofs.lemmas.Bool.Decides.{eqb_tells, nat_tests}
 use Rattle.std.proofs.lemmas.List.{take_all, take_more}
 use Rattle.std.proofs.lemmas.List.Elements.{All-push}

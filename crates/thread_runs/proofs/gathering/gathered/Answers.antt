@@ -1,6 +1,5 @@
-use Rattle.std.proofs.Common.{◌≡◌, ℕ, List, map, ap, sym, subst, ◌∙◌}
+use Rattle.std.proofs.Common.{ℕ, List, map, ap, sym, subst, ◌∙◌}
 use Rattle.std.specs.Prelude.{IsTrue}
-use Rattle.dtx_values.specs.declared.entry.Entry.{Entry}
 use Rattle.dtx_values.specs.declared.number.TxNo.{TxNo}
 use Rattle.dtx_model.specs.AtLog.{at_log, faults as faults_told}
 use Rattle.dtx_model.specs.Caused.{Caused}
@@ -8,11 +7,10 @@ use Rattle.dtx_model.specs.Traces.{Placed, history}
 use Rattle.dtx_model.specs.Words.{has, past_of}
 use Rattle.coordinator_log.specs.Crash.{AllHold}
 use Rattle.coordinator_log.specs.Slots.{open_records}
-use Rattle.coordinator_log.specs.State.{LogState}
 use Rattle.call_order.specs.InOrder.{AreInActorOrder}
 use Rattle.script_calls.specs.Prefix.{lines_by}
 use Rattle.tx_cells.specs.LogAnswers.{is_no_log_answer}
-use Rattle.thread_runs.proofs.Ended.{IsGathered, ends_there, is_gathered, lines_there, put_together, rise_known, rise_of, rise_told, up_there}
+use Rattle.thread_runs.proofs.Ended.{ends_there, is_gathered, lines_there, put_together, rise_known, rise_of, rise_told, up_there}
 use Rattle.thread_runs.proofs.Laying.{laid_all}
 use Rattle.thread_runs.proofs.Standing.{all_follow, caused_there, followed_there, settled_there, tied_there}
 use Rattle.thread_runs.proofs.gathering.gathered.Goals as goal
