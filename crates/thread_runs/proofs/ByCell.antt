@@ -1,7 +1,7 @@
 -- Of the cells of a run, the one of a transaction, and its history in the trace.
-use Rattle.std.proofs.Common.{◌≡◌, ◌⊎◌, ◌≤◌, ◌<◌, ◌+◌, ℕ, zero, suc, ◌==◌, Bool, true, false, ◌&&◌, ◌||◌, List, [], ◌∷◌, ◌++◌, filter, map, append-nil, arith, inl, inr, refl, ap, sym, subst, ◌∙◌, if◌then◌else◌}
+use Rattle.std.proofs.Common.{◌≡◌, ◌⊎◌, ◌≤◌, ◌<◌, ◌+◌, ℕ, zero, suc, ◌==◌, Bool, true, false, ◌||◌, List, [], ◌∷◌, ◌++◌, filter, map, append-nil, arith, inl, inr, refl, ap, sym, ◌∙◌, if◌then◌else◌}
 use Rattle.std.specs.List.{range_with_len}
-use Rattle.std.proofs.lemmas.Bool.Decides.{Decides-eqb, eqb_tells}
+use Rattle.std.proofs.lemmas.Bool.Decides.{eqb_tells}
 use Rattle.dtx_values.specs.declared.entry.Entry.{Entry}
 use Rattle.dtx_values.specs.declared.number.TxNo.{TxNo}
 use Rattle.dtx_values.specs.declared.script.Line.{Line}
@@ -9,6 +9,7 @@ use Rattle.dtx_values.specs.declared.trace.Place.TheVariants.{Transaction}
 use Rattle.dtx_model.specs.Grammar.{OfTransaction, is_made}
 use Rattle.dtx_model.specs.Traces.{Placed, history, is_at, placed}
 use Rattle.dtx_model.specs.Words.{has}
+use Rattle.dtx_model.proofs.Bools.{not_both, or_first, or_second}
 use Rattle.tx_cells.specs.Board.{transactions_of}
 use Rattle.tx_cells.specs.Cell.{Cell}
 use Rattle.thread_runs.specs.Gathering.{with_histories}
@@ -61,14 +62,22 @@ in_range t n (suc m) low high = elim (eqb_tells t n) [
 
 not_made : (p : ℕ → Bool) (t : ℕ) (ks : List ℕ) → is_among t ks ≡ true → is_among t (filter p ks) ≡ false → p t ≡ false
 not_made p t [] k none = absurd cc
-not_made p t (x ∷ xs) k none = elim (eqb_tells t x) [ inl e ↦ here (p x) refl e.1 e.0 | inr e ↦ there (p x) e.0 ]
+not_made p t (x ∷ xs) k none = elim (eqb_tells t x) [ inl e ↦ here (p x) refl e.1 e.0 none | inr e ↦ there (p x) e.0 k none (not_made p t xs) ]
   where
-    here : (b : Bool) → p x ≡ b → t ≡ x → (t == x) ≡ true → p t ≡ false
-    here true e same eq = absurd cc
-    here false e same eq = ap p same ∙ e
+    here : (b : Bool) → p x ≡ b → t ≡ x → (t == x) ≡ true → is_among t (if b then x ∷ filter p xs else filter p xs) ≡ false → p t ≡ false
+    here true e same eq none = absurd (not_both (t == x) eq (or_first (t == x) (is_among t (filter p xs)) none))
+    here false e same eq none = ap p same ∙ e
 
-    there : (b : Bool) → (t == x) ≡ false → p t ≡ false
-    there b e = not_made p t xs cc cc
+    there : (b : Bool) → (t == x) ≡ false → ((t == x) || is_among t xs) ≡ true → is_among t (if b then x ∷ filter p xs else filter p xs) ≡ false → (is_among t xs ≡ true → is_among t (filter p xs) ≡ false → p t ≡ false) → p t ≡ false
+    there b other k none ih = ih (later (t == x) (is_among t xs) other k) (rest b (is_among t (filter p xs)) none)
+      where
+        later : (c d : Bool) → c ≡ false → (c || d) ≡ true → d ≡ true
+        later true d e q = absurd cc
+        later false d e q = q
+
+        rest : (b d : Bool) → is_among t (if b then x ∷ filter p xs else filter p xs) ≡ false → is_among t (filter p xs) ≡ false
+        rest true d q = or_second (t == x) (is_among t (filter p xs)) q
+        rest false d q = q
 
 pub unmade : (s : List Line) (t : TxNo) → is_among t.value (transactions_of s) ≡ false → is_made s (OfTransaction t.value) ≡ false
 unfolding transactions_of
@@ -87,16 +96,8 @@ numbers cs = map (λ c. c.tx.transaction.value) cs
 no_history : (t : ℕ) (cs : List Cell) (T : List Placed) → is_among t (numbers cs) ≡ false → history t (with_histories cs T) ≡ history t T
 no_history t [] T none = refl
 no_history t (c ∷ cs) T none =
-    no_history t cs (placed c.tx.transaction c.tx.world.past ++ T) (second (t == c.tx.transaction.value) none)
-    ∙ entries_there (is_at t) (Transaction c.tx.transaction) c.tx.world.past T (first (t == c.tx.transaction.value) none)
-  where
-    first : (b : Bool) → (b || is_among t (numbers cs)) ≡ false → b ≡ false
-    first true e = absurd cc
-    first false e = refl
-
-    second : (b : Bool) → (b || is_among t (numbers cs)) ≡ false → is_among t (numbers cs) ≡ false
-    second true e = absurd cc
-    second false e = e
+    no_history t cs (placed c.tx.transaction c.tx.world.past ++ T) (or_second (t == c.tx.transaction.value) (is_among t (numbers cs)) none)
+    ∙ entries_there (is_at t) (Transaction c.tx.transaction) c.tx.world.past T (or_first (t == c.tx.transaction.value) (is_among t (numbers cs)) none)
 
 -- A transaction has one of these cells, and its history is that cell's; or it has none, and its history is empty.
 abbrev pub IsFound : (Cell → Type 0) → ℕ → List Cell → List Entry → Type 0

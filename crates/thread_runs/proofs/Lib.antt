@@ -2,7 +2,10 @@ pub mod ByCell
 pub mod ByNumber
 pub mod Gathered
 pub mod Left
+pub mod Ended
+pub mod Laying
 pub mod Marked
 pub mod Placing
 pub mod Settling
 pub mod Standing
+pub mod Writing

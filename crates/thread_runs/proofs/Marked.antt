@@ -1,13 +1,15 @@
 -- The log at the end of a run on threads has the records that the trace says.
-use Rattle.std.proofs.Common.{◌≡◌, ◌⊎◌, ◌≤◌, ◌<◌, ◌+◌, ℕ, suc, ◌==◌, Bool, true, false, ◌&&◌, ◌||◌, not, List, [], ◌∷◌, filter, length, Option, Some, None, arith, inl, inr, refl, ap, sym, subst, ◌∙◌, if◌then◌else◌}
-use Rattle.std.specs.Prelude.{IsTrue, IfOk, Result, Ok, Err, is_some}
+use Rattle.std.proofs.Common.{◌≡◌, ◌⊎◌, ◌≤◌, ℕ, ◌==◌, nat_le, Bool, true, false, ◌&&◌, List, [], ◌∷◌, filter, length, Option, Some, arith, inl, inr, refl, ap, sym, subst, ◌∙◌, if◌then◌else◌}
+use Rattle.std.specs.Prelude.{IsTrue, is_some}
 use Rattle.std.proofs.lemmas.Bool.{cases_Bool}
 use Rattle.std.proofs.lemmas.Bool.Decides.{eqb_tells}
 use Rattle.dtx_values.specs.declared.entry.Entry.{Entry}
 use Rattle.dtx_values.specs.declared.number.TxNo.{TxNo}
 use Rattle.dtx_values.specs.declared.script.Line.{Line}
+use Rattle.dtx_values.specs.Table.{how_many}
+use Rattle.dtx_model.specs.AtLog.{is_opened, is_restart, is_stop}
 use Rattle.dtx_model.specs.Caused.{is_begin_sent}
-use Rattle.dtx_model.specs.Log.{CommitRecord, first_of, is_record_of, log_has}
+use Rattle.dtx_model.specs.Log.{CommitRecord, first_of, is_record_of}
 use Rattle.dtx_model.specs.Promotes.{identifier_of}
 use Rattle.dtx_model.specs.Tied.{has_mark}
 use Rattle.dtx_model.specs.Wires.{is_stopped}
@@ -16,9 +18,7 @@ use Rattle.dtx_model.specs.World.{core}
 use Rattle.dtx_model.proofs.Bools.{and_left, and_right, not_both}
 use Rattle.outcome_law.proofs.CoreStages.{recorded_mark, stopped_same}
 use Rattle.coordinator_log.specs.Slots.{open_records}
-use Rattle.coordinator_log.specs.State.{LogState}
-use Rattle.tx_world.specs.AtLog.{AtMostOne, Tie, id_of}
-use Rattle.tx_world.specs.State.{TxState}
+use Rattle.tx_world.specs.AtLog.{AtMostOne, id_of}
 use Rattle.tx_world.proofs.Begun.{stopped_begun}
 use Rattle.tx_world.proofs.Fitting.{one_found}
 use Rattle.tx_cells.specs.Board.{transactions_of}
@@ -41,20 +41,22 @@ one_there id (r ∷ rs) k = by (is_record_of id r) k (one_there id rs)
     by false k ih = ih k
 
 -- A coordinator that follows a log that is up isn't stopped.
-not_stopped : (l h : List Entry) → follows l h ≡ true → is_up_by l ≡ true → (is_stopped h ≡ true → has is_begin_sent h ≡ true) → is_stopped h ≡ false
-not_stopped l h f up begun = by (cases_Bool (is_stopped h))
-  where
-    by : (is_stopped h ≡ true) ⊎ (is_stopped h ≡ false) → is_stopped h ≡ false
-    by (inl e) = absurd (impossible (begun e) e f)
-      where
-        impossible : has is_begin_sent h ≡ true → is_stopped h ≡ true → follows l h ≡ true → ⊥
-        impossible b s k = ?
-    by (inr e) = e
+never : (a b : Bool) → (a && b && false) ≡ false
+never true true = refl
+never true false = refl
+never false b = refl
+
+unfollowed : (l h : List Entry) → is_stopped h ≡ true → has is_begin_sent h ≡ true → is_up_by l ≡ true → follows l h ≡ false
+unfollowed l h stopped begun up = rw stopped (rw begun (rw up (never (nat_le (how_many is_stop h) (how_many is_stop l)) (nat_le (how_many is_restart h) (how_many is_opened l)))))
+
+not_stopped : (l h : List Entry) → follows l h ≡ true → is_up_by l ≡ true → (is_stopped h ≡ true → has is_begin_sent h ≡ true) → ((is_stopped h ≡ true) ⊎ (is_stopped h ≡ false)) → is_stopped h ≡ false
+not_stopped l h f up begun (inl e) = absurd (not_both (follows l h) f (unfollowed l h e (begun e) up))
+not_stopped l h f up begun (inr e) = e
 
 runs_there : {D : Type 0} (s : List Line) (k : ℕ) (honest : Bool) (log : LogCell D) (c : Cell) → IsDone s k honest log c → is_up_by log.past ≡ true → (core c.tx.world).stopped ≡ false
 runs_there s k honest log c d up =
     let h = c.tx.world.past in
-    stopped_same h ∙ not_stopped log.past h d.followed up (λ e. stopped_begun c.tx.transaction.value c.tx.world d.cell.run (stopped_same h ∙ e))
+    stopped_same h ∙ not_stopped log.past h d.followed up (λ e. stopped_begun c.tx.transaction.value c.tx.world d.cell.run (stopped_same h ∙ e)) (cases_Bool (is_stopped h))
 
 -- So the log has one record of a cell's transaction exactly where its history has one.
 cell_marked : {D : Type 0} (s : List Line) (k : ℕ) (honest : Bool) (log : LogCell D) (c : Cell) → IsDone s k honest log c → is_up_by log.past ≡ true → IsTrue log.log.is_up → AreOwn s (open_records log.log.slots)

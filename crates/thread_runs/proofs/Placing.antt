@@ -1,11 +1,8 @@
 -- What stands at each place of a trace that is put together part by part.
-use Rattle.std.proofs.Common.{◌≡◌, ◌≤◌, ◌<◌, ◌+◌, ℕ, ◌==◌, nat_lt, Bool, true, false, List, [], ◌∷◌, ◌++◌, map, append-nil, arith, refl, ap, sym, subst, ◌∙◌, if◌then◌else◌}
-use Rattle.std.proofs.lemmas.Bool.Decides.{eqb_tells}
+use Rattle.std.proofs.Common.{◌≡◌, ℕ, Bool, true, false, List, [], ◌∷◌, ◌++◌, map, append-nil, refl, ap, ◌∙◌}
 use Rattle.dtx_values.specs.declared.entry.Entry.{Entry}
-use Rattle.dtx_values.specs.declared.number.ActorNo.{ActorNo}
-use Rattle.dtx_values.specs.declared.number.TxNo.{TxNo}
 use Rattle.dtx_values.specs.declared.trace.Place.{Place}
-use Rattle.dtx_values.specs.declared.trace.Place.TheVariants.{Context, Log, Transaction}
+use Rattle.dtx_values.specs.declared.trace.Place.TheVariants.{Log, Transaction}
 use Rattle.dtx_model.specs.AtLog.{at_log, is_log}
 use Rattle.dtx_model.specs.Traces.{Placed, at_context, entries_at, history, is_at, is_context, placed}
 use Rattle.tx_cells.specs.Cell.{Cell}

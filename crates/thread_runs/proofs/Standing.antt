@@ -1,55 +1,39 @@
 -- Each transaction of the trace of a run on threads: it has the history of its cell, or none.
-use Rattle.std.proofs.Common.{◌≡◌, ◌⊎◌, ◌≤◌, ◌<◌, ◌+◌, ◌-◌, ℕ, suc, ◌==◌, nat_lt, Bool, true, false, ◌&&◌, ◌||◌, not, List, [], ◌∷◌, ◌++◌, filter, length, map, Option, Some, None, arith, inl, inr, refl, ap, sym, subst, ◌∙◌, if◌then◌else◌}
-use Rattle.std.specs.Prelude.{IsTrue, IfOk, Result, Ok, Err, is_some}
+use Rattle.std.proofs.Common.{◌≡◌, ◌⊎◌, ℕ, nat_le, Bool, true, false, List, [], ◌∷◌, arith, inl, inr, refl, ap, sym, subst, ◌∙◌}
+use Rattle.std.specs.Prelude.{IsTrue}
 use Rattle.std.specs.List.{All}
 use Rattle.std.proofs.lemmas.Bool.{cases_Bool}
-use Rattle.std.proofs.lemmas.Bool.Decides.{Decides-eqb, eqb_tells}
-use Rattle.std.proofs.lemmas.Grind.{nat_tests}
+use Rattle.std.proofs.lemmas.Bool.Decides.{nat_tests}
 use Rattle.std.proofs.lemmas.List.Elements.{All-tail}
-use Rattle.dtx_values.specs.declared.call.Call.{Call}
 use Rattle.dtx_values.specs.declared.entry.Entry.{Entry}
-use Rattle.dtx_values.specs.declared.number.ActorNo.{ActorNo}
 use Rattle.dtx_values.specs.declared.number.TxNo.{TxNo}
 use Rattle.dtx_values.specs.declared.script.Line.{Line}
-use Rattle.dtx_values.specs.declared.trace.Place.{Place}
-use Rattle.dtx_model.specs.AtLog.{armed, at_log, faults as faults_told, follow_log, follows_log, is_log_up, is_opened, is_restart, is_stop, one_if, transactions}
-use Rattle.dtx_model.specs.Caused.{Caused, FreelyCaused, IsCallOf, IsIn, IsOwnRun, Settled, is_begin_sent, world_of}
-use Rattle.dtx_model.specs.Contexts.{context}
-use Rattle.dtx_model.specs.Grammar.{OfTransaction, is_made}
-use Rattle.dtx_model.specs.Log.{CommitRecord, first_of, is_record_of, log_has}
+use Rattle.dtx_values.specs.Table.{how_many}
+use Rattle.dtx_model.specs.AtLog.{at_log, follow_log, follows_log, is_opened, is_stop, transactions}
+use Rattle.dtx_model.specs.Caused.{Caused, IsCallOf, IsIn, Settled}
 use Rattle.dtx_model.specs.Outcome.{is_empty}
-use Rattle.dtx_model.specs.Promotes.{identifier_of}
-use Rattle.dtx_model.specs.Steps.{pending}
-use Rattle.dtx_model.specs.Tied.{has_mark, tied}
-use Rattle.dtx_model.specs.Traces.{Placed, at_context, history}
+use Rattle.dtx_model.specs.Acts.{act_entries}
+use Rattle.dtx_model.specs.Coordinated.{coordinate, may_free, may_log}
+use Rattle.dtx_model.specs.Observed.{observe}
+use Rattle.dtx_model.specs.Replies.{all_due}
+use Rattle.dtx_model.specs.Steps.{local_pending, pending}
+use Rattle.dtx_model.specs.Tied.{tied}
+use Rattle.dtx_model.specs.Traces.{Placed, history}
 use Rattle.dtx_model.specs.Wires.{is_stopped}
-use Rattle.dtx_model.specs.Words.{each, has, past_of}
-use Rattle.dtx_model.specs.World.{core}
-use Rattle.dtx_model.proofs.Bools.{and_both, and_left, and_right, not_both}
+use Rattle.dtx_model.specs.Words.{each}
+use Rattle.dtx_model.proofs.Bools.{and_both, and_left, and_right}
 use Rattle.dtx_model.proofs.Lifting.{lift_ran}
 use Rattle.dtx_model.proofs.SameNumbers.{same_transaction}
-use Rattle.outcome_law.proofs.CoreStages.{recorded_mark, stopped_same}
 use Rattle.outcome_law.proofs.ReplaySame.{pending_same}
 use Rattle.outcome_law.proofs.ScriptCalls.{ran_calls}
-use Rattle.coordinator_log.specs.Crash.{AllHold}
-use Rattle.coordinator_log.specs.Slots.{open_records}
-use Rattle.coordinator_log.specs.State.{LogState}
-use Rattle.coordinator_log.specs.declared.stop.ArmedStop.{ArmedStop}
 use Rattle.script_calls.specs.Rows.{are_entered}
-use Rattle.tx_world.specs.AtLog.{AreFit, AreLogs, AtMostOne, Tie, id_of}
-use Rattle.tx_world.specs.State.{TxState}
-use Rattle.tx_world.proofs.Begun.{stopped_begun}
-use Rattle.tx_world.proofs.Fitting.{one_found}
 use Rattle.tx_cells.specs.Board.{transactions_of}
 use Rattle.tx_cells.specs.Cell.{Cell}
-use Rattle.tx_cells.specs.LogCell.{AreCounted, AreOwn, IsLogKept, LAST, LogCell, is_left, is_own, is_up_by}
+use Rattle.tx_cells.specs.LogCell.{LogCell}
 use Rattle.tx_cells.specs.Ties.{TiesWith}
-use Rattle.thread_runs.specs.Contexts.{AreContexts, entries_of}
-use Rattle.thread_runs.specs.Finished.{AreFinished, follows}
-use Rattle.thread_runs.specs.Gathering.{HasContexts, IsCellOf, with_histories, with_log}
-use Rattle.thread_runs.specs.Run.{AreMarked, AreTied, EachHolds, EndsOnThreads, IsRise, records_of}
-use Rattle.thread_runs.proofs.ByCell.{AllOf, IsFound, Rises, find_cell, is_among, numbers, rises_transactions, unmade}
-use Rattle.thread_runs.proofs.Placing.{contexts_before_log, contexts_kept, histories_before_log, log_kept, log_there}
+use Rattle.thread_runs.specs.Finished.{follows}
+use Rattle.thread_runs.specs.Gathering.{IsCellOf}
+use Rattle.thread_runs.proofs.ByCell.{AllOf, IsFound, is_among, numbers}
 
 -- A cell of a run that ended: all its calls were entered, nothing is pending, and it ties with the log and follows it.
 pub record IsDone {D : Type 0} (s : List Line) (k : ℕ) (honest : Bool) (log : LogCell D) (c : Cell) : Type 0 where
@@ -62,19 +46,19 @@ pub record IsDone {D : Type 0} (s : List Line) (k : ℕ) (honest : Bool) (log : 
 all_head : {X : Type 0} (P : X → Type 0) (x : X) (xs : List X) → All P (x ∷ xs) → P x
 all_head P x xs all = all 0 x (omega arith)
 
-all_done : {D : Type 0} (s : List Line) (k : ℕ) (honest : Bool) (log : LogCell D) (cs : List Cell) → each (λ c. are_entered c.rows) cs ≡ true → each (λ c. is_empty (pending c.tx.world)) cs ≡ true
+pub all_done : {D : Type 0} (s : List Line) (k : ℕ) (honest : Bool) (log : LogCell D) (cs : List Cell) → each (λ c. are_entered c.rows) cs ≡ true → each (λ c. is_empty (pending c.tx.world)) cs ≡ true
     → All (λ c. TiesWith c.tx log.log) cs → each (λ c. follows log.past c.tx.world.past) cs ≡ true → All (IsCellOf s k honest) cs → AllOf (IsDone s k honest log) cs
 all_done s k honest log [] entered settled ties followed cells = tt
 all_done s k honest log (c ∷ cs) entered settled ties followed cells = (
-    record {
-      entered = and_left (are_entered c.rows) (each (λ c. are_entered c.rows) cs) entered;
-      settled = and_left (is_empty (pending c.tx.world)) (each (λ c. is_empty (pending c.tx.world)) cs) settled;
-      tied = all_head (λ c. TiesWith c.tx log.log) c cs ties;
-      followed = and_left (follows log.past c.tx.world.past) (each (λ c. follows log.past c.tx.world.past) cs) followed;
-      cell = all_head (IsCellOf s k honest) c cs cells;
-    },
-    all_done s k honest log cs (and_right (are_entered c.rows) (each (λ c. are_entered c.rows) cs) entered) (and_right (is_empty (pending c.tx.world)) (each (λ c. is_empty (pending c.tx.world)) cs) settled)
-    (All-tail (λ c. TiesWith c.tx log.log) c cs ties) (and_right (follows log.past c.tx.world.past) (each (λ c. follows log.past c.tx.world.past) cs) followed) (All-tail (IsCellOf s k honest) c cs cells),
+  record {
+    entered = and_left (are_entered c.rows) (each (λ c. are_entered c.rows) cs) entered;
+    settled = and_left (is_empty (pending c.tx.world)) (each (λ c. is_empty (pending c.tx.world)) cs) settled;
+    tied = all_head (λ c. TiesWith c.tx log.log) c cs ties;
+    followed = and_left (follows log.past c.tx.world.past) (each (λ c. follows log.past c.tx.world.past) cs) followed;
+    cell = all_head (IsCellOf s k honest) c cs cells;
+  },
+  all_done s k honest log cs (and_right (are_entered c.rows) (each (λ c. are_entered c.rows) cs) entered) (and_right (is_empty (pending c.tx.world)) (each (λ c. is_empty (pending c.tx.world)) cs) settled)
+      (All-tail (λ c. TiesWith c.tx log.log) c cs ties) (and_right (follows log.past c.tx.world.past) (each (λ c. follows log.past c.tx.world.past) cs) followed) (All-tail (IsCellOf s k honest) c cs cells),
 )
 
 -- A transaction of the trace, newest first: the history of one of these cells, or none, and then no line of the script makes it.
@@ -101,7 +85,7 @@ empty_is [] e = refl
 empty_is (x ∷ xs) e = absurd cc
 
 none_settled : (s : List Line) → Settled s []
-unfolding pending
+unfolding pending local_pending all_due observe act_entries coordinate may_log may_free
 none_settled s = refl
 
 cell_settled : {D : Type 0} (s : List Line) (k : ℕ) (honest : Bool) (log : LogCell D) (c : Cell) → IsDone s k honest log c → Settled s c.tx.world.past
@@ -121,15 +105,18 @@ tied_there s k honest log t h sure (inl f) = ap tied f.3 ∙ f.2.cell.kept.sound
 tied_there s k honest log t h sure (inr f) = ap tied f.1
 
 -- It follows the log.
+follows_alike : (T : List Placed) (t : TxNo) → ((is_stopped (history t.value T) ≡ true) ⊎ (is_stopped (history t.value T) ≡ false)) → follows_log T t ≡ follows (at_log T) (history t.value T)
+follows_alike T t (inl e) = rw e refl
+follows_alike T t (inr e) = rw e refl
+
 same_follows : (T : List Placed) (t : TxNo) (h l : List Entry) → history t.value T ≡ h → at_log T ≡ l → follows_log T t ≡ follows l h
-same_follows T t h l is log = rw is (rw log (by (cases_Bool (is_stopped h))))
-  where
-    by : (is_stopped h ≡ true) ⊎ (is_stopped h ≡ false) → _
-    by (inl e) = rw e refl
-    by (inr e) = rw e refl
+same_follows T t h l is log = follows_alike T t (cases_Bool (is_stopped (history t.value T))) ∙ (ap (λ (x : List Entry). follows (at_log T) x) is ∙ ap (λ (x : List Entry). follows x h) log)
+
+at_least_none : (n : ℕ) → nat_le 0 n ≡ true
+at_least_none n = grind (arith, nat_tests)
 
 none_follows : (l : List Entry) → follows l [] ≡ true
-none_follows l = refl
+none_follows l = rw (at_least_none (how_many is_stop l)) (rw (at_least_none (how_many is_opened l)) refl)
 
 pub followed_there : {D : Type 0} (s : List Line) (k : ℕ) (honest : Bool) (log : LogCell D) (T : List Placed) (t : TxNo) → at_log T ≡ log.past → Stands s k honest log (history t.value T) t → follows_log T t ≡ true
 followed_there s k honest log T t l (inl f) = same_follows T t f.0.tx.world.past log.past f.3 l ∙ f.2.followed

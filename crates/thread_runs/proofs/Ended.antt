@@ -1,9 +1,9 @@
 -- The trace of a run on threads is one of the script, and the log at its end is as the trace says.
-use Rattle.std.proofs.Common.{◌≡◌, ◌⊎◌, ◌≤◌, ◌<◌, ◌+◌, ◌-◌, ℕ, suc, nat_lt, Bool, true, false, List, [], ◌∷◌, map, arith, inl, inr, refl, ap, sym, subst, ◌∙◌, if◌then◌else◌}
+use Rattle.std.proofs.Common.{◌≡◌, ◌⊎◌, ◌≤◌, ◌<◌, ◌+◌, ◌-◌, ℕ, nat_lt, Bool, true, false, List, [], Option, arith, inl, inr, refl, ap, sym, subst, ◌∙◌, if◌then◌else◌}
 use Rattle.std.specs.Prelude.{IsTrue, IfOk, Result, Ok, Err}
 use Rattle.std.specs.List.{All}
 use Rattle.std.proofs.lemmas.Bool.{cases_Bool}
-use Rattle.std.proofs.lemmas.Grind.{nat_tests}
+use Rattle.std.proofs.lemmas.Bool.Decides.{nat_tests}
 use Rattle.dtx_values.specs.declared.entry.Entry.{Entry}
 use Rattle.dtx_values.specs.declared.number.ActorNo.{ActorNo}
 use Rattle.dtx_values.specs.declared.number.TxNo.{TxNo}
@@ -30,7 +30,7 @@ use Rattle.thread_runs.specs.Contexts.{entries_of}
 use Rattle.thread_runs.specs.Finished.{AreFinished}
 use Rattle.thread_runs.specs.Gathering.{HasContexts, IsCellOf, with_histories, with_log}
 use Rattle.thread_runs.specs.Run.{EndsOnThreads, IsRise}
-use Rattle.thread_runs.proofs.ByCell.{IsFound, Rises, find_cell, is_among, rises_transactions, unmade}
+use Rattle.thread_runs.proofs.ByCell.{Rises, find_cell, rises_transactions, unmade}
 use Rattle.thread_runs.proofs.Marked.{marked_there}
 use Rattle.thread_runs.proofs.Placing.{contexts_before_log, contexts_kept, histories_before_log, log_kept, log_there}
 use Rattle.thread_runs.proofs.Standing.{IsDone, Stands, all_done, found_stands}
@@ -53,6 +53,11 @@ is_gathered {D} faults sure image s k honest from ess cs log start T done cells 
       at_the_log = ap at_log is ∙ log_there log.past (with_histories cs start) (log_kept cs start ∙ first.log);
       kept = kept;
     }
+
+-- The trace, where its parts were written one after the other: U after the contexts, V after the histories, and W after the log.
+pub put_together : (cs : List Cell) (h es : List Entry) (T U V W : List Placed) → T ≡ W → past_of W ≡ with_log (past_of es) (past_of V) → past_of es ≡ h → past_of V ≡ with_histories cs (past_of U) → past_of T ≡ with_log h (with_histories cs (past_of U))
+put_together cs h es T U V W same log past histories =
+    ap past_of same ∙ (log ∙ (ap (λ (x : List Entry). with_log x (past_of V)) past ∙ ap (λ (X : List Placed). with_log h X) histories))
 
 -- Each actor's calls there are those that its lines make, by the laws of their order.
 pub lines_there : {D : Type 0} (s : List Line) (k : ℕ) (honest : Bool) (log : LogCell D) (t : TxNo) (h : List Entry)
@@ -105,9 +110,9 @@ ends_there faults sure image s k honest from ess log T h held g =
     let is = up_there faults sure image s k honest from ess log (past_of T) g in
     record {
       up = λ said. let up : log.log.is_up ≡ true = is ∙ said in (
-          open_records log.log.slots,
-          held up,
-          λ t. marked_there s k honest log t (history t.value (past_of T)) (g.kept.up ∙ up) up (g.kept.held h up) (g.stands t),
-        );
+        open_records log.log.slots,
+        held up,
+        λ t. marked_there s k honest log t (history t.value (past_of T)) (g.kept.up ∙ up) up (g.kept.held h up) (g.stands t),
+      );
       own = λ c i. let l = g.kept.logs h c i in (l.0, l.1, found_so (AreOwn s) (log_has c) l.0 l.1 (g.kept.imaged h c i));
     }
