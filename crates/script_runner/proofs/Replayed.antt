@@ -1,25 +1,21 @@
 -- What a replay gives is a history of its script.
-use Rattle.std.proofs.Common.{◌≡◌, ◌<◌, ◌≤◌, ◌⊎◌, ◌-◌, ℕ, Bool, true, false, ◌&&◌, suc, get_or, Some, List, [], ◌∷◌, ◌++◌, Option, ap, drop, length, refl, arith, sym, subst, take, inl, inr, ◌∙◌, if◌then◌else◌}
+use Rattle.std.proofs.Common.{◌≡◌, ◌<◌, ◌≤◌, ◌⊎◌, ◌-◌, ℕ, Bool, true, false, suc, get_or, Some, List, [], ◌∷◌, ◌++◌, Option, ap, drop, length, refl, arith, sym, subst, take, inl, inr, ◌∙◌, if◌then◌else◌}
 use Rattle.std.specs.Prelude.{nat_lt}
 use Rattle.std.proofs.lemmas.Bool.{cases_Bool}
 use Rattle.std.proofs.lemmas.Bool.Decides.{nat_tests}
 use Rattle.std.proofs.lemmas.List.{take-append-drop}
 use Rattle.std.proofs.lemmas.Option.{slice_get-get_or}
 use Rattle.dtx_values.specs.declared.script.Line.{Line}
-use Rattle.dtx_model.specs.Words.{always, kth, past_of}
-use Rattle.dtx_values.specs.declared.entry.Entry.{Entry}
-use Rattle.dtx_values.specs.declared.entry.Entry.TheVariants.{OwnerAnswered, PromoteReply, Requested, Voted}
-use Rattle.dtx_values.specs.declared.note.Plan.{Plan}
+use Rattle.dtx_model.specs.Words.{kth, past_of}
 use Rattle.dtx_values.specs.declared.number.TxNo.{TxNo}
 use Rattle.dtx_values.specs.declared.trace.Place.{Place}
 use Rattle.dtx_values.specs.Table.{how_many}
-use Rattle.dtx_model.specs.AtLog.{armed, at_log, faults as faults_told, one_if, stop_right}
-use Rattle.dtx_model.specs.Caused.{Settled, has_object, is_as_planned, plans_of}
-use Rattle.dtx_model.specs.History.{is_call_at, nobody}
+use Rattle.dtx_model.specs.AtLog.{armed, at_log, faults as faults_told, one_if}
+use Rattle.dtx_model.specs.Caused.{Settled}
+use Rattle.dtx_model.specs.History.{is_call_at}
 use Rattle.dtx_model.specs.Outcome.{is_empty}
 use Rattle.dtx_model.specs.Traces.{Placed, calls, history}
 use Rattle.dtx_model.specs.Replay.{IsReplayed, due_calls}
-use Rattle.dtx_model.proofs.Bools.{and_both, and_left, and_right, or_right}
 use Rattle.dtx_model.specs.Grammar.{IsScript}
 use Rattle.coordinator_log.specs.declared.stop.ArmedStop.{ArmedStop}
 use Rattle.script_runner.specs.LogRun.{IsCounted, LAST, is_left}

@@ -225,7 +225,7 @@ reply_pending w e n (Some (ReplyOf f)) k = by (due_of (half w).seen f.value) ref
     by (Some m) q k = let pair : (f, m) ≡ (e, n) = cc in
         let same : f ≡ e = ap (λ (x : EnlNo × Note). x.0) pair in
         let note : m ≡ n = ap (λ (x : EnlNo × Note). x.1) pair in
-         (ap (λ g. Some (ReplyOf g)) same, subst (λ (g : EnlNo). due_of (half w).seen g.value ≡ Some n) same (q ∙ ap Some note))
+        (ap (λ g. Some (ReplyOf g)) same, subst (λ (g : EnlNo). due_of (half w).seen g.value ≡ Some n) same (q ∙ ap Some note))
     by None q k = absurd cc
 reply_pending w e n (Some LocalAct) k = absurd cc
 reply_pending w e n (Some CoordinatorAct) k = absurd cc

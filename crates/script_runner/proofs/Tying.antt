@@ -7,7 +7,7 @@ use Rattle.dtx_values.specs.declared.note.Plan.{Plan}
 use Rattle.dtx_values.specs.declared.number.ActorNo.{ActorNo}
 use Rattle.dtx_values.specs.declared.number.TxNo.{TxNo}
 use Rattle.dtx_values.specs.declared.script.Line.{Line}
-use Rattle.dtx_model.specs.Words.{always, each, onto}
+use Rattle.dtx_model.specs.Words.{each, onto}
 use Rattle.dtx_model.specs.World.{World}
 use Rattle.dtx_model.specs.Steps.{Step, block_at}
 use Rattle.dtx_model.specs.Caused.{IsCallOf, IsIn, has_object, plans_of}

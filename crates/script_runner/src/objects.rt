@@ -22,12 +22,7 @@ use script_calls::fits;
 use tx_world::{TxWorld, WorldError};
 
 /// What the object replies to the note; `None` where it gives no answer that fits it.
-fn answer(
-    object: &mut dyn Resource,
-    t: TxNo,
-    e: EnlNo,
-    n: Note,
-) -> Option<Reply>
+fn answer(object: &mut dyn Resource, t: TxNo, e: EnlNo, n: Note) -> Option<Reply>
     ensures fits { IfSome result (λ r. fits r n ≡ true) }
     ensures answer { (a : Option Reply) × (after : _) × gives object.old t e n a after × (result ≡ fitting n a) }
 {

@@ -37,8 +37,8 @@ ghost use Rattle.world_laws.specs.Left.{steps_left};
 use crate::objects::{asked, do_kth};
 use coordinator_log::{Log, LogRefusal};
 use dtx_values::{
-    ActorNo, Answer, Body, Call, Entry, Image, Line, LogNote, Outbox, Place, Resource, RmNo, Script,
-    TxNo,
+    ActorNo, Answer, Body, Call, Entry, Image, Line, LogNote, Outbox, Place, Resource, RmNo,
+    Script, TxNo,
 };
 use entry_lists::{PlacedEntries, Trace};
 use outcome_law::{appends, completeness, crossings, lifting, one_outcome, replay, stops};

@@ -1,6 +1,5 @@
 pub mod ByCell
 pub mod ByNumber
-pub mod Gathered
 pub mod Left
 pub mod Ended
 pub mod Laying

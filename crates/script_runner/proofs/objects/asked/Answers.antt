@@ -1,4 +1,4 @@
-use Rattle.std.proofs.Common.{◌≡◌, ◌<◌, ◌-◌, ◌∙◌, Option, None, Some, ap, arith, length, subst, sym}
+use Rattle.std.proofs.Common.{◌≡◌, ◌<◌, ◌-◌, ◌∙◌, Option, Some, ap, arith, length, subst, sym}
 use Rattle.dtx_values.specs.declared.note.Reply.{Reply}
 use Rattle.script_runner.specs.Objects.{fitting, reply_by}
 use Rattle.script_runner.proofs.Answering.{item_is, of_asked, place_of}

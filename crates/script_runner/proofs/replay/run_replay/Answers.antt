@@ -1,5 +1,4 @@
-use Rattle.std.proofs.Common.{◌≡◌, true, false, List, [], length, subst, ◌&&◌, ℕ}
-use Rattle.std.specs.Prelude.{IsTrue}
+use Rattle.std.proofs.Common.{◌≡◌, true, List, length, subst, ℕ}
 use Rattle.dtx_values.specs.declared.entry.Entry.{Entry}
 use Rattle.dtx_values.specs.declared.number.TxNo.{TxNo}
 use Rattle.dtx_model.specs.AtLog.{at_log, faults as faults_told}
@@ -9,7 +8,7 @@ use Rattle.dtx_model.specs.Tied.{tied}
 use Rattle.dtx_model.proofs.Bools.{and_left, and_right, or_false}
 use Rattle.outcome_law.specs.Appended.{has_append, stopped_at_append}
 use Rattle.dtx_model.specs.Traces.{history}
-use Rattle.dtx_model.specs.Words.{has, past_of}
+use Rattle.dtx_model.specs.Words.{past_of}
 use Rattle.coordinator_log.specs.Slots.{open_records}
 use Rattle.script_runner.proofs.Replayed.{IsOfScript, called_at, empty_is, of_script, rise_known, rise_none, rise_of, rise_told}
 use Rattle.script_runner.proofs.replay.run_replay.Goals as goal

@@ -1,6 +1,6 @@
-use Rattle.std.proofs.Common.{◌≡◌, ◌≤◌, ◌<◌, ◌+◌, ◌∷◌, ℕ, Bool, true, false, List, [], Option, Some, None, Ok, Err, is_some, ap, arith, length, subst, refl, sym, ◌∙◌, if◌then◌else◌}
+use Rattle.std.proofs.Common.{◌≡◌, ◌<◌, ◌+◌, ℕ, true, false, List, [], Err, is_some, ap, arith, length, subst, sym, ◌∙◌, if◌then◌else◌}
 use Rattle.std.proofs.lemmas.Result.{IfErr-at_err, IfOk-at_ok, on_ok_weaker}
-use Rattle.std.specs.Prelude.{IsTrue, OnOk, is_ok}
+use Rattle.std.specs.Prelude.{IsTrue, is_ok}
 use Rattle.outside.specs.Disk.{AreWithin}
 use Rattle.outside.specs.Faults.{Rose}
 use Rattle.dtx_values.specs.declared.entry.Answer.{Answer}
@@ -17,11 +17,10 @@ use Rattle.dtx_model.specs.Traces.{Placed}
 use Rattle.dtx_model.specs.World.{core}
 use Rattle.coordinator_log.specs.Slots.{open_records}
 use Rattle.coordinator_log.specs.State.{LogState}
-use Rattle.coordinator_log.specs.declared.refusal.LogRefusal.{LogRefusal}
 use Rattle.coordinator_log.specs.declared.refusal.LogRefusal.TheVariants as Refusal
 use Rattle.tx_world.specs.AtLog.{Fits}
 use Rattle.script_runner.specs.LogRun.{LogGoes, restart_answer}
-use Rattle.script_runner.specs.RunState.{Holds, IsRecordKept, IsTied, RunState, Tells, halted, record_in, reopened, state_of}
+use Rattle.script_runner.specs.RunState.{Holds, IsRecordKept, RunState, Tells, halted, record_in, reopened, state_of}
 use Rattle.script_runner.proofs.Fitting.{fits_opened}
 use Rattle.script_runner.proofs.Reopening.{IsHalted, after_unopened, both_ok, down_err, goes_restart, halted_down, halted_up, halts_at, holds_opened, one_written, opened_just, opened_trace, tied_at_log, tied_move, two_written, unopened_by, unopened_just}
 use Rattle.script_runner.proofs.TellingOpenings.{tells_restart}
