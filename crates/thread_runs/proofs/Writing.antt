@@ -15,7 +15,7 @@ use Rattle.dtx_model.specs.Words.{onto, past_of}
 use Rattle.dtx_model.proofs.Histories.{onto-append}
 use Rattle.tx_cells.specs.Cell.{Cell}
 use Rattle.thread_runs.specs.Contexts.{entries_of}
-use Rattle.thread_runs.specs.Gathering.{HasContexts, IsLaidBelow, with_histories, with_log}
+use Rattle.thread_runs.specs.Gathering.{IsLaidBelow, with_histories, with_log}
 use Rattle.thread_runs.proofs.Laying.{laid_block}
 use Rattle.thread_runs.proofs.Placing.{entries_here, entries_there}
 
@@ -53,11 +53,6 @@ below a n less = grind (arith, nat_tests)
 not_below : (a n : ℕ) → n ≤ a → nat_lt a n ≡ false
 not_below a n low = grind (arith, nat_tests)
 
-pub up_to_first : (ess : List (List Entry)) (T : List Placed) → T ≡ [] → HasUpTo 1 ess (past_of T)
-up_to_first ess T none =
-    subst (λ (U : List Placed). HasUpTo 1 ess (past_of U)) (sym none)
-    (record { laid = record { in_order = refl; below = refl }; contexts = λ a. rw (not_below a.value 1 a.in_range.0) refl; transactions = λ t. refl; log = refl })
-
 pub up_to_more : (n m : ℕ) (ess : List (List Entry)) (T U : List Placed) (b : ActorNo) → b.value ≡ n → m ≡ n + 1 → U ≡ T ++ noted b (entries_of b ess) → HasUpTo n ess (past_of T) → HasUpTo m ess (past_of U)
 up_to_more n m ess T U b at next wrote h =
     subst (λ (V : List Placed). HasUpTo m ess V) (sym (ap past_of wrote ∙ past_written (Context b) T (entries_of b ess)))
@@ -82,10 +77,6 @@ up_to_more n m ess T U b at next wrote h =
           let tests : nat_lt a.value n ≡ nat_lt a.value m = grind (arith, nat_tests) in
           entries_there (is_context a.value) (Context b) (past_of (entries_of b ess)) (past_of T) e.0 ∙ (h.contexts a ∙ ap (λ c. if c then past_of (entries_of a ess) else []) tests)
     ]
-
-pub up_to_last : (n : ℕ) (ess : List (List Entry)) (T : List Placed) → n ≡ 17 → HasUpTo n ess T → HasContexts ess T
-up_to_last n ess T more h =
-    record { laid = subst (λ (k : ℕ). IsLaidBelow k T) more h.laid; contexts = λ a. h.contexts a ∙ rw (below a.value n (let high = a.in_range.1 in omega (arith, high, more))) refl; transactions = h.transactions; log = h.log }
 
 -- One more history is written after the others.
 pub one_history : (cs : List Cell) (c : Cell) (T : List Placed) → with_histories (cs ++ c ∷ []) T ≡ placed c.tx.transaction c.tx.world.past ++ with_histories cs T
