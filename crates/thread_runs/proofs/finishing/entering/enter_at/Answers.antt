@@ -42,9 +42,9 @@ returns-clause-others g c =
     let less : i < length states = slice_get_within states i due.0 due.1 in
     on_ok {P = HaveSameCalls (set states i y) c.follow_stop.new.states} {Q = (b : ActorNo) → b ≢ a → left_of b c.follow_stop.new.states c.enter.new.log ≡ left_of b states c.args.log.now} c.follow_stop.result
     (λ calls b other.
-      let row : left_in (row_at b y.rows) ≡ left_in (row_at b x.rows) = ap left_in (c.in_ok-enter.ensures.others b other) ∙ ap (λ (z : Cell). left_in (row_at b z.rows)) (sym c.index-states-i.is) in
-      let one = set_same b states i x y less c.index-states-i.is row in
-      let at_log : left_in (row_at b c.enter.new.log.rows) ≡ left_in (row_at b c.args.log.now.rows) = ap (λ (rs : List (SeenRow LogCall)). left_in (row_at b rs)) c.in_ok-enter.ensures.log_rows in
-      let kept = same_left b (set states i y) c.follow_stop.new.states calls in
-      omega (arith, one, at_log, kept))
+    let row : left_in (row_at b y.rows) ≡ left_in (row_at b x.rows) = ap left_in (c.in_ok-enter.ensures.others b other) ∙ ap (λ (z : Cell). left_in (row_at b z.rows)) (sym c.index-states-i.is) in
+    let one = set_same b states i x y less c.index-states-i.is row in
+    let at_log : left_in (row_at b c.enter.new.log.rows) ≡ left_in (row_at b c.args.log.now.rows) = ap (λ (rs : List (SeenRow LogCall)). left_in (row_at b rs)) c.in_ok-enter.ensures.log_rows in
+    let kept = same_left b (set states i y) c.follow_stop.new.states calls in
+    omega (arith, one, at_log, kept))
     c.follow_stop.ensures.calls
