@@ -18,6 +18,7 @@ HaveSameCalls old new = map (λ c. c.rows) new ≡ map (λ c. c.rows) old
 abbrev pub IsDueAt : ActorNo → List Cell → ℕ → Type 0
 IsDueAt a cells i = (c : Cell) × (slice_get cells i ≡ Some c) × IsSome (next_of a c)
 
+-- the call is an await
 abbrev pub is_await : Call → Bool
 is_await (Await t) = true
 is_await _ = false

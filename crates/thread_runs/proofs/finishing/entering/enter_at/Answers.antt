@@ -1,14 +1,13 @@
-use Rattle.std.proofs.Common.{◌≡◌, ◌≢◌, ◌+◌, ◌<◌, ◌∙◌, List, Some, ap, arith, get_or, length, refl, set, subst, sym}
+use Rattle.std.proofs.Common.{◌≡◌, ◌≢◌, ◌+◌, ◌<◌, ◌∙◌, List, Some, ap, arith, length, refl, set, subst, sym}
 use Rattle.std.specs.Prelude.{IsSome}
 use Rattle.std.proofs.lemmas.Option.{slice_get_read, slice_get_within}
-use Rattle.dtx_values.specs.declared.call.Call.{Call}
 use Rattle.dtx_values.specs.declared.number.ActorNo.{ActorNo}
 use Rattle.script_calls.specs.Rows.{further, row_at}
 use Rattle.script_calls.specs.SeenRow.{SeenRow}
 use Rattle.script_calls.specs.declared.calls.LogCall.{LogCall}
 use Rattle.tx_cells.specs.Cell.{Cell}
 use Rattle.tx_cells.specs.Entering.{next_of}
-use Rattle.thread_runs.specs.Finishing.{HaveSameCalls, left_among, left_in, left_of}
+use Rattle.thread_runs.specs.Finishing.{HaveSameCalls, left_in, left_of}
 use Rattle.thread_runs.proofs.Left.{on_ok, one_less_in, same_left, set_less, set_same}
 use Rattle.thread_runs.proofs.finishing.entering.enter_at.Goals as goal
 

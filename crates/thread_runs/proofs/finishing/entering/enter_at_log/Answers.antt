@@ -1,9 +1,8 @@
 use Rattle.std.proofs.Common.{◌≡◌, ◌∙◌, Some, ap, arith, sym}
 use Rattle.std.specs.Prelude.{is_some}
 use Rattle.script_calls.specs.Rows.{row_at}
-use Rattle.tx_cells.specs.LogAnswers.{put_off_at_log}
 use Rattle.tx_cells.specs.LogEntering.{next_at_log}
-use Rattle.thread_runs.specs.Finishing.{left_among, left_in}
+use Rattle.thread_runs.specs.Finishing.{left_in}
 use Rattle.thread_runs.proofs.Left.{not_put_off, one_less_in, same_left}
 use Rattle.thread_runs.proofs.finishing.entering.enter_at_log.Goals as goal
 

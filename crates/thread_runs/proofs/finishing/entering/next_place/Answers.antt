@@ -1,4 +1,4 @@
-use Rattle.std.proofs.Common.{◌≡◌, ◌⊎◌, ℕ, List, Option, Some, arith, subst}
+use Rattle.std.proofs.Common.{◌≡◌, ◌⊎◌, List, Option, Some, arith, subst}
 use Rattle.std.specs.Prelude.{IfNone, IsSome}
 use Rattle.std.proofs.lemmas.List.{take_all}
 use Rattle.dtx_values.specs.declared.call.Call.{Call}

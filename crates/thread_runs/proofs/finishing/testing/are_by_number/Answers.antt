@@ -1,4 +1,4 @@
-use Rattle.std.proofs.Common.{◌≡◌, ◌==◌, ℕ, List, ◌∷◌, false, not, true, arith, rules, ap, sym, subst, ◌∙◌}
+use Rattle.std.proofs.Common.{◌≡◌, ◌==◌, List, false, not, true, arith, rules, ap, sym, subst, ◌∙◌}
 use Rattle.dtx_values.specs.declared.number.TxNo.{TxNo}
 use Rattle.dtx_model.specs.Grammar.{OfTransaction, is_made}
 use Rattle.tx_cells.specs.Cell.{Cell}

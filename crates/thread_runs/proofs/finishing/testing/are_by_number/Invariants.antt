@@ -1,4 +1,3 @@
-use Rattle.std.proofs.Common.{◌≤◌}
 use Rattle.thread_runs.proofs.ByNumber.{IsRest}
 use Rattle.thread_runs.proofs.finishing.testing.are_by_number.Given as goal
 
