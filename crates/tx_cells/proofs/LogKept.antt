@@ -152,6 +152,7 @@ kept_armed {D} faults honest image s tells before old log rows n a k i st is ord
       unlike = c.unlike;
       held = c.held;
       imaged = c.imaged;
+      logs = c.logs;
     })
 
 -- and so does a restart.
@@ -171,6 +172,7 @@ kept_restarted {D} faults honest image seen s tells before old log rows n a foun
   unlike = λ is. unlike_restarted n a old.log.is_up found old.past (r.never is) (c.unlike is);
   held = λ is up. held found (r.records is) (sym r.up ∙ up) (c.imaged is (seen old.log.disk) (among is));
   imaged = λ is b one. c.imaged is b (within is b one);
+  logs = λ is b one. c.logs is b (within is b one);
 }
   where
     held : (f : Result ℕ LogRefusal) → OnOk f (log_has (seen old.log.disk) ≡ Ok (open_records log.slots)) → is_ok f ≡ true → IfOk (log_has (seen old.log.disk)) (AreOwn s) → AreOwn s (open_records log.slots)

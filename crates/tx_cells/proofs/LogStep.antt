@@ -216,6 +216,7 @@ kept_as faults honest image s tells before x y old to after k counted up uncalle
   unlike = λ is. like ∙ c.unlike is;
   held = held_step faults honest image s x y old.log to k c.held;
   imaged = imaged_step faults honest image s x y old.log to k c.held c.imaged;
+  logs = λ is. (k.keeps is).logs (c.logs is);
 }
 
 pub kept_step : {D : Type 0} (faults : D → ℕ) (honest : Bool) (image : D → List ℕ → Type 0) (s : List Line) (tells : Bool) (before : ℕ) (x y : TxState) (old : LogCell D) (to : LogState D) → StepsOver faults honest image s x y old.log to → (after : List Entry) → after ≡ stop_noted old.log.is_up to.is_up old.past

@@ -4,6 +4,7 @@ ghost use Rattle.outside.specs.Disk.{AreWithin};
 ghost use Rattle.dtx_model.specs.Steps.{pending};
 ghost use Rattle.dtx_model.specs.Words.{kth, past_of};
 ghost use Rattle.coordinator_log.specs.Slots.{open_records};
+ghost use Rattle.script_calls.specs.Rows.{are_entered};
 ghost use Rattle.script_calls.specs.SeenRow.{SeenRow};
 ghost use Rattle.script_calls.specs.declared.calls.LogCall.{LogCall};
 ghost use Rattle.tx_cells.specs.Cell.{IsThreadable};
@@ -15,6 +16,7 @@ ghost use Rattle.tx_cells.specs.Turns.{with_tx};
 ghost use Rattle.tx_cells.specs.declared.turns.Turned.{Turned};
 ghost use Rattle.tx_world.specs.AtLog.{AtMostOne};
 ghost use Rattle.tx_world.specs.Stepping.{DoesKth};
+ghost use Rattle.world_laws.specs.Left.{steps_left};
 
 use crate::cell::CellState;
 use crate::error::TurnError;
@@ -23,7 +25,7 @@ use crate::turns::Turned;
 use coordinator_log::{Log, LogRefusal};
 use dtx_values::{ActorNo, Answer, Entry, Image, LogNote, Script};
 use outside::Disk;
-use script_calls::{LogCall, Rows, log_rows};
+use script_calls::{Due, LogCall, Rows, log_rows};
 use std::alloc::{AllocError, Global};
 use std::marker::{Model, PhantomData};
 use std::sync::Mutex;
@@ -89,9 +91,31 @@ impl<D: Disk, N: Run> LogState<D, N> {
         self.entries.as_slice()
     }
 
+    /// The actor's next call at the log; `None` where none is left.
+    pub fn next(&self, a: ActorNo) -> Option<Due<LogCall>>
+        ensures { result ≡ next_at_log a self.now }
+    {
+        self.rows.next(a)
+    }
+
+    /// Whether each call at the log was entered.
+    pub fn are_entered(&self) -> bool
+        ensures { result ≡ are_entered self.now.rows }
+    {
+        self.rows.are_all_entered()
+    }
+
+    /// Whether the log is up.
+    pub fn is_up(&self) -> bool
+        ensures { result ≡ self.now.log.is_up }
+    {
+        self.log.is_up()
+    }
+
     /// The log.
-    pub(crate) fn log(&self) -> &Log<D>
+    pub fn log(&self) -> &Log<D>
         ensures same { result.now ≡ self.now.log }
+        ensures honest { D.honest ≡ N.honest }
         ensures once { (id : ℕ) → IsTrue D.honest → IsTrue self.now.log.is_up → AtMostOne id (open_records self.now.log.slots) }
     {
         &self.log
@@ -130,9 +154,13 @@ impl<D: Disk, N: Run> LogState<D, N> {
         ensures tied { IfOk result (λ b. TiesWith cell.old.tx self.old.log) }
         ensures none { result ≡ Ok false → (kth (pending cell.old.tx.world) k ≡ None) × (cell.new ≡ cell.old) × (self.new ≡ self.old) }
         ensures some { result ≡ Ok true → DoesKth D.faults k cell.old.tx self.old.log cell.new.tx self.new.log }
+        ensures nearer { result ≡ Ok true → steps_left cell.new.tx.world < steps_left cell.old.tx.world }
         ensures same { cell.new ≡ with_tx cell.new.tx cell.old }
         ensures rows { self.new.rows ≡ self.old.rows }
         ensures past { self.new.past ≡ stop_noted self.old.log.is_up self.new.log.is_up self.old.past }
+        ensures life { self.new.log.life ≡ self.old.log.life }
+        ensures grows { D.faults self.old.log.disk ≤ D.faults self.new.log.disk }
+        ensures still { IsTrue self.new.log.is_up → IsTrue self.old.log.is_up }
         ensures cause { IfErr result (λ e. ((e ≡ TurnError.Memory) ⊎ IsCause cell.old.tx self.old.log e) × (cell.new ≡ cell.old) × (self.new ≡ self.old)) }
     {
         cell.is_named();
@@ -144,6 +172,20 @@ impl<D: Disk, N: Run> LogState<D, N> {
         let is_up = self.log.is_up();
         write_stop(&mut self.entries, was_up, is_up);
         Ok(true)
+    }
+
+    /// The log, and the entries at it, oldest first.
+    pub fn into_parts(self) -> (Log<D>, Vec<Entry>)
+        ensures log { result.0 ≡ self.log }
+        ensures past { past_of result.1.items ≡ self.past }
+    {
+        let LogState {
+            log,
+            rows: _,
+            entries,
+            of: _,
+        } = self;
+        (log, entries)
     }
 
     /// Enters the actor's next call, which arms a stop.
@@ -219,18 +261,17 @@ impl<D: Disk, N: Run> SharedLog<D, N> {
         &self.lock
     }
 
+    /// What the lock has.
+    pub fn into_state(self) -> LogState<D, N> {
+        let SharedLog { lock } = self;
+        lock.into_inner()
+    }
+
     /// The log, and the entries at it, oldest first. They are what the type of its state keeps.
     pub fn into_parts(self) -> (Log<D>, Vec<Entry>)
         ensures { (rows : List (SeenRow LogCall)) × IsLogKept D.faults D.honest D.image N.script N.honest N.faults (record { log = result.0; rows = rows; past = past_of result.1.items }) }
     {
-        let SharedLog { lock } = self;
-        let LogState {
-            log,
-            rows: _,
-            entries,
-            of: _,
-        } = lock.into_inner();
-        (log, entries)
+        self.into_state().into_parts()
     }
 }
 

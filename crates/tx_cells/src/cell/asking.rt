@@ -1,6 +1,7 @@
 //! What is to be done next, and replies that are out.
-ghost use Rattle.std.specs.Prelude.{◌≡◌, ◌++◌, ◌∷◌, [], Ok, IfErr, IfOk, IfSome, OnOk, is_some, true, false};
+ghost use Rattle.std.specs.Prelude.{◌≡◌, ◌<◌, ◌&&◌, ◌++◌, ◌∷◌, [], Ok, IfErr, IfOk, IfSome, OnOk, is_some, length, true, false};
 ghost use Rattle.dtx_values.specs.declared.note.Note.{Note};
+ghost use Rattle.dtx_model.specs.Outcome.{is_empty};
 ghost use Rattle.dtx_model.specs.Steps.{Replies, pending};
 ghost use Rattle.dtx_model.specs.Words.{kth};
 ghost use Rattle.tx_cells.specs.Cell.{MayReply};
@@ -8,6 +9,7 @@ ghost use Rattle.tx_cells.specs.Ties.{IsCause, TiesWith};
 ghost use Rattle.tx_cells.specs.Turns.{is_due, is_out, is_that, is_to, same_note, taken_off, turn_of, unmarked, with_tx};
 ghost use Rattle.tx_world.specs.OwnCalls.{DoesAlone};
 ghost use Rattle.tx_world.specs.Stepping.{Does, is_to_promote, reply_in};
+ghost use Rattle.world_laws.specs.Left.{steps_left};
 
 use super::CellState;
 use crate::error::TurnError;
@@ -78,6 +80,27 @@ fn is_due(world: &TxWorld, x: (EnlNo, Note)) -> bool
 }
 
 impl<N: Run> CellState<N> {
+    /// How many steps are pending.
+    pub fn pending(&self) -> u32
+        ensures { result ≡ length (pending self.now.tx.world) }
+    {
+        self.world.pending()
+    }
+
+    /// The enlistment and the note of the k-th pending step, from 1, where that step is a reply.
+    pub fn due_at(&self, k: u32) -> Option<(EnlNo, Note)>
+        ensures { result ≡ reply_in self.now.tx.world (kth (pending self.now.tx.world) k) }
+    {
+        self.world.due_at(k)
+    }
+
+    /// Whether nothing is pending and no reply is out.
+    pub fn is_quiet(&self) -> bool
+        ensures { result ≡ (is_empty (pending self.now.tx.world) && is_empty self.now.out) }
+    {
+        self.world.pending() == 0 && self.out.is_empty()
+    }
+
     /// What is to be done next: the first pending step that isn't a reply that is out.
     pub fn next_turn(&self) -> Turn
         ensures { result ≡ turn_of self.now }
@@ -129,6 +152,7 @@ impl<N: Run> CellState<N> {
         requires alone { same_note n Note.Promote ≡ false }
         ensures due { IfOk result (λ b. b ≡ is_due self.old.tx.world (e, n)) }
         ensures done { result ≡ Ok true → DoesAlone (Replies e r) self.old.tx self.new.tx }
+        ensures nearer { result ≡ Ok true → steps_left self.new.tx.world < steps_left self.old.tx.world }
         ensures unmarked { self.new ≡ with_tx self.new.tx (unmarked (e, n) self.old) }
         ensures late { result ≡ Ok false → self.new.tx ≡ self.old.tx }
         ensures ours { (self.new.tx.ours ≡ self.old.tx.ours) × (self.new.tx.unsure ≡ self.old.tx.unsure) }
@@ -159,6 +183,7 @@ impl<N: Run> CellState<N> {
         ensures tied { IfOk result (λ b. TiesWith self.old.tx log.now) }
         ensures due { IfOk result (λ b. b ≡ is_due self.old.tx.world (e, n)) }
         ensures done { result ≡ Ok true → Does D.faults (Replies e r) self.old.tx log.now self.new.tx log.now }
+        ensures nearer { result ≡ Ok true → steps_left self.new.tx.world < steps_left self.old.tx.world }
         ensures unmarked { self.new ≡ with_tx self.new.tx (unmarked (e, n) self.old) }
         ensures late { result ≡ Ok false → self.new.tx ≡ self.old.tx }
         ensures ours { (self.new.tx.ours ≡ self.old.tx.ours) × (self.new.tx.unsure ≡ self.old.tx.unsure) }
