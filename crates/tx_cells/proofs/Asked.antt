@@ -21,7 +21,7 @@ use Rattle.dtx_model.specs.Steps.{StepName, ReplyOf, CoordinatorAct, core_act, d
 use Rattle.dtx_model.proofs.Bools.{and_both, and_left, and_right}
 use Rattle.outcome_law.proofs.Scans.{each-append}
 use Rattle.tx_world.specs.Stepping.{reply_in}
-use Rattle.tx_cells.specs.Turns.{is_due, is_that, same_note}
+use Rattle.turn_parts.specs.Marks.{is_due, is_that, same_note}
 
 abbrev asked : (ℕ → Plan) → Option (EnlNo × Note) → Bool
 asked p (Some x) = is_answered p x

@@ -1,5 +1,5 @@
 -- A reply that is pending leaves fewer steps that can come, whether it is the planned one or not.
-use Rattle.std.proofs.Common.{◌≡◌, ◌<◌, ◌==◌, ◌||◌, ℕ, zero, suc, Bool, true, false, List, [], ◌∷◌, Option, Some, None, refl, ap, sym, subst, ◌∙◌}
+use Rattle.std.proofs.Common.{◌≡◌, ◌<◌, ◌==◌, ◌||◌, ℕ, zero, suc, Bool, true, false, List, [], ◌∷◌, Option, Some, None, refl, ap, sym, subst}
 use Rattle.std.proofs.lemmas.Bool.{eqb-true}
 use Rattle.dtx_values.specs.declared.note.Note.{Note}
 use Rattle.dtx_values.specs.declared.note.Reply.{Reply}
@@ -7,19 +7,16 @@ use Rattle.dtx_values.specs.declared.number.EnlNo.{EnlNo}
 use Rattle.dtx_model.specs.Words.{has, kth}
 use Rattle.dtx_model.specs.Replies.{due_of, fits, with_note}
 use Rattle.dtx_model.specs.World.{World, half}
-use Rattle.dtx_model.specs.Steps.{Step, Replies, StepName, ReplyOf, pending}
+use Rattle.dtx_model.specs.Steps.{Replies, StepName, ReplyOf, pending}
 use Rattle.dtx_model.specs.Caused.{IsIn, IsOwnRun}
 use Rattle.dtx_model.proofs.Bools.{and_left}
 use Rattle.dtx_model.proofs.SameNumbers.{same_enlistment}
 use Rattle.world_laws.specs.Left.{steps_left}
-use Rattle.tx_world.specs.OwnCalls.{DoesAlone}
 use Rattle.tx_world.specs.State.{TxState, turned}
 use Rattle.tx_world.specs.Stepping.{reply_in}
 use Rattle.tx_world.proofs.LeftSteps.{step_nearer}
-use Rattle.tx_cells.specs.Cell.{MayReply}
-use Rattle.tx_cells.specs.Turns.{is_due, is_that, same_note}
 use Rattle.tx_cells.proofs.Asked.{owed}
-use Rattle.tx_cells.proofs.Kept.{turned_silent}
+use Rattle.turn_parts.specs.Marks.{is_due, is_that, same_note}
 
 -- The place of a pending reply, where it is.
 record IsPlaced (e : EnlNo) (ms : List StepName) : Type 0 where

@@ -1,7 +1,7 @@
 use Rattle.std.proofs.Common.{ap, arith, sym, ◌∙◌}
-use Rattle.tx_cells.specs.Turns.{is_that}
-use Rattle.tx_cells.proofs.Turning.{due_found, due_on}
-use Rattle.tx_cells.proofs.cell.asking.place_of.Goals as goal
+use Rattle.turn_parts.specs.Marks.{is_that}
+use Rattle.turn_parts.proofs.Placing.{due_found, due_on}
+use Rattle.turn_parts.proofs.marks.place_of.Goals as goal
 
 pub returns-then-is_that-clause-due : goal.returns-then-is_that-clause-due
 returns-then-is_that-clause-due c =
