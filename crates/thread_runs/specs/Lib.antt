@@ -1,3 +1,4 @@
 pub mod Contexts
 pub mod Finished
 pub mod Run
+pub mod Threads

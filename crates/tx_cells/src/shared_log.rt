@@ -32,6 +32,8 @@ use std::marker::{Model, PhantomData};
 use std::sync::Mutex;
 use turn_parts::{reopened, restart_answer, write_restart, write_stop};
 
+mod kept;
+
 /// What lies under the log's lock: the log, the calls of each actor there, and the entries at the log.
 #[derive(Drop)]
 pub struct LogState<D: Disk, N: Run> {

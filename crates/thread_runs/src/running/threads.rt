@@ -1,0 +1,150 @@
+//! The calls before the threads of a run, and the threads.
+ghost use Rattle.std.specs.Prelude.{◌≡◌, ◌≤◌, IfOk, IsSome, length, vec_len};
+ghost use Rattle.std.specs.List.{All};
+ghost use Rattle.dtx_values.specs.declared.number.ActorNo.{ActorNo};
+ghost use Rattle.tx_cells.specs.Board.{board_of};
+ghost use Rattle.thread_runs.specs.Threads.{come_to, found_differing, lacked_memory};
+
+use crate::contexts::ToDo;
+use crate::running::turns::{act, call, help, transactions};
+use crate::stop::RunStop;
+use dtx_values::{ActorNo, Body, Line, Resource};
+use outside::{Disk, Gate};
+use std::alloc::{AllocError, Global};
+use std::sync::atomic::{AtomicU64, Ordering};
+use std::sync::{Mutex, Wait};
+use std::thread;
+use std::thread::Threads;
+use tx_threads::{Cells, Run, SharedLog, TurnError};
+
+/// The calls of the lines before the `par` line, and the others. Without a `par` line none stands before.
+fn split_at_par<'a>(s: &[Line], to_do: &'a [ToDo]) -> (&'a [ToDo], &'a [ToDo]) {
+    let Some(before) = s.iter().position(|l| l.body == Body::Par) else {
+        return to_do.split_at(0);
+    };
+    for i in 0..to_do.len() {
+        if to_do[i].line as usize > before {
+            return to_do.split_at(i);
+        }
+    }
+    to_do.split_at(to_do.len())
+}
+
+/// Whether a call is this actor's.
+fn has_calls(to_do: &[ToDo], a: ActorNo) -> bool {
+    to_do.iter().any(|due| due.actor == a)
+}
+
+/// The actors that have calls, by number.
+fn actors_in(alloc: Global, to_do: &[ToDo]) -> Result<Vec<ActorNo>, AllocError>
+    ensures { IfOk result (λ v. vec_len v ≤ ActorNo.MAX) }
+{
+    let mut actors = Vec::with_capacity(alloc, ActorNo::MAX as usize)?;
+    for n in 1..ActorNo::MAX + 1 {
+        let a = ActorNo::new(n).unwrap();
+        if has_calls(to_do, a) {
+            actors.push_reserved(a);
+        }
+    }
+    Ok(actors)
+}
+
+/// Whether a thread found two kept values that differ.
+fn found_differing(end: &Result<(), TurnError>) -> bool
+    ensures { result ≡ found_differing end.now }
+{
+    matches!(end, Err(TurnError::Differs(_)))
+}
+
+/// Whether memory ran out for a thread.
+fn lacked_memory(end: &Result<(), TurnError>) -> bool
+    ensures { result ≡ lacked_memory end.now }
+{
+    matches!(end, Err(TurnError::Memory))
+}
+
+/// What the threads came to.
+fn come_to(ends: &[Result<(), TurnError>]) -> Result<(), RunStop>
+    ensures { result ≡ come_to ends.now }
+{
+    if ends.iter().any(|end| found_differing(end)) {
+        return Err(RunStop::Differs);
+    }
+    if ends.iter().any(|end| lacked_memory(end)) {
+        return Err(RunStop::Memory);
+    }
+    Ok(())
+}
+
+/// Makes the calls of each actor on a thread of its own, with so many helpers beside them, and waits for all.
+fn on_threads<N: Run + Send + Sync, D: Disk + Send, G: Gate + Sync, R: Threads + Wait + Sync>(
+    rt: &R,
+    alloc: Global,
+    s: &[Line],
+    helpers: u8,
+    to_do: &[ToDo],
+    cells: &Cells<N>,
+    log: &SharedLog<D, N>,
+    gate: &G,
+    resources: &[Mutex<Box<dyn Resource + Send>>],
+) -> Result<(), RunStop>
+    requires named { s.now ≡ N.script }
+    requires resources { length resources.now ≡ N.objects }
+{
+    let transactions = transactions(alloc, cells)?;
+    let helped = transactions.as_slice();
+    let actors = actors_in(alloc, to_do)?;
+    let acting = actors.as_slice();
+    let ended = AtomicU64::new(0);
+    let ends = &ended;
+    let all = acting.len() + usize::from(helpers);
+    // An actor that has no thread has its calls made here, before those of later numbers: so no helper is waited for.
+    let done = thread::map_indices(
+        rt,
+        alloc,
+        all,
+        &|j: usize| -> Result<(), TurnError>
+            requires { (s.now ≡ N.script) × (length resources.now ≡ N.objects) × All (λ t. IsSome (board_of cells.now t.value)) helped.now }
+        {
+            if j < acting.len() {
+                let end = act(rt, alloc, s, to_do, cells, log, gate, resources, acting[j]);
+                ends.fetch_add(1, Ordering::SeqCst);
+                end
+            } else {
+                help(rt, alloc, helped, cells, log, gate, resources, ends, acting.len() as u64)
+            }
+        },
+    )?;
+    come_to(&done)
+}
+
+/// Makes the calls of the lines before the `par` line in order, alone, and then those of each actor on a thread of its own, with so many helpers beside them.
+///
+/// # Errors
+///
+/// [`RunStop::Differs`] where a call answered so, and else [`RunStop::Memory`] where memory ran out.
+pub(super) fn call_all<
+    N: Run + Send + Sync,
+    D: Disk + Send,
+    G: Gate + Sync,
+    R: Threads + Wait + Sync,
+>(
+    rt: &R,
+    alloc: Global,
+    s: &[Line],
+    helpers: u8,
+    to_do: &[ToDo],
+    cells: &Cells<N>,
+    log: &SharedLog<D, N>,
+    gate: &G,
+    resources: &[Mutex<Box<dyn Resource + Send>>],
+) -> Result<(), RunStop>
+    requires named { s.now ≡ N.script }
+    requires resources { length resources.now ≡ N.objects }
+{
+    let (alone, apart) = split_at_par(s, to_do);
+    for due in alone {
+        call(rt, alloc, s, cells, log, gate, resources, *due)?;
+    }
+    on_threads(rt, alloc, s, helpers, apart, cells, log, gate, resources)
+}
