@@ -44,9 +44,9 @@ fn locked(
 ) -> Result<Vec<Mutex<Box<dyn Resource + Send>>>, AllocError>
     ensures { IfOk result (λ v. vec_len v ≡ vec_len resources) }
 {
-    let mut shared = Vec::with_capacity(alloc, resources.len())?;
+    let mut shared = Vec::new(alloc);
     for r in resources {
-        shared.push_reserved(Mutex::new(r));
+        shared.push(Mutex::new(r))?;
     }
     Ok(shared)
 }
@@ -58,9 +58,9 @@ fn unlocked(
 ) -> Result<Vec<Box<dyn Resource + Send>>, AllocError>
     ensures { IfOk result (λ v. vec_len v ≡ vec_len shared) }
 {
-    let mut resources = Vec::with_capacity(alloc, shared.len())?;
+    let mut resources = Vec::new(alloc);
     for lock in shared {
-        resources.push_reserved(lock.into_inner());
+        resources.push(lock.into_inner())?;
     }
     Ok(resources)
 }

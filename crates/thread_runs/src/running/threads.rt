@@ -2,6 +2,7 @@
 ghost use Rattle.std.specs.Prelude.{◌≡◌, ◌≤◌, IfOk, IsSome, length, vec_len};
 ghost use Rattle.std.specs.List.{All};
 ghost use Rattle.dtx_values.specs.declared.number.ActorNo.{ActorNo};
+ghost use Rattle.dtx_model.specs.Words.{has};
 ghost use Rattle.tx_cells.specs.Board.{board_of};
 ghost use Rattle.thread_runs.specs.Threads.{come_to, found_differing, lacked_memory};
 
@@ -50,27 +51,28 @@ fn actors_in(alloc: Global, to_do: &[ToDo]) -> Result<Vec<ActorNo>, AllocError>
 }
 
 /// Whether a thread found two kept values that differ.
-fn found_differing(end: &Result<(), TurnError>) -> bool
-    ensures { result ≡ found_differing end.now }
+fn any_differs(ends: &[Result<(), TurnError>]) -> bool
+    ensures { result ≡ has found_differing ends.now }
 {
-    matches!(end, Err(TurnError::Differs(_)))
+    ends.iter()
+        .any(|end| matches!(end, Err(TurnError::Differs(_))))
 }
 
 /// Whether memory ran out for a thread.
-fn lacked_memory(end: &Result<(), TurnError>) -> bool
-    ensures { result ≡ lacked_memory end.now }
+fn any_lacks(ends: &[Result<(), TurnError>]) -> bool
+    ensures { result ≡ has lacked_memory ends.now }
 {
-    matches!(end, Err(TurnError::Memory))
+    ends.iter().any(|end| matches!(end, Err(TurnError::Memory)))
 }
 
 /// What the threads came to.
 fn come_to(ends: &[Result<(), TurnError>]) -> Result<(), RunStop>
     ensures { result ≡ come_to ends.now }
 {
-    if ends.iter().any(|end| found_differing(end)) {
+    if any_differs(ends) {
         return Err(RunStop::Differs);
     }
-    if ends.iter().any(|end| lacked_memory(end)) {
+    if any_lacks(ends) {
         return Err(RunStop::Memory);
     }
     Ok(())

@@ -1,4 +1,4 @@
-use Rattle.std.proofs.Common.{◌≡◌, ◌≤◌, vec_capacity, vec_len, length}
+use Rattle.std.proofs.Common.{◌≡◌, vec_len, length}
 use Rattle.thread_runs.proofs.running.locked.Given as goal
 
 abbrev pub invariant-loop-r : goal.invariant-loop-r
