@@ -28,6 +28,7 @@ mod threads;
 mod turns;
 
 use threads::call_all;
+use turns::Shared;
 
 /// What the threads of a run leave, but the log: what stands at each actor's context, the transactions by number, and the objects.
 #[derive(Drop)]
@@ -84,22 +85,19 @@ fn threads_over<N: Run + Send + Sync, D: Disk + Send, G: Gate + Sync, R: Threads
     let plans = Plans::new(alloc, s.lines())?;
     let outline = outline_of(alloc, &plans)?;
     let cells = Cells::new(alloc, s)?;
-    let shared = locked(alloc, resources)?;
-    call_all(
-        rt,
-        alloc,
-        s.lines(),
-        helpers,
-        &outline.to_do,
-        &cells,
+    let locks = locked(alloc, resources)?;
+    let shared = Shared {
+        lines: s.lines(),
+        cells: &cells,
         log,
         gate,
-        &shared,
-    )?;
+        resources: locks.as_slice(),
+    };
+    call_all(rt, alloc, &shared, helpers, &outline.to_do)?;
     Ok(Left {
         contexts: outline.contexts,
         states: cells.into_states(alloc)?,
-        resources: unlocked(alloc, shared)?,
+        resources: unlocked(alloc, locks)?,
     })
 }
 

@@ -7,16 +7,16 @@ ghost use Rattle.tx_cells.specs.Board.{board_of};
 ghost use Rattle.thread_runs.specs.Threads.{come_to, found_differing, lacked_memory};
 
 use crate::contexts::ToDo;
-use crate::running::turns::{act, call, help, transactions};
+use crate::running::turns::{Shared, act, call, help, transactions};
 use crate::stop::RunStop;
-use dtx_values::{ActorNo, Body, Line, Resource};
+use dtx_values::{ActorNo, Body, Line};
 use outside::{Disk, Gate};
 use std::alloc::{AllocError, Global};
 use std::sync::atomic::{AtomicU64, Ordering};
-use std::sync::{Mutex, Wait};
+use std::sync::Wait;
 use std::thread;
 use std::thread::Threads;
-use tx_threads::{Cells, Run, SharedLog, TurnError};
+use tx_threads::{Run, TurnError};
 
 /// The calls of the lines before the `par` line, and the others. Without a `par` line none stands before.
 fn split_at_par<'a>(s: &[Line], to_do: &'a [ToDo]) -> (&'a [ToDo], &'a [ToDo]) {
@@ -82,18 +82,14 @@ fn come_to(ends: &[Result<(), TurnError>]) -> Result<(), RunStop>
 fn on_threads<N: Run + Send + Sync, D: Disk + Send, G: Gate + Sync, R: Threads + Wait + Sync>(
     rt: &R,
     alloc: Global,
-    s: &[Line],
+    x: &Shared<D, G, N>,
     helpers: u8,
     to_do: &[ToDo],
-    cells: &Cells<N>,
-    log: &SharedLog<D, N>,
-    gate: &G,
-    resources: &[Mutex<Box<dyn Resource + Send>>],
 ) -> Result<(), RunStop>
-    requires named { s.now ≡ N.script }
-    requires resources { length resources.now ≡ N.objects }
+    requires named { x.now.lines.now ≡ N.script }
+    requires objects { length x.now.resources.now ≡ N.objects }
 {
-    let transactions = transactions(alloc, cells)?;
+    let transactions = transactions(alloc, x.cells)?;
     let helped = transactions.as_slice();
     let actors = actors_in(alloc, to_do)?;
     let acting = actors.as_slice();
@@ -106,14 +102,14 @@ fn on_threads<N: Run + Send + Sync, D: Disk + Send, G: Gate + Sync, R: Threads +
         alloc,
         all,
         &|j: usize| -> Result<(), TurnError>
-            requires { (s.now ≡ N.script) × (length resources.now ≡ N.objects) × All (λ t. IsSome (board_of cells.now t.value)) helped.now }
+            requires { (x.now.lines.now ≡ N.script) × (length x.now.resources.now ≡ N.objects) × All (λ t. IsSome (board_of x.now.cells.now t.value)) helped.now }
         {
             if j < acting.len() {
-                let end = act(rt, alloc, s, to_do, cells, log, gate, resources, acting[j]);
+                let end = act(rt, alloc, x, to_do, acting[j]);
                 ends.fetch_add(1, Ordering::SeqCst);
                 end
             } else {
-                help(rt, alloc, helped, cells, log, gate, resources, ends, acting.len() as u64)
+                help(rt, alloc, x, helped, ends, acting.len() as u64)
             }
         },
     )?;
@@ -133,20 +129,16 @@ pub(super) fn call_all<
 >(
     rt: &R,
     alloc: Global,
-    s: &[Line],
+    x: &Shared<D, G, N>,
     helpers: u8,
     to_do: &[ToDo],
-    cells: &Cells<N>,
-    log: &SharedLog<D, N>,
-    gate: &G,
-    resources: &[Mutex<Box<dyn Resource + Send>>],
 ) -> Result<(), RunStop>
-    requires named { s.now ≡ N.script }
-    requires resources { length resources.now ≡ N.objects }
+    requires named { x.now.lines.now ≡ N.script }
+    requires objects { length x.now.resources.now ≡ N.objects }
 {
-    let (alone, apart) = split_at_par(s, to_do);
+    let (alone, apart) = split_at_par(x.lines, to_do);
     for due in alone {
-        call(rt, alloc, s, cells, log, gate, resources, *due)?;
+        call(rt, alloc, x, *due)?;
     }
-    on_threads(rt, alloc, s, helpers, apart, cells, log, gate, resources)
+    on_threads(rt, alloc, x, helpers, apart)
 }

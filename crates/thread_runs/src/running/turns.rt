@@ -13,6 +13,16 @@ use std::sync::{Mutex, Wait};
 use std::thread;
 use tx_threads::{Cells, Run, SharedLog, TurnError, await_as, call_as, call_at_log, help_one};
 
+/// What the threads of a run share.
+#[derive(Drop)]
+pub(super) struct Shared<'a, D: Disk, G: Gate, N: Run> {
+    pub(super) lines: &'a [Line],
+    pub(super) cells: &'a Cells<N>,
+    pub(super) log: &'a SharedLog<D, N>,
+    pub(super) gate: &'a G,
+    pub(super) resources: &'a [Mutex<Box<dyn Resource + Send>>],
+}
+
 /// How often a helper looks for something to do, at most.
 const TURNS: u32 = 1_000_000;
 
@@ -37,36 +47,32 @@ fn is_await(s: &[Line], n: u32) -> bool
 pub(super) fn call<D: Disk, G: Gate, N: Run, R: Wait>(
     rt: &R,
     alloc: Global,
-    s: &[Line],
-    cells: &Cells<N>,
-    log: &SharedLog<D, N>,
-    gate: &G,
-    resources: &[Mutex<Box<dyn Resource + Send>>],
+    x: &Shared<D, G, N>,
     due: ToDo,
 ) -> Result<(), TurnError>
-    requires named { s.now ≡ N.script }
-    requires resources { length resources.now ≡ N.objects }
+    requires named { x.now.lines.now ≡ N.script }
+    requires objects { length x.now.resources.now ≡ N.objects }
 {
     let (a, line) = (due.actor, due.line);
     match due.what {
         What::AtLog => {
-            call_at_log(rt, alloc, cells, log, a, line)?;
+            call_at_log(rt, alloc, x.cells, x.log, a, line)?;
         }
         What::Call(t) => {
-            if cells.has(t) {
-                call_as(rt, alloc, cells, log, gate, resources, a, line, t)?;
+            if x.cells.has(t) {
+                call_as(rt, alloc, x.cells, x.log, x.gate, x.resources, a, line, t)?;
             }
         }
         What::Await(t) => {
-            if !cells.has(t) {
+            if !x.cells.has(t) {
                 return Ok(());
             }
-            if !is_await(s, line) {
+            if !is_await(x.lines, line) {
                 return Ok(());
             }
-            let mut note = cells.note_of(t);
+            let mut note = x.cells.note_of(t);
             await_as(
-                rt, alloc, cells, log, gate, resources, &mut note, a, line, t,
+                rt, alloc, x.cells, x.log, x.gate, x.resources, &mut note, a, line, t,
             )?;
         }
     }
@@ -81,20 +87,16 @@ pub(super) fn call<D: Disk, G: Gate, N: Run, R: Wait>(
 pub(super) fn act<D: Disk, G: Gate, N: Run, R: Wait>(
     rt: &R,
     alloc: Global,
-    s: &[Line],
+    x: &Shared<D, G, N>,
     to_do: &[ToDo],
-    cells: &Cells<N>,
-    log: &SharedLog<D, N>,
-    gate: &G,
-    resources: &[Mutex<Box<dyn Resource + Send>>],
     a: ActorNo,
 ) -> Result<(), TurnError>
-    requires named { s.now ≡ N.script }
-    requires resources { length resources.now ≡ N.objects }
+    requires named { x.now.lines.now ≡ N.script }
+    requires objects { length x.now.resources.now ≡ N.objects }
 {
     for due in to_do {
         if due.actor == a {
-            call(rt, alloc, s, cells, log, gate, resources, *due)?;
+            call(rt, alloc, x, *due)?;
         }
     }
     Ok(())
@@ -129,16 +131,13 @@ pub(super) fn transactions<N: Run>(
 pub(super) fn help<D: Disk, G: Gate, N: Run, R: Wait>(
     rt: &R,
     alloc: Global,
+    x: &Shared<D, G, N>,
     transactions: &[TxNo],
-    cells: &Cells<N>,
-    log: &SharedLog<D, N>,
-    gate: &G,
-    resources: &[Mutex<Box<dyn Resource + Send>>],
     ended: &AtomicU64,
     actors: u64,
 ) -> Result<(), TurnError>
-    requires transactions { All (λ t. IsSome (board_of cells.now t.value)) transactions.now }
-    requires resources { length resources.now ≡ N.objects }
+    requires transactions { All (λ t. IsSome (board_of x.now.cells.now t.value)) transactions.now }
+    requires objects { length x.now.resources.now ≡ N.objects }
 {
     let count = transactions.len();
     if count == 0 {
@@ -150,7 +149,8 @@ pub(super) fn help<D: Disk, G: Gate, N: Run, R: Wait>(
             break;
         }
         let place = turn as usize % count;
-        if help_one(rt, alloc, cells, log, gate, resources, transactions[place])? {
+        let t = transactions[place];
+        if help_one(rt, alloc, x.cells, x.log, x.gate, x.resources, t)? {
             did = true;
         }
         if place + 1 == count {
