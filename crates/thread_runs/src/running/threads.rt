@@ -9,7 +9,7 @@ ghost use Rattle.thread_runs.specs.Threads.{come_to, found_differing, lacked_mem
 use crate::contexts::ToDo;
 use crate::running::turns::{Shared, act, call, help, transactions};
 use crate::stop::RunStop;
-use dtx_values::{ActorNo, Body, Line};
+use dtx_values::{ActorNo, Body, Line, TxNo};
 use outside::{Disk, Gate};
 use std::alloc::{AllocError, Global};
 use std::sync::atomic::{AtomicU64, Ordering};
@@ -78,6 +78,36 @@ fn come_to(ends: &[Result<(), TurnError>]) -> Result<(), RunStop>
     Ok(())
 }
 
+/// Makes the calls of each of these actors on a thread of its own, the first threads, and helps on the others, in these transactions; what each came to.
+///
+/// An actor that can't have a thread has its calls made by the caller, before those of the actors behind it and before the helpers: so nobody is waited for who comes later.
+fn ends_of<N: Run + Send + Sync, D: Disk + Send, G: Gate + Sync, R: Threads + Wait + Sync>(
+    rt: &R,
+    alloc: Global,
+    x: &Shared<D, G, N>,
+    to_do: &[ToDo],
+    actors: &[ActorNo],
+    transactions: &[TxNo],
+    ended: &AtomicU64,
+    threads: usize,
+) -> Result<Vec<Result<(), TurnError>>, AllocError>
+    requires named { x.now.lines.now ≡ N.script }
+    requires objects { length x.now.resources.now ≡ N.objects }
+    requires transactions { All (λ t. IsSome (board_of x.now.cells.now t.value)) transactions.now }
+{
+    thread::map_indices(rt, alloc, threads, &|j: usize| -> Result<(), TurnError>
+        requires { (x.now.lines.now ≡ N.script) × (length x.now.resources.now ≡ N.objects) × All (λ t. IsSome (board_of x.now.cells.now t.value)) transactions.now }
+    {
+        if j < actors.len() {
+            let end = act(rt, alloc, x, to_do, actors[j]);
+            ended.fetch_add(1, Ordering::SeqCst);
+            end
+        } else {
+            help(rt, alloc, x, transactions, ended, actors.len() as u64)
+        }
+    })
+}
+
 /// Makes the calls of each actor on a thread of its own, with so many helpers beside them, and waits for all.
 fn on_threads<N: Run + Send + Sync, D: Disk + Send, G: Gate + Sync, R: Threads + Wait + Sync>(
     rt: &R,
@@ -90,30 +120,11 @@ fn on_threads<N: Run + Send + Sync, D: Disk + Send, G: Gate + Sync, R: Threads +
     requires objects { length x.now.resources.now ≡ N.objects }
 {
     let transactions = transactions(alloc, x.cells)?;
-    let helped = transactions.as_slice();
     let actors = actors_in(alloc, to_do)?;
-    let acting = actors.as_slice();
     let ended = AtomicU64::new(0);
-    let ends = &ended;
-    let all = acting.len() + usize::from(helpers);
-    // An actor that has no thread has its calls made here, before those of later numbers: so no helper is waited for.
-    let done = thread::map_indices(
-        rt,
-        alloc,
-        all,
-        &|j: usize| -> Result<(), TurnError>
-            requires { (x.now.lines.now ≡ N.script) × (length x.now.resources.now ≡ N.objects) × All (λ t. IsSome (board_of x.now.cells.now t.value)) helped.now }
-        {
-            if j < acting.len() {
-                let end = act(rt, alloc, x, to_do, acting[j]);
-                ends.fetch_add(1, Ordering::SeqCst);
-                end
-            } else {
-                help(rt, alloc, x, helped, ends, acting.len() as u64)
-            }
-        },
-    )?;
-    come_to(&done)
+    let threads = actors.len() + usize::from(helpers);
+    let ends = ends_of(rt, alloc, x, to_do, &actors, &transactions, &ended, threads)?;
+    come_to(&ends)
 }
 
 /// Makes the calls of the lines before the `par` line in order, alone, and then those of each actor on a thread of its own, with so many helpers beside them.
