@@ -8,3 +8,4 @@ pub mod Placing
 pub mod Settling
 pub mod Standing
 pub mod Writing
+pub mod AtContexts

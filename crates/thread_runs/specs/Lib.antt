@@ -3,3 +3,4 @@ pub mod Finished
 pub mod Finishing
 pub mod Gathering
 pub mod Run
+pub mod Threads
