@@ -50,8 +50,8 @@ use std::marker::Model;
 use tx_world::{TxWorld, WorldError};
 use world_laws::{rights, untried};
 
-/// A replay under way: its script's names, its transactions and its actors' contexts by number, and its trace. Contracts see the script,
-/// the transactions, the contexts and the trace.
+/// A replay under way: its script's names, the objects of the first managers, its transactions and its actors' contexts by number, and its trace. Contracts see the script,
+/// how many objects there are, the transactions, the contexts and the trace.
 #[derive(Drop)]
 pub struct Run<'a> {
     alloc: Global,
