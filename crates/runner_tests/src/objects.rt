@@ -37,16 +37,16 @@ impl Resource for Recorder {
         let before = self.heard.load(Ordering::SeqCst);
         let after = before.wrapping_mul(10).wrapping_add(digit);
         self.heard.store(after, Ordering::SeqCst);
-        if n == Note::Prepare { self.answer } else { None }
+        if n == Note::Prepare {
+            self.answer
+        } else {
+            None
+        }
     }
 }
 
 /// Replays a script over an empty log, where manager 1 has the object: the trace, or `None` where the log can't be made.
-fn replayed(
-    alloc: Global,
-    script: &Script,
-    recorder: Recorder,
-) -> Result<Option<Trace>, AllocError>
+fn replayed(alloc: Global, script: &Script, recorder: Recorder) -> Result<Option<Trace>, AllocError>
     requires { IsScript script.now }
 {
     let disk = SureDisk::new(alloc, LOG_BYTES)?;
@@ -117,7 +117,11 @@ fn objects_reply_to_what_is_due(rt: HostRuntime) -> Result<(), Fail> {
         }
         for outcome in [Outcome::Committed, Outcome::Aborted] {
             let told = wanted.filter(|w| w.1 == outcome).is_some();
-            assert_eq!(rt; has(&trace, Entry::Told(Party::Client, outcome)), told, "at {text}");
+            assert_eq!(rt;
+                has(&trace, Entry::Told(Party::Client, outcome)),
+                told,
+                "at {text}"
+            );
         }
         assert_eq!(rt; heard.load(Ordering::SeqCst), notes, "at {text}");
     }

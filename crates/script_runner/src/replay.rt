@@ -53,8 +53,8 @@ use world_laws::{rights, untried};
 /// For how many entries of each line the trace has room from the start.
 const ENTRIES_A_LINE: usize = 5;
 
-/// A replay under way: its script's names, its transactions and its actors' contexts by number, and its trace. Contracts see the script,
-/// the transactions, the contexts and the trace.
+/// A replay under way: its script's names, the objects of the first managers, its transactions and its actors' contexts by number, and its trace. Contracts see the script,
+/// how many objects there are, the transactions, the contexts and the trace.
 #[derive(Drop)]
 pub struct Run<'a> {
     alloc: Global,
