@@ -8,6 +8,7 @@ pub mod Kept
 pub mod LogKept
 pub mod LogOrder
 pub mod LogStep
+pub mod MayPromote
 pub mod Nearer
 pub mod Numbers
 pub mod Replies

@@ -176,7 +176,13 @@ impl<N: Run> Cells<N> {
     pub fn needs_log(&self, line: u32) -> bool
         ensures { result ≡ may_promote_at N.script line }
     {
-        line > 0 && self.promoting.get(line as usize - 1) == Some(&true)
+        if line == 0 {
+            return false;
+        }
+        match self.promoting.get(line as usize - 1) {
+            Some(promotes) => *promotes,
+            None => false,
+        }
     }
 
     /// A note of the board of a transaction of the run. It knows nothing yet.
