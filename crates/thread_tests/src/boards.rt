@@ -1,7 +1,7 @@
 //! Entering calls under the locks, in order and out of it, and what the board tells.
 ghost use Rattle.std.specs.Prelude.{◌≡◌, ◌≤◌};
 ghost use Rattle.thread_tests.specs.Fresh.{IsFresh};
-ghost use Rattle.tx_threads.specs.Cell.{IsThreadable};
+ghost use Rattle.tx_cells.specs.Cell.{IsThreadable};
 
 use crate::scripts::{is_await, sure_log, threadable};
 use coordinator_log::Log;
@@ -31,11 +31,11 @@ fn entered<N: Run, D: Disk, R: Wait>(
     }
     let mut state = cells.cell(t).state().lock(rt);
     let held = log.state().lock(rt);
-    state.enter(Some(&held), a, line)
+    state.enter_with(&held, a, line)
 }
 
 /// What the turns of the test say, in order: the entries of each line, what is on the board before and after, and the await.
-fn said<N: Run, D: Disk, R: Wait + Abort>(
+fn said<N: Run, D: Disk + Drop, R: Wait + Abort>(
     rt: &R,
     alloc: Global,
     s: &Script,
@@ -48,7 +48,7 @@ fn said<N: Run, D: Disk, R: Wait + Abort>(
     requires log { IsFresh D.faults N.faults log }
 {
     let cells = Cells::<N>::new(alloc, s)?;
-    let log = SharedLog::<D, N>::over(alloc, log).map_err(|_| "no log")?;
+    let log = SharedLog::<D, N>::over(alloc, log, s).map_err(|_| "no log")?;
     let a = ActorNo::new(1).ok_or("no actor")?;
     let t = TxNo::new(1).ok_or("no transaction")?;
     let turns = [

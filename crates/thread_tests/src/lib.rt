@@ -5,12 +5,6 @@
 #[cfg(test)]
 mod boards;
 #[cfg(test)]
-mod gates;
-#[cfg(test)]
-mod objects;
-#[cfg(test)]
-mod runs;
-#[cfg(test)]
 mod scripts;
 #[cfg(test)]
 mod turns;
