@@ -5,6 +5,14 @@
 #[cfg(test)]
 mod boards;
 #[cfg(test)]
+mod calls;
+#[cfg(test)]
+mod flags;
+#[cfg(test)]
+mod gates;
+#[cfg(test)]
 mod scripts;
+#[cfg(test)]
+mod slow_disk;
 #[cfg(test)]
 mod turns;

@@ -3,6 +3,7 @@ ghost use Rattle.std.specs.Prelude.{◌≡◌, length};
 ghost use Rattle.thread_tests.specs.Fresh.{IsFresh};
 ghost use Rattle.tx_cells.specs.Cell.{IsThreadable};
 
+use crate::calls::{entered, helped};
 use crate::scripts::{sure_log, threadable};
 use coordinator_log::Log;
 use dtx_values::{ActorNo, Answer, Body, Entry, LogNote, Outcome, Script, TxNo};
@@ -13,7 +14,7 @@ use std::process::Abort;
 use std::sync::Wait;
 use std::test::Fail;
 use tx_threads::{
-    CellState, Cells, LogState, Run, SharedLog, TurnError, Turned, call_as, help_one, peek_outcome,
+    CellState, Cells, LogState, Run, SharedLog, TurnError, Turned, peek_outcome,
 };
 
 /// A transaction to which nothing comes, and a restart of the log.
@@ -145,7 +146,7 @@ fn called(body: &Body) -> Option<TxNo> {
 }
 
 /// Enters the call of each line, in order: how many were entered.
-fn entered<N: Run, D: Disk, R: Wait>(
+fn all_entered<N: Run, D: Disk, R: Wait>(
     rt: &R,
     alloc: Global,
     s: &Script,
@@ -154,41 +155,17 @@ fn entered<N: Run, D: Disk, R: Wait>(
 ) -> Result<u32, TurnError>
     requires objects { N.objects ≡ 0 }
 {
-    let objects = [];
     let mut many = 0u32;
     let mut line = 0u32;
     for l in s.lines() {
         line = line.saturating_add(1);
         if let Some(t) = called(&l.body)
-            && cells.has(t)
-            && let Turned::Did(_) =
-                call_as(rt, alloc, cells, log, &OpenGate, objects.as_slice(), l.actor, line, t)?
+            && entered(rt, alloc, cells, log, &OpenGate, l.actor, &[line], t)?
         {
             many = many.saturating_add(1);
         }
     }
     Ok(many)
-}
-
-/// Does all that is to be done in the transaction.
-fn helped<N: Run, D: Disk, R: Wait>(
-    rt: &R,
-    alloc: Global,
-    cells: &Cells<N>,
-    log: &SharedLog<D, N>,
-    t: TxNo,
-) -> Result<(), TurnError>
-    requires objects { N.objects ≡ 0 }
-{
-    let objects = [];
-    if cells.has(t) {
-        for _ in 0..1_000 {
-            if !help_one(rt, alloc, cells, log, &OpenGate, objects.as_slice(), t)? {
-                break;
-            }
-        }
-    }
-    Ok(())
 }
 
 /// Runs the large script on one thread, and then looks at each board.
@@ -206,10 +183,10 @@ fn ran<N: Run, D: Disk + Drop, R: Wait + Abort>(
 {
     let cells = Cells::<N>::new(alloc, s)?;
     let log = SharedLog::<D, N>::over(alloc, log, s).map_err(|_| "no log")?;
-    assert_eq!(rt; entered(rt, alloc, s, &cells, &log), Ok(640));
+    assert_eq!(rt; all_entered(rt, alloc, s, &cells, &log), Ok(640));
     for k in 1..=MANY {
         let t = TxNo::new(k).ok_or("no transaction")?;
-        assert_eq!(rt; helped(rt, alloc, &cells, &log, t), Ok(()), "at transaction {k}");
+        assert_eq!(rt; helped(rt, alloc, &cells, &log, &OpenGate, t), Ok(()), "at transaction {k}");
         if !cells.has(t) {
             return Err("no cell".into());
         }
