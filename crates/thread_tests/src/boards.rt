@@ -45,7 +45,8 @@ fn said<N: Run, D: Disk + Drop, R: Wait + Abort>(
     requires script { IsThreadable s.now }
     requires objects { N.objects ≡ 0 }
     requires honest { D.honest ≡ N.honest }
-    requires log { IsFresh D.faults N.faults log }
+    requires faults { N.faults ≤ D.faults log.disk }
+    requires log { IsFresh log }
 {
     let cells = Cells::<N>::new(alloc, s)?;
     let log = SharedLog::<D, N>::over(alloc, log, s).map_err(|_| "no log")?;

@@ -1,6 +1,7 @@
 //! That threads go on beside each other: a write of the log lets other transactions go on, and a look at a board waits for nobody.
-ghost use Rattle.std.specs.Prelude.{◌≡◌, ◌×◌, length};
+ghost use Rattle.std.specs.Prelude.{◌≡◌, ◌≤◌, Some, length, true};
 ghost use Rattle.thread_tests.specs.Fresh.{IsFresh};
+ghost use Rattle.tx_cells.specs.Board.{board_of};
 ghost use Rattle.tx_cells.specs.Cell.{IsThreadable};
 ghost use Rattle.tx_threads.specs.Turning.{is_await_at};
 
@@ -40,7 +41,8 @@ fn both_ways<
     requires script { IsThreadable s.now }
     requires objects { N.objects ≡ 0 }
     requires honest { D.honest ≡ N.honest }
-    requires log { IsFresh D.faults N.faults log }
+    requires faults { N.faults ≤ D.faults log.disk }
+    requires log { IsFresh log }
 {
     let cells = Cells::<N>::new(alloc, s)?;
     let log = SharedLog::<D, N>::over(alloc, log, s).map_err(|_| "no log")?;
@@ -151,7 +153,8 @@ fn peeked<
     requires script { IsThreadable s.now }
     requires objects { N.objects ≡ 0 }
     requires honest { D.honest ≡ N.honest }
-    requires log { IsFresh D.faults N.faults log }
+    requires faults { N.faults ≤ D.faults log.disk }
+    requires log { IsFresh log }
 {
     let cells = Cells::<N>::new(alloc, s)?;
     let log = SharedLog::<D, N>::over(alloc, log, s).map_err(|_| "no log")?;

@@ -49,7 +49,7 @@ pub fn threadable(alloc: Global, text: &[u8]) -> Result<Script, Fail>
 /// An empty log on this disk.
 pub fn empty_log<D: Disk + Drop>(alloc: Global, disk: D) -> Result<Log<D>, Fail>
     requires { LOG_BYTES ≤ D.size disk }
-    ensures { IfOk result (λ l. IsFresh D.faults (D.faults disk) l) }
+    ensures { IfOk result IsFresh }
 {
     match Log::format(alloc, disk) {
         Ok(log) => Ok(log),
@@ -59,7 +59,7 @@ pub fn empty_log<D: Disk + Drop>(alloc: Global, disk: D) -> Result<Log<D>, Fail>
 
 /// An empty log on a disk that never fails.
 pub fn sure_log(alloc: Global) -> Result<Log<SureDisk>, Fail>
-    ensures { IfOk result (λ l. IsFresh SureDisk.faults 0 l) }
+    ensures { IfOk result IsFresh }
 {
     empty_log(alloc, SureDisk::new(alloc, LOG_BYTES)?)
 }

@@ -1,7 +1,4 @@
 //! A disk whose write can be held.
-ghost use Rattle.std.specs.Prelude.{◌≡◌, ◌≤◌, ◌+◌, OnErr, OnOk, length};
-ghost use Rattle.outside.specs.Faults.{Rose};
-
 use crate::flags::looked;
 use outside::{Disk, Failed, Image, MemDisk};
 use std::sync::atomic::{AtomicBool, Ordering};
@@ -56,7 +53,7 @@ impl Slow<'_> {
 }
 
 impl Disk for Slow<'_> {
-    ghost use Rattle.std.specs.Prelude.{false, length, [], ⊥};
+    ghost use Rattle.std.specs.Prelude.{false, length, []};
     ghost use Rattle.std.proofs.Common.{absurd};
 
     ghost honest = { false };

@@ -1,5 +1,5 @@
 //! Turns at the log, and a large run on one thread.
-ghost use Rattle.std.specs.Prelude.{◌≡◌, length};
+ghost use Rattle.std.specs.Prelude.{◌≡◌, ◌≤◌, length};
 ghost use Rattle.thread_tests.specs.Fresh.{IsFresh};
 ghost use Rattle.tx_cells.specs.Cell.{IsThreadable};
 
@@ -62,7 +62,8 @@ fn restarted<N: Run, D: Disk + Drop, R: Wait + Abort>(
     requires script { IsThreadable s.now }
     requires objects { N.objects ≡ 0 }
     requires honest { D.honest ≡ N.honest }
-    requires log { IsFresh D.faults N.faults log }
+    requires faults { N.faults ≤ D.faults log.disk }
+    requires log { IsFresh log }
 {
     let cells = Cells::<N>::new(alloc, s)?;
     let log = SharedLog::<D, N>::over(alloc, log, s).map_err(|_| "no log")?;
@@ -179,7 +180,8 @@ fn ran<N: Run, D: Disk + Drop, R: Wait + Abort>(
     requires script { IsThreadable s.now }
     requires objects { N.objects ≡ 0 }
     requires honest { D.honest ≡ N.honest }
-    requires log { IsFresh D.faults N.faults log }
+    requires faults { N.faults ≤ D.faults log.disk }
+    requires log { IsFresh log }
 {
     let cells = Cells::<N>::new(alloc, s)?;
     let log = SharedLog::<D, N>::over(alloc, log, s).map_err(|_| "no log")?;
