@@ -1,4 +1,4 @@
-//! That threads go on beside each other: a write of the log lets other transactions go on, and a look at a board waits for nobody.
+//! That threads go on beside each other: replies overlap, a write of the log lets other transactions go on, and a look at a board waits for nobody.
 ghost use Rattle.std.specs.Prelude.{◌≡◌, ◌≤◌, Some, length, true};
 ghost use Rattle.thread_tests.specs.Fresh.{IsFresh};
 ghost use Rattle.tx_cells.specs.Board.{board_of};
@@ -7,19 +7,60 @@ ghost use Rattle.tx_threads.specs.Turning.{is_await_at};
 
 use crate::calls::{entered, helped};
 use crate::flags::looked;
+use crate::runs::program;
 use crate::scripts::{empty_log, is_await, sure_log, threadable};
 use crate::slow_disk::{Slow, WriteFlags};
 use coordinator_log::{LOG_BYTES, Log};
 use dtx_values::{ActorNo, Answer, Outcome, Script, TxNo};
 use outside::{Disk, Gate, MemDisk, OpenGate, SureDisk};
+use script_runner::Exit;
 use std::alloc::Global;
 use std::marker::Brand;
 use std::process::Abort;
 use std::sync::Wait;
-use std::sync::atomic::{AtomicBool, Ordering};
+use std::sync::atomic::{AtomicBool, AtomicU64, Ordering};
 use std::test::Fail;
 use std::thread::{Threads, join};
 use tx_threads::{Cells, Run, SharedLog, TurnError, Turned, await_as, peek_outcome};
+
+/// Holds the reply of each of two transactions until it was called for the other.
+#[derive(Drop)]
+struct Both {
+    first: AtomicBool,
+    second: AtomicBool,
+    met: AtomicU64,
+}
+
+impl Gate for Both {
+    fn at(&self, t: u16, _e: u16) {
+        let (mine, other) = if t == 1 {
+            (&self.first, &self.second)
+        } else {
+            (&self.second, &self.first)
+        };
+        mine.store(true, Ordering::SeqCst);
+        if looked(other) {
+            self.met.fetch_add(1, Ordering::SeqCst);
+        }
+    }
+}
+
+/// Two clients, each with a transaction and a volatile that votes.
+const TWO: &[u8] = b"a1 begin t1 default\na1 volatile t1 e1 none yes\na2 begin t2 default\n\
+    a2 volatile t2 e2 none yes\na1 par\na1 commit t1\na1 await t1\na2 commit t2\na2 await t2\n";
+
+#[test]
+fn replies_overlap(rt: HostRuntime) -> Result<(), Fail> {
+    let gate = Both {
+        first: AtomicBool::new(false),
+        second: AtomicBool::new(false),
+        met: AtomicU64::new(0),
+    };
+    let (exit, _) = program(&rt, rt.alloc(), &["threads", "2"], TWO, &[], &gate)?;
+    assert_eq!(rt; exit, Exit::Fine);
+    assert_eq!(rt; gate.met.load(Ordering::SeqCst), 2);
+    Ok(())
+}
 
 /// A transaction that is promoted, so that its commit is logged, and another that needs no log.
 const LOGS: &[u8] = b"a1 begin t1 default\na1 durable t1 e1 r1 two yes\na1 commit t1\n\

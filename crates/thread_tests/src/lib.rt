@@ -11,6 +11,10 @@ mod flags;
 #[cfg(test)]
 mod gates;
 #[cfg(test)]
+mod objects;
+#[cfg(test)]
+mod runs;
+#[cfg(test)]
 mod scripts;
 #[cfg(test)]
 mod slow_disk;
