@@ -3,6 +3,7 @@ ghost use Rattle.std.specs.Prelude.{◌≡◌, ◌≤◌};
 ghost use Rattle.thread_tests.specs.Fresh.{IsFresh};
 ghost use Rattle.tx_cells.specs.Cell.{IsThreadable};
 
+use crate::calls::helped;
 use crate::scripts::{is_await, sure_log, threadable};
 use coordinator_log::Log;
 use dtx_values::{ActorNo, Answer, Outcome, Script, TxNo};
@@ -12,7 +13,7 @@ use std::marker::Brand;
 use std::process::Abort;
 use std::sync::Wait;
 use std::test::Fail;
-use tx_threads::{Cells, Run, SharedLog, TurnError, Turned, await_as, help_one, peek_outcome};
+use tx_threads::{Cells, Run, SharedLog, TurnError, Turned, await_as, peek_outcome};
 
 /// One volatile, which is to vote yes; the client commits and waits.
 const WAITS: &[u8] = b"a1 begin t1 0\na1 volatile t1 e1 none yes\na1 commit t1\na1 await t1\n";
@@ -70,12 +71,7 @@ fn said<N: Run, D: Disk + Drop, R: Wait + Abort>(
     let objects = none.as_slice();
     let mut note = cells.note_of(t);
     assert!(rt; peek_outcome(&cells, t, &mut note).is_none());
-    let mut helped = 0;
-    while helped < 100
-        && help_one(rt, alloc, &cells, &log, &OpenGate, objects, t).map_err(|_| "no help")?
-    {
-        helped += 1;
-    }
+    helped(rt, alloc, &cells, &log, &OpenGate, t).map_err(|_| "no help")?;
     let waited = await_as(rt, alloc, &cells, &log, &OpenGate, objects, &mut note, a, 4, t)
         .map_err(|_| "no await")?;
     assert_eq!(rt; waited, Turned::Did(Answer::OutcomeIs(Outcome::Committed)));

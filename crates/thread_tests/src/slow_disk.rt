@@ -54,7 +54,6 @@ impl Slow<'_> {
 
 impl Disk for Slow<'_> {
     ghost use Rattle.std.specs.Prelude.{false, length, []};
-    ghost use Rattle.std.proofs.Common.{absurd};
 
     ghost honest = { false };
 
