@@ -8,7 +8,7 @@ pub fn looked(flag: &AtomicBool) -> bool {
         if flag.load(Ordering::SeqCst) {
             return true;
         }
-        if n % 1_000 == 999 {
+        if n % 100_000 == 99_999 {
             thread::yield_now();
         }
     }
