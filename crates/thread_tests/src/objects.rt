@@ -80,6 +80,10 @@ fn has(trace: &Trace, wanted: Entry) -> bool {
 /// A client commits with a durable of manager 1 that plans to vote yes.
 const PLANS_YES: &[u8] = b"a1 begin t1 default\na1 durable t1 e1 r1 two yes\na1 commit t1\n";
 
+/// The same, where the client waits for the outcome.
+const WAITS: &[u8] =
+    b"a1 begin t1 default\na1 durable t1 e1 r1 two yes\na1 commit t1\na1 await t1\n";
+
 /// A client commits with a durable of manager 1 that plans to vote no, and the log is stopped and opened again meanwhile.
 const PLANS_NO: &[u8] = b"a1 begin t1 default\na1 durable t1 e1 r1 two no\na1 commit t1\na1 stop 3 keep\n\
     a1 await t1\na1 restart\na1 reenlist e1\n";
@@ -87,7 +91,7 @@ const PLANS_NO: &[u8] = b"a1 begin t1 default\na1 durable t1 e1 r1 two no\na1 co
 #[test]
 fn objects_vote_on_threads(rt: HostRuntime) -> Result<(), Fail> {
     let e1 = EnlNo::new(1).ok_or("no such enlistment")?;
-    let cases = [(PLANS_YES, 2, Vote::No), (PLANS_NO, 4, Vote::Yes)];
+    let cases = [(PLANS_YES, 2, Vote::No), (WAITS, 1, Vote::No), (PLANS_NO, 4, Vote::Yes)];
     for (text, helpers, vote) in cases {
         let (trace, heard) = ran(&rt, rt.alloc(), text, helpers, vote)?;
         for other in [Vote::Yes, Vote::No] {
