@@ -72,8 +72,10 @@ fn said<N: Run, D: Disk + Drop, R: Wait + Abort>(
     let mut note = cells.note_of(t);
     assert!(rt; peek_outcome(&cells, t, &mut note).is_none());
     helped(rt, alloc, &cells, &log, &OpenGate, t).map_err(|_| "no help")?;
-    let waited = await_as(rt, alloc, &cells, &log, &OpenGate, objects, &mut note, a, 4, t)
-        .map_err(|_| "no await")?;
+    let waited = await_as(
+        rt, alloc, &cells, &log, &OpenGate, objects, &mut note, a, 4, t,
+    )
+    .map_err(|_| "no await")?;
     assert_eq!(rt; waited, Turned::Did(Answer::OutcomeIs(Outcome::Committed)));
     let Some(posted) = peek_outcome(&cells, t, &mut note) else {
         panic!(rt; "nothing is on the board");

@@ -1,5 +1,5 @@
 //! What a thread of a test does with a transaction.
-ghost use Rattle.std.specs.Prelude.{◌≡◌, length};
+ghost use Rattle.std.specs.Prelude.{◌≡◌};
 
 use dtx_values::{ActorNo, TxNo};
 use outside::{Disk, Gate};

@@ -1,5 +1,5 @@
 //! That threads go on beside each other: replies overlap, a write of the log lets other transactions go on, and a look at a board waits for nobody.
-ghost use Rattle.std.specs.Prelude.{◌≡◌, ◌≤◌, Some, length, true};
+ghost use Rattle.std.specs.Prelude.{◌≡◌, ◌≤◌, Some, true};
 ghost use Rattle.thread_tests.specs.Fresh.{IsFresh};
 ghost use Rattle.tx_cells.specs.Board.{board_of};
 ghost use Rattle.tx_cells.specs.Cell.{IsThreadable};
@@ -67,11 +67,7 @@ const LOGS: &[u8] = b"a1 begin t1 default\na1 durable t1 e1 r1 two yes\na1 commi
     a2 begin t2 default\na2 volatile t2 e2 none yes\n";
 
 /// One thread brings the first transaction to its write at the log, while another begins the second one.
-fn both_ways<
-    N: Run + Send + Sync,
-    D: Disk + Drop + Send,
-    R: Threads + Wait + Abort + Sync,
->(
+fn both_ways<N: Run + Send + Sync, D: Disk + Drop + Send, R: Threads + Wait + Abort + Sync>(
     rt: &R,
     alloc: Global,
     s: &Script,
@@ -179,11 +175,7 @@ fn awaited<N: Run, D: Disk, G: Gate, R: Wait>(
 }
 
 /// While the reply of the first transaction is held, another thread looks at its board, commits the second one, and looks at its board.
-fn peeked<
-    N: Run + Send + Sync,
-    D: Disk + Drop + Send,
-    R: Threads + Wait + Abort + Sync,
->(
+fn peeked<N: Run + Send + Sync, D: Disk + Drop + Send, R: Threads + Wait + Abort + Sync>(
     rt: &R,
     alloc: Global,
     s: &Script,

@@ -1,6 +1,4 @@
 //! Runs on threads in which a manager has an object: it hears each note to which a reply of one of the manager's enlistments is due, and no other.
-ghost use Rattle.std.specs.Prelude.{◌≡◌, ◌≤◌, IfOk};
-
 use crate::scripts::{sure_log, threadable};
 use dtx_values::{EnlNo, Entry, Note, Outcome, Party, Reply, Resource, TxNo, Vote};
 use entry_lists::Trace;
@@ -20,8 +18,6 @@ struct Recorder {
 }
 
 impl Resource for Recorder {
-    ghost use Rattle.std.specs.Prelude.{Unit};
-
     ghost gives = { λ old t e n r new. Unit {0} };
 
     fn on(&mut self, _t: TxNo, _e: EnlNo, n: Note) -> Option<Reply> {
@@ -85,17 +81,26 @@ const WAITS: &[u8] =
     b"a1 begin t1 default\na1 durable t1 e1 r1 two yes\na1 commit t1\na1 await t1\n";
 
 /// A client commits with a durable of manager 1 that plans to vote no, and the log is stopped and opened again meanwhile.
-const PLANS_NO: &[u8] = b"a1 begin t1 default\na1 durable t1 e1 r1 two no\na1 commit t1\na1 stop 3 keep\n\
+const PLANS_NO: &[u8] =
+    b"a1 begin t1 default\na1 durable t1 e1 r1 two no\na1 commit t1\na1 stop 3 keep\n\
     a1 await t1\na1 restart\na1 reenlist e1\n";
 
 #[test]
 fn objects_vote_on_threads(rt: HostRuntime) -> Result<(), Fail> {
     let e1 = EnlNo::new(1).ok_or("no such enlistment")?;
-    let cases = [(PLANS_YES, 2, Vote::No), (WAITS, 1, Vote::No), (PLANS_NO, 4, Vote::Yes)];
+    let cases = [
+        (PLANS_YES, 2, Vote::No),
+        (WAITS, 1, Vote::No),
+        (PLANS_NO, 4, Vote::Yes),
+    ];
     for (text, helpers, vote) in cases {
         let (trace, heard) = ran(&rt, rt.alloc(), text, helpers, vote)?;
         for other in [Vote::Yes, Vote::No] {
-            assert_eq!(rt; has(&trace, Entry::Voted(e1, other)), other == vote, "with {helpers}");
+            assert_eq!(rt;
+                has(&trace, Entry::Voted(e1, other)),
+                other == vote,
+                "with {helpers}"
+            );
         }
         // To a durable that votes no, no further note comes to which it is to reply.
         if vote == Vote::No {

@@ -1,6 +1,4 @@
 //! Whole runs of the program on threads.
-ghost use Rattle.std.specs.Prelude.{◌≡◌, ◌≤◌, IfOk};
-
 use outside::{Gate, MemDisk, OpenGate, SureSink, SureSource};
 use script_runner::{Exit, LOG_BYTES, run_program};
 use std::alloc::{AllocError, Global};
@@ -73,7 +71,10 @@ fn the_words_and_the_script_say_how_it_ends(rt: HostRuntime) -> Result<(), Fail>
     for (words, (script, wanted), fail, ends) in cases {
         let (exit, bytes) = program(&rt, alloc, words, script.as_bytes(), fail, &OpenGate)?;
         assert_eq!(rt; exit, ends, "{words:?} over {script:?}");
-        assert!(rt; bytes.as_slice() == wanted.as_bytes(), "{words:?} over {script:?}");
+        assert!(rt;
+            bytes.as_slice() == wanted.as_bytes(),
+            "{words:?} over {script:?}"
+        );
     }
     Ok(())
 }
@@ -94,12 +95,14 @@ fn the_made_script_comes_to_the_same_on_threads(rt: HostRuntime) -> Result<(), F
 }
 
 /// Nested scopes, and beside them a transaction that is promoted while the log is stopped and opened again.
-const STOPS: &str = "a1 open s1 required t1 default default\na1 open s2 required t2 default default\na1 close s2\n\
+const STOPS: &str =
+    "a1 open s1 required t1 default default\na1 open s2 required t2 default default\na1 close s2\n\
     a1 finish s1\na1 close s1\na2 begin t3 default\na2 durable t3 e1 r1 two yes\na2 commit t3\na3 stop 3 keep\n\
     a2 await t3\na3 restart\na2 reenlist e1\na3 stop 1 lose\na3 restart\n";
 
 /// What the scopes write, which depends on the script alone and comes first.
-const SCOPES: &str = "1 a1 call 1 a1 ok\n2 a1 opened s1 t1\n3 a1 call 2 a1 ok\n4 a1 opened s2 t1\n5 a1 call 3 a1 ok\n6 a1 closed s2\n\
+const SCOPES: &str =
+    "1 a1 call 1 a1 ok\n2 a1 opened s1 t1\n3 a1 call 2 a1 ok\n4 a1 opened s2 t1\n5 a1 call 3 a1 ok\n6 a1 closed s2\n\
     7 a1 call 4 a1 ok\n8 a1 finished s1\n9 a1 call 5 a1 ok\n10 a1 closed s1\n";
 
 #[test]

@@ -1,5 +1,5 @@
 //! Turns at the log, and a large run on one thread.
-ghost use Rattle.std.specs.Prelude.{◌≡◌, ◌≤◌, length};
+ghost use Rattle.std.specs.Prelude.{◌≡◌, ◌≤◌};
 ghost use Rattle.thread_tests.specs.Fresh.{IsFresh};
 ghost use Rattle.tx_cells.specs.Cell.{IsThreadable};
 
@@ -13,18 +13,13 @@ use std::marker::Brand;
 use std::process::Abort;
 use std::sync::Wait;
 use std::test::Fail;
-use tx_threads::{
-    CellState, Cells, LogState, Run, SharedLog, TurnError, Turned, peek_outcome,
-};
+use tx_threads::{CellState, Cells, LogState, Run, SharedLog, TurnError, Turned, peek_outcome};
 
 /// A transaction to which nothing comes, and a restart of the log.
 const RESTARTS: &[u8] = b"a1 begin t1 default\na1 restart\n";
 
 /// Enters at the log the call of the line, which is none there, and the restart behind it.
-fn restarts<N: Run, D: Disk, R: Abort>(
-    rt: &R,
-    log: &mut LogState<D, N>,
-) -> Result<(), Fail> {
+fn restarts<N: Run, D: Disk, R: Abort>(rt: &R, log: &mut LogState<D, N>) -> Result<(), Fail> {
     let a = ActorNo::new(1).ok_or("no actor")?;
     assert_eq!(rt; log.enter(a, 1), Ok(Turned::NotNext(2)));
     assert_eq!(rt; log.enter(a, 2), Ok(Turned::Did(Answer::Fine)));
@@ -104,9 +99,13 @@ fn lines_of(alloc: Global, k: u32) -> Result<String, Fail> {
     Ok(match k % 5 {
         0 => format!(in alloc; "a{a} volatile t{k} e{p} none yes\na{a} commit t{k}\n")?,
         1 => format!(in alloc; "a{a} volatile t{k} e{p} none no\na{a} commit t{k}\n")?,
-        2 => format!(in alloc; "a{a} durable t{k} e{p} r1 single yes committed\na{a} commit t{k}\n")?,
+        2 => format!(in alloc;
+            "a{a} durable t{k} e{p} r1 single yes committed\na{a} commit t{k}\n"
+        )?,
         3 => {
-            format!(in alloc; "a{a} durable t{k} e{p} r1 two yes\na{b} durable t{k} e{q} r2 two yes\na{a} commit t{k}\n")?
+            format!(in alloc;
+                "a{a} durable t{k} e{p} r1 two yes\na{b} durable t{k} e{q} r2 two yes\na{a} commit t{k}\n"
+            )?
         }
         _ => format!(in alloc; "a{a} clone t{k} c{k} rollback\na{a} commit t{k}\n")?,
     })
@@ -188,7 +187,11 @@ fn ran<N: Run, D: Disk + Drop, R: Wait + Abort>(
     assert_eq!(rt; all_entered(rt, alloc, s, &cells, &log), Ok(640));
     for k in 1..=MANY {
         let t = TxNo::new(k).ok_or("no transaction")?;
-        assert_eq!(rt; helped(rt, alloc, &cells, &log, &OpenGate, t), Ok(()), "at transaction {k}");
+        assert_eq!(rt;
+            helped(rt, alloc, &cells, &log, &OpenGate, t),
+            Ok(()),
+            "at transaction {k}"
+        );
         if !cells.has(t) {
             return Err("no cell".into());
         }
