@@ -179,8 +179,10 @@ impl<N: Run> Cells<N> {
         if line == 0 {
             return false;
         }
-        let place = line as usize - 1;
-        self.promoting.get(place).copied().unwrap_or(false)
+        match self.promoting.get(line as usize - 1) {
+            Some(promotes) => *promotes,
+            None => false,
+        }
     }
 
     /// A note of the board of a transaction of the run. It knows nothing yet.
