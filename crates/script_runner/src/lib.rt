@@ -2,6 +2,7 @@
 #![tactic(auto)]
 
 mod exit;
+mod objects;
 mod program;
 mod replay;
 mod transfer;

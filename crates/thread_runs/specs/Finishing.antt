@@ -1,20 +1,26 @@
 -- What the caller's steps keep after the threads of a run ended, and how many calls are left to be entered.
-use Rattle.std.specs.Prelude.{ℕ, ◌+◌, ◌-◌, ◌≡◌, List, length, map}
+use Rattle.std.specs.Prelude.{ℕ, ◌+◌, ◌-◌, ◌≡◌, Bool, true, false, List, IsSome, Some, length, map, slice_get}
 use Rattle.std.specs.List.{sum_by}
+use Rattle.dtx_values.specs.declared.call.Call.{Call}
+use Rattle.dtx_values.specs.declared.call.Call.TheVariants.{Await}
 use Rattle.dtx_values.specs.declared.number.ActorNo.{ActorNo}
 use Rattle.script_calls.specs.Rows.{row_at}
 use Rattle.script_calls.specs.SeenRow.{SeenRow}
 use Rattle.tx_cells.specs.Cell.{Cell}
+use Rattle.tx_cells.specs.Entering.{next_of}
 use Rattle.tx_cells.specs.LogCell.{LogCell}
 
--- The cells are of the same transactions, in the same order.
-abbrev pub AreOfSame : List Cell → List Cell → Type 0
-AreOfSame old new = map (λ c. c.tx.transaction.value) new ≡ map (λ c. c.tx.transaction.value) old
+-- In each of the cells the same calls were entered.
+abbrev pub HaveSameCalls : List Cell → List Cell → Type 0
+HaveSameCalls old new = map (λ c. c.rows) new ≡ map (λ c. c.rows) old
 
--- The cells are of the same transactions, and in each the same calls were entered.
-pub record HaveSameCalls (old new : List Cell) : Type 0 where
-  pub named : AreOfSame old new
-  pub rows : map (λ c. c.rows) new ≡ map (λ c. c.rows) old
+-- actor a has a next call at the cell of this place
+abbrev pub IsDueAt : ActorNo → List Cell → ℕ → Type 0
+IsDueAt a cells i = (c : Cell) × (slice_get cells i ≡ Some c) × IsSome (next_of a c)
+
+abbrev pub is_await : Call → Bool
+is_await (Await t) = true
+is_await _ = false
 
 -- how many calls of a row weren't entered
 abbrev pub left_in : {C : Type 0} → SeenRow C → ℕ

@@ -1,17 +1,19 @@
 //! The trace of a run on threads: the contexts by actor, the transactions by number, then the log.
-ghost use Rattle.std.specs.Prelude.{ℕ, ◌≡◌, ◌++◌, ◌<◌, [], IfOk, IsTrue, OnOk, false, map};
+ghost use Rattle.std.specs.Prelude.{ℕ, ◌≡◌, ◌++◌, ◌<◌, [], IfOk, IsTrue, OnOk, false, map, true};
+ghost use Rattle.std.specs.List.{All};
 ghost use Rattle.dtx_model.specs.AtLog.{at_log, is_log_up};
 ghost use Rattle.dtx_model.specs.Traces.{noted, placed};
 ghost use Rattle.dtx_model.specs.Words.{has, past_of};
 ghost use Rattle.tx_cells.specs.LogAnswers.{is_no_log_answer};
 ghost use Rattle.thread_runs.specs.Contexts.{AreContexts, entries_of};
 ghost use Rattle.thread_runs.specs.Finished.{AreFinished};
-ghost use Rattle.thread_runs.specs.Gathering.{HasContexts, with_histories, with_log};
+ghost use Rattle.thread_runs.specs.Gathering.{HasContexts, IsCellOf, are_in_order, with_histories, with_log};
 ghost use Rattle.thread_runs.specs.Run.{AreTied, EndsOnThreads, IsRunOnThreads};
 
 use call_order::{call_order, entered_calls};
 use dtx_values::{ActorNo, Entry, Place};
 use entry_lists::{Entries, PlacedEntries, Trace};
+use outcome_law::crossings;
 use outside::Disk;
 use std::alloc::{AllocError, Global};
 use tx_cells::{CellState, LogState, Run};
@@ -30,6 +32,7 @@ pub fn gathered<D: Disk, N: Run>(
     requires finished { AreFinished N.script states.now log.now }
     requires contexts { AreContexts N.script (map (λ e. e.items) contexts.now) }
     ensures run { IfOk result (λ T. IsRunOnThreads N.script N.objects N.faults (D.faults log.now.log.disk) T) }
+    ensures laid { IfOk result (λ T. are_in_order (past_of T) ≡ true) }
     ensures tied { IsTrue D.honest → IfOk result AreTied }
     ensures ended { IsTrue D.honest → IfOk result (λ T. EndsOnThreads N.script (D.image log.now.log.disk) T) }
     ensures unlike { IsTrue D.honest → IfOk result (λ T. has is_no_log_answer (at_log (past_of T)) ≡ false) }
@@ -38,11 +41,25 @@ pub fn gathered<D: Disk, N: Run>(
     // These calls do nothing when they run. Each brings its law into this proof, from which the clauses follow.
     entered_calls();
     call_order();
+    crossings();
+    are_kept(states);
+    log.is_kept();
+    let _ = log.log().is_up();
     let mut trace = PlacedEntries::new(alloc);
     write_contexts(&mut trace, contexts)?;
     write_histories(&mut trace, states)?;
     write_log(&mut trace, log.entries())?;
     Ok(Trace::new(trace))
+}
+
+/// What each of these locks gave, as its type knows it. It does nothing when it runs; a caller's proof asks for it.
+fn are_kept<N: Run>(states: &[CellState<N>])
+    ensures { All (IsCellOf N.script N.objects N.honest) states.now }
+{
+    for state in states {
+        state.is_caused();
+        state.is_kept();
+    }
 }
 
 /// Puts into an empty trace what stands at the contexts, by actor.
@@ -86,10 +103,7 @@ fn write_histories<N: Run>(
 }
 
 /// Puts at the end of the trace the history of this transaction.
-fn write_history<N: Run>(
-    trace: &mut PlacedEntries,
-    state: &CellState<N>,
-) -> Result<(), AllocError>
+fn write_history<N: Run>(trace: &mut PlacedEntries, state: &CellState<N>) -> Result<(), AllocError>
     ensures { OnOk result (past_of trace.new.items ≡ placed state.now.tx.transaction state.now.tx.world.past ++ past_of trace.old.items) }
 {
     let history = state.history();

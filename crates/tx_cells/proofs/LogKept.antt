@@ -19,9 +19,9 @@ use Rattle.coordinator_log.specs.declared.stop.ArmedStop.{ArmedStop}
 use Rattle.script_calls.specs.Prefix.{IsLogPrefix, lines_by}
 use Rattle.script_calls.specs.SeenRow.{SeenRow}
 use Rattle.script_calls.specs.declared.calls.LogCall.{LogCall}
-use Rattle.tx_cells.specs.LogAnswers.{is_no_log_answer, restart_answer, restarted, stop_armed}
+use Rattle.tx_cells.specs.LogAnswers.{is_no_log_answer, stop_armed}
 use Rattle.tx_cells.specs.LogCell.{AreCounted, AreOwn, IsLogKept, LAST, LogCell, is_left, is_up_by}
-use Rattle.tx_cells.specs.LogEntering.{IsReopened}
+use Rattle.turn_parts.specs.Reopening.{IsReopened, restart_answer, restarted}
 
 -- Of what is counted, where as much is told as before,
 counted_same : (b m n : ℕ) (stop : Option ArmedStop) (past U : List Entry) → armed U ≡ armed past → faults_told U ≡ faults_told past → m ≤ n → AreCounted b m stop past → AreCounted b n stop U

@@ -27,8 +27,9 @@ use Rattle.tx_world.specs.AtLog.{AreFit, AtMostOne, Fits, KeepsLog, Tie, act_cal
 use Rattle.tx_world.specs.State.{TxState}
 use Rattle.tx_world.specs.Stepping.{IsAnswered}
 use Rattle.tx_cells.specs.Board.{transactions_of}
-use Rattle.tx_cells.specs.LogAnswers.{is_no_log_answer, stop_noted}
+use Rattle.tx_cells.specs.LogAnswers.{is_no_log_answer}
 use Rattle.tx_cells.specs.LogCell.{AreCounted, AreOwn, IsLogKept, LAST, LogCell, is_left, is_own, is_up_by}
+use Rattle.turn_parts.specs.Reopening.{stop_noted}
 
 -- A count that doesn't fall, and one that rose
 not_fewer : (b m n f : ℕ) → m ≤ n → b + f ≤ m → b + f ≤ n

@@ -35,10 +35,10 @@ use Rattle.tx_world.specs.OwnCalls.{DoesKthAlone}
 use Rattle.tx_world.proofs.StillTied.{named_elsewhere}
 use Rattle.tx_world.specs.Stepping.{DoesKth, IsToPlan, is_to_promote}
 use Rattle.tx_cells.specs.Cell.{IsKept, MayReply}
-use Rattle.tx_cells.specs.Turns.{same_note}
 use Rattle.tx_cells.proofs.Asked.{IsOwed}
 use Rattle.tx_cells.proofs.Kept.{kept_step, turned_silent}
-use Rattle.tx_cells.proofs.Replies.{IsReplyRight, free_to, reply_to}
+use Rattle.script_calls.proofs.RightReplies.{IsReplyRight, free_to, reply_to}
+use Rattle.turn_parts.specs.Marks.{same_note}
 
 -- A reply other than an acknowledgement is due of an enlistment that stands.
 found_stands : {A : Type 0} (p : A → Bool) (xs : List A) (x : A) → find p xs ≡ Some x → has p xs ≡ true

@@ -1,7 +1,8 @@
 //! What lies under a transaction's lock.
-ghost use Rattle.std.specs.Prelude.{◌≡◌, [], true, IfErr, IfOk, IsTrue};
+ghost use Rattle.std.specs.Prelude.{◌≡◌, [], None, true, IfErr, IfOk, IsTrue, Some};
 ghost use Rattle.dtx_values.specs.declared.call.Call.{Call};
-ghost use Rattle.dtx_model.specs.Caused.{Caused};
+ghost use Rattle.dtx_values.specs.declared.number.ActorNo.{ActorNo};
+ghost use Rattle.dtx_model.specs.Caused.{Caused, IsCallOf};
 ghost use Rattle.dtx_model.specs.Grammar.{OfTransaction, is_made};
 ghost use Rattle.dtx_model.specs.Learned.{Learned};
 ghost use Rattle.dtx_model.specs.Outcome.{agree, justified};
@@ -12,6 +13,7 @@ ghost use Rattle.dtx_model.specs.Words.{past_of};
 ghost use Rattle.dtx_model.specs.World.{half};
 ghost use Rattle.script_calls.specs.Prefix.{IsInOrder, IsPrefix};
 ghost use Rattle.script_calls.specs.Rows.{are_entered};
+ghost use Rattle.script_calls.specs.declared.rows.Due.{Due};
 ghost use Rattle.tx_cells.specs.Cell.{Cell, IsThreadable, untouched};
 ghost use Rattle.tx_cells.specs.Entering.{next_of};
 
@@ -115,16 +117,18 @@ impl<N: Run> CellState<N> {
         self.t
     }
 
-    /// The actor's next call here; `None` where none is left.
+    /// The actor's next call here; `None` where none is left. It is one that its line of the script gives the transaction.
     pub fn next(&self, a: ActorNo) -> Option<Due<Call>>
-        ensures { result ≡ next_of a self.now }
+        ensures next { result ≡ next_of a self.now }
+        ensures ours { (d : Due Call) → result ≡ Some d → IsCallOf N.script self.now.tx.transaction.value d.line a d.call }
     {
         self.rows.next(a)
     }
 
     /// Whether each call here was entered.
     pub fn are_entered(&self) -> bool
-        ensures { result ≡ are_entered self.now.rows }
+        ensures value { result ≡ are_entered self.now.rows }
+        ensures none { ((a : ActorNo) → next_of a self.now ≡ None) → are_entered self.now.rows ≡ true }
     {
         self.rows.are_all_entered()
     }

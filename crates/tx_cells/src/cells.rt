@@ -179,10 +179,8 @@ impl<N: Run> Cells<N> {
         if line == 0 {
             return false;
         }
-        match self.promoting.get(line as usize - 1) {
-            Some(promotes) => *promotes,
-            None => false,
-        }
+        let place = line as usize - 1;
+        self.promoting.get(place).copied().unwrap_or(false)
     }
 
     /// A note of the board of a transaction of the run. It knows nothing yet.
@@ -273,7 +271,7 @@ fn cells_of<N: Run>(
 }
 
 /// Whether a line makes this transaction.
-fn is_made(s: &[Line], t: TxNo) -> bool
+pub fn is_made(s: &[Line], t: TxNo) -> bool
     ensures { result ≡ is_made s.now (OfTransaction t.value) }
 {
     s.iter().any(|l| makes(&l.body, t))

@@ -6,10 +6,11 @@ ghost use Rattle.dtx_model.specs.Words.{kth};
 ghost use Rattle.tx_cells.specs.Cell.{MayReply};
 ghost use Rattle.tx_cells.specs.Entering.{Enters, IsDone, IsKthDone, may_promote_at, next_of, put_off};
 ghost use Rattle.tx_cells.specs.Ties.{IsCause};
-ghost use Rattle.tx_cells.specs.Turns.{is_due, same_note, unmarked, with_tx};
+ghost use Rattle.tx_cells.specs.Turns.{unmarked, with_tx};
 ghost use Rattle.tx_cells.specs.declared.turns.Turned.{Turned};
 ghost use Rattle.tx_world.specs.Stepping.{needs_log};
 ghost use Rattle.world_laws.specs.Left.{steps_left};
+ghost use Rattle.turn_parts.specs.Marks.{is_due, same_note};
 
 use crate::cell::CellState;
 use crate::error::TurnError;

@@ -4,12 +4,13 @@ ghost use Rattle.dtx_model.specs.Steps.{Replies, pending};
 ghost use Rattle.dtx_model.specs.Words.{kth};
 ghost use Rattle.tx_cells.specs.Cell.{MayReply};
 ghost use Rattle.tx_cells.specs.Entering.{Enters, next_of, put_off};
-ghost use Rattle.tx_cells.specs.LogAnswers.{stop_noted};
 ghost use Rattle.tx_cells.specs.Ties.{IsCause, TiesWith};
-ghost use Rattle.tx_cells.specs.Turns.{is_due, unmarked, with_tx};
+ghost use Rattle.tx_cells.specs.Turns.{unmarked, with_tx};
 ghost use Rattle.tx_cells.specs.declared.turns.Turned.{Turned};
 ghost use Rattle.tx_world.specs.Stepping.{Does, DoesKth};
 ghost use Rattle.world_laws.specs.Left.{steps_left};
+ghost use Rattle.turn_parts.specs.Marks.{is_due};
+ghost use Rattle.turn_parts.specs.Reopening.{stop_noted};
 
 use crate::cell::CellState;
 use crate::error::TurnError;

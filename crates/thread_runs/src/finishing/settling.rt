@@ -45,7 +45,6 @@ fn step<D: Disk, N: Run>(
     requires managers { AreManagers N.script N.script managers.now }
     ensures none { result ≡ Ok false → (pending state.old.tx.world ≡ []) × (state.new ≡ state.old) }
     ensures nearer { result ≡ Ok true → steps_left state.new.tx.world < steps_left state.old.tx.world }
-    ensures transaction { OnOk result (state.new.tx.transaction ≡ state.old.tx.transaction) }
     ensures rows { OnOk result (state.new.rows ≡ state.old.rows) }
     ensures log_rows { OnOk result (log.new.rows ≡ log.old.rows) }
     ensures still { OnOk result (IsTrue log.new.log.is_up → IsTrue log.old.log.is_up) }
@@ -71,7 +70,6 @@ pub(super) fn settle<D: Disk, N: Run>(
     requires objects { length resources.old ≡ N.objects }
     requires managers { AreManagers N.script N.script managers.now }
     ensures settled { OnOk result (pending state.new.tx.world ≡ []) }
-    ensures transaction { OnOk result (state.new.tx.transaction ≡ state.old.tx.transaction) }
     ensures rows { OnOk result (state.new.rows ≡ state.old.rows) }
     ensures log_rows { OnOk result (log.new.rows ≡ log.old.rows) }
     ensures still { OnOk result (IsTrue log.new.log.is_up → IsTrue log.old.log.is_up) }

@@ -15,7 +15,7 @@ impl<N: Run> CellState<N> {
     /// knows, and what its history says. It does nothing when it runs; a caller's proof asks for it.
     pub fn is_kept(&self)
         ensures run { IsOwnRun self.now.tx.transaction.value self.now.tx.world }
-        ensures kept { IsKept N.script N.objects self.now.tx self.now.rows }
+        ensures kept { IsKept N.script N.objects N.honest self.now.tx self.now.rows }
         ensures ours { IsOurs (id_of self.now.tx) (core self.now.tx.world) (record { ours = self.now.tx.ours; unsure = self.now.tx.unsure; life = self.now.tx.life }) }
         ensures tried { tied self.now.tx.world.past ≡ true → IsTried self.now.tx.world.past (record { ours = self.now.tx.ours; unsure = self.now.tx.unsure; life = self.now.tx.life }) }
     {
