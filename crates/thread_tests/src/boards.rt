@@ -1,8 +1,9 @@
 //! Entering calls under the locks, in order and out of it, and what the board tells.
 ghost use Rattle.std.specs.Prelude.{◌≡◌, ◌≤◌};
 ghost use Rattle.thread_tests.specs.Fresh.{IsFresh};
-ghost use Rattle.tx_threads.specs.Cell.{IsThreadable};
+ghost use Rattle.tx_cells.specs.Cell.{IsThreadable};
 
+use crate::calls::helped;
 use crate::scripts::{is_await, sure_log, threadable};
 use coordinator_log::Log;
 use dtx_values::{ActorNo, Answer, Outcome, Script, TxNo};
@@ -12,7 +13,7 @@ use std::marker::Brand;
 use std::process::Abort;
 use std::sync::Wait;
 use std::test::Fail;
-use tx_threads::{Cells, Run, SharedLog, TurnError, Turned, await_as, help_one, peek_outcome};
+use tx_threads::{Cells, Run, SharedLog, TurnError, Turned, await_as, peek_outcome};
 
 /// One volatile, which is to vote yes; the client commits and waits.
 const WAITS: &[u8] = b"a1 begin t1 0\na1 volatile t1 e1 none yes\na1 commit t1\na1 await t1\n";
@@ -31,11 +32,11 @@ fn entered<N: Run, D: Disk, R: Wait>(
     }
     let mut state = cells.cell(t).state().lock(rt);
     let held = log.state().lock(rt);
-    state.enter(Some(&held), a, line)
+    state.enter_with(&held, a, line)
 }
 
 /// What the turns of the test say, in order: the entries of each line, what is on the board before and after, and the await.
-fn said<N: Run, D: Disk, R: Wait + Abort>(
+fn said<N: Run, D: Disk + Drop, R: Wait + Abort>(
     rt: &R,
     alloc: Global,
     s: &Script,
@@ -45,10 +46,11 @@ fn said<N: Run, D: Disk, R: Wait + Abort>(
     requires script { IsThreadable s.now }
     requires objects { N.objects ≡ 0 }
     requires honest { D.honest ≡ N.honest }
-    requires log { IsFresh D.faults N.faults log }
+    requires faults { N.faults ≤ D.faults log.disk }
+    requires log { IsFresh log }
 {
     let cells = Cells::<N>::new(alloc, s)?;
-    let log = SharedLog::<D, N>::over(alloc, log).map_err(|_| "no log")?;
+    let log = SharedLog::<D, N>::over(alloc, log, s).map_err(|_| "no log")?;
     let a = ActorNo::new(1).ok_or("no actor")?;
     let t = TxNo::new(1).ok_or("no transaction")?;
     let turns = [
@@ -69,14 +71,11 @@ fn said<N: Run, D: Disk, R: Wait + Abort>(
     let objects = none.as_slice();
     let mut note = cells.note_of(t);
     assert!(rt; peek_outcome(&cells, t, &mut note).is_none());
-    let mut helped = 0;
-    while helped < 100
-        && help_one(rt, alloc, &cells, &log, &OpenGate, objects, t).map_err(|_| "no help")?
-    {
-        helped += 1;
-    }
-    let waited = await_as(rt, alloc, &cells, &log, &OpenGate, objects, &mut note, a, 4, t)
-        .map_err(|_| "no await")?;
+    helped(rt, alloc, &cells, &log, &OpenGate, t).map_err(|_| "no help")?;
+    let waited = await_as(
+        rt, alloc, &cells, &log, &OpenGate, objects, &mut note, a, 4, t,
+    )
+    .map_err(|_| "no await")?;
     assert_eq!(rt; waited, Turned::Did(Answer::OutcomeIs(Outcome::Committed)));
     let Some(posted) = peek_outcome(&cells, t, &mut note) else {
         panic!(rt; "nothing is on the board");

@@ -1,14 +1,14 @@
 //! Scripts and logs for the tests, and what is known of them.
 ghost use Rattle.std.specs.Prelude.{◌≡◌, ◌≤◌, IfOk};
+ghost use Rattle.coordinator_log.specs.declared.layout.TheConstants.{LOG_BYTES};
 ghost use Rattle.dtx_model.specs.Words.{has};
 ghost use Rattle.thread_tests.specs.Fresh.{IsFresh};
 ghost use Rattle.tx_cells.specs.Cell.{IsThreadable, is_do_line};
-ghost use Rattle.tx_cells.specs.Entering.{is_await_at};
+ghost use Rattle.tx_threads.specs.Turning.{is_await_at};
 
-use coordinator_log::Log;
+use coordinator_log::{LOG_BYTES, Log};
 use dtx_values::{Body, Line, Script};
 use outside::{Disk, SureDisk};
-use script_runner::LOG_BYTES;
 use script_text::read_script;
 use std::alloc::Global;
 use std::test::Fail;
@@ -37,7 +37,9 @@ pub fn is_await(lines: &[Line], line: u32) -> bool
 pub fn threadable(alloc: Global, text: &[u8]) -> Result<Script, Fail>
     ensures { IfOk result IsThreadable }
 {
-    let script = read_script(alloc, text).map_err(|_| "no script")?;
+    let Ok(script) = read_script(alloc, text) else {
+        return Err("no script".into());
+    };
     if has_do(script.lines()) {
         return Err("a line is a do".into());
     }
@@ -45,9 +47,9 @@ pub fn threadable(alloc: Global, text: &[u8]) -> Result<Script, Fail>
 }
 
 /// An empty log on this disk.
-pub fn empty_log<D: Disk>(alloc: Global, disk: D) -> Result<Log<D>, Fail>
+pub fn empty_log<D: Disk + Drop>(alloc: Global, disk: D) -> Result<Log<D>, Fail>
     requires { LOG_BYTES ≤ D.size disk }
-    ensures { IfOk result (λ l. IsFresh D.faults (D.faults disk) l) }
+    ensures { IfOk result IsFresh }
 {
     match Log::format(alloc, disk) {
         Ok(log) => Ok(log),
@@ -57,7 +59,7 @@ pub fn empty_log<D: Disk>(alloc: Global, disk: D) -> Result<Log<D>, Fail>
 
 /// An empty log on a disk that never fails.
 pub fn sure_log(alloc: Global) -> Result<Log<SureDisk>, Fail>
-    ensures { IfOk result (λ l. IsFresh SureDisk.faults 0 l) }
+    ensures { IfOk result IsFresh }
 {
     empty_log(alloc, SureDisk::new(alloc, LOG_BYTES)?)
 }
