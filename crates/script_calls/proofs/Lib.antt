@@ -5,6 +5,7 @@ pub mod Closing
 pub mod Entered
 pub mod Filling
 pub mod Managing
+pub mod NoneLeft
 pub mod Openings
 pub mod PlanTable
 pub mod RightReplies

@@ -50,8 +50,11 @@ use std::marker::Model;
 use tx_world::{TxWorld, WorldError};
 use world_laws::{rights, untried};
 
-/// A replay under way: its script's names, its transactions and its actors' contexts by number, and its trace. Contracts see the script,
-/// the transactions, the contexts and the trace.
+/// For how many entries of each line the trace has room from the start.
+const ENTRIES_A_LINE: usize = 5;
+
+/// A replay under way: its script's names, the objects of the first managers, its transactions and its actors' contexts by number, and its trace. Contracts see the script,
+/// how many objects there are, the transactions, the contexts and the trace.
 #[derive(Drop)]
 pub struct Run<'a> {
     alloc: Global,
@@ -132,7 +135,7 @@ fn note(trace: &mut PlacedEntries, t: TxNo, world: &TxWorld, from: usize) -> Res
 }
 
 impl<'a> Run<'a> {
-    /// A replay of these lines, before its first step. It has room for every transaction, and for an entry of each line: memory that is never written costs
+    /// A replay of these lines, before its first step. It has room for every transaction, and for a few entries of each line: memory that is never written costs
     /// nothing, and what grows step by step is copied.
     pub fn new(
         alloc: Global,
@@ -151,7 +154,7 @@ impl<'a> Run<'a> {
             contexts: contexts(alloc)?,
             entries: Vec::new(alloc),
             out: Outbox::with_room(alloc)?,
-            trace: PlacedEntries::with_capacity(alloc, lines.len())?,
+            trace: PlacedEntries::with_capacity(alloc, lines.len().saturating_mul(ENTRIES_A_LINE))?,
         })
     }
 

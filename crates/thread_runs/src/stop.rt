@@ -23,8 +23,6 @@ impl From<AllocError> for RunStop {
 }
 
 impl From<TurnError> for RunStop {
-    ghost use Rattle.std.specs.Prelude.{Unit};
-
     ghost from_gives = { λ _ e. Unit {0} };
 
     fn from(error: TurnError) -> RunStop {

@@ -1,5 +1,6 @@
 -- What a cell keeps, at its start, after a step, and after a call.
 use Rattle.std.proofs.Common.{◌≡◌, ℕ, zero, suc, ◌==◌, Bool, true, false, ◌&&◌, ◌||◌, not, List, [], ◌∷◌, Option, Some, None, is_some, refl, ap, sym, subst, ◌∙◌, inl, inr, if◌then◌else◌}
+use Rattle.std.specs.Prelude.{IsTrue}
 use Rattle.std.proofs.lemmas.Bool.{eqb-true}
 use Rattle.dtx_values.specs.declared.call.Call.{Call}
 use Rattle.dtx_values.specs.declared.call.Call.TheVariants.{Await, Do, Durable, Marshal}
@@ -13,6 +14,7 @@ use Rattle.dtx_model.specs.Grammar.{Name, OfTransaction, OfEnlistment, OfClone, 
 use Rattle.dtx_model.specs.Calls.{call_of, complete_call, gone_call, reenlist_call, transaction_of, transaction_with}
 use Rattle.dtx_model.specs.Contexts.{lines_before}
 use Rattle.dtx_model.specs.Outcome.{is_empty}
+use Rattle.dtx_model.specs.Tied.{tied}
 use Rattle.dtx_model.specs.declared.waiting.EnteredCall.{EnteredCall}
 use Rattle.dtx_model.specs.World.{World, half}
 use Rattle.dtx_model.specs.Steps.{Step, Calls, Stops, after, block_at, entered, pending}
@@ -26,10 +28,11 @@ use Rattle.outcome_law.proofs.ScopeCalls.{given_call, is_scope_call}
 use Rattle.outcome_law.proofs.Tests.{eq_self}
 use Rattle.tx_world.specs.State.{TxState, is_maker, is_name, may_enter, sends_begin, turned}
 use Rattle.tx_world.specs.OwnCalls.{is_alone, is_do}
+use Rattle.tx_world.proofs.StillTied.{is_restarting, turned_tied}
 use Rattle.tx_cells.specs.Cell.{IsKept, IsThreadable, is_do_line, untouched}
 use Rattle.tx_cells.specs.Entering.{is_promoting, is_promoting_line, later_if, may_promote_at, must_wait, put_off}
 use Rattle.tx_cells.specs.declared.turns.Turned.TheVariants.{NotNext}
-use Rattle.tx_cells.proofs.Replies.{IsReplyRight, right_step, right_stop}
+use Rattle.script_calls.proofs.RightReplies.{IsReplyRight, right_step, right_stop}
 
 -- at the start: no call was entered, and no entry is there
 none_in : (n : ℕ) (a : ActorNo) (c : Call) → IsIn [] n a c → ⊥
@@ -39,8 +42,8 @@ none_in n a c i = by i.place i.stands
     by zero e = cc
     by (suc k) e = cc
 
-pub kept_new : (s : List Line) (k : ℕ) (t : TxNo) (rows : List (SeenRow Call)) → IsThreadable s → is_made s (OfTransaction t.value) ≡ true → IsPrefix s t.value rows [] → IsKept s k (untouched t) rows
-kept_new s k t rows script named prefix = record { script = script; named = named; given = λ n a c i. absurd (none_in n a c i); in_order = prefix; planned = refl }
+pub kept_new : (s : List Line) (k : ℕ) (honest : Bool) (t : TxNo) (rows : List (SeenRow Call)) → IsThreadable s → is_made s (OfTransaction t.value) ≡ true → IsPrefix s t.value rows [] → IsKept s k honest (untouched t) rows
+kept_new s k honest t rows script named prefix = record { script = script; named = named; given = λ n a c i. absurd (none_in n a c i); in_order = prefix; planned = refl; sound = λ _. refl }
 
 -- the calls, and the replies, after a step, with the stop that may follow it
 turned_calls : (up : Bool) (t : ℕ) (w : World) (m : Step) → (turned up t w m).calls ≡ entered m w.calls
@@ -60,10 +63,10 @@ turned_right s k up t w m q p = by (sends_begin t w m && not up)
     by true = right_stop (plans_of s) (has_object s k) (after t w m).past (right_step (plans_of s) (has_object s k) t w m q p)
     by false = right_step (plans_of s) (has_object s k) t w m q p
 
--- So after a step that enters no call,
-pub kept_step : (s : List Line) (k : ℕ) (up : Bool) (x y : TxState) (rows : List (SeenRow Call)) (m : Step) → entered m x.world.calls ≡ x.world.calls → IsReplyRight (plans_of s) (has_object s k) m
-    → y.transaction ≡ x.transaction → y.world ≡ turned up x.transaction.value x.world m → IsKept s k x rows → IsKept s k y rows
-kept_step s k up x y rows m none q t w kept =
+-- So after a step that enters no call, and after which what restarts found is tied where it was before,
+pub kept_tied : (s : List Line) (k : ℕ) (honest up : Bool) (x y : TxState) (rows : List (SeenRow Call)) (m : Step) → entered m x.world.calls ≡ x.world.calls → IsReplyRight (plans_of s) (has_object s k) m
+    → (IsTrue honest → tied x.world.past ≡ true → tied y.world.past ≡ true) → y.transaction ≡ x.transaction → y.world ≡ turned up x.transaction.value x.world m → IsKept s k honest x rows → IsKept s k honest y rows
+kept_tied s k honest up x y rows m none q still t w kept =
     let calls : y.world.calls ≡ x.world.calls = ap (λ (v : World). v.calls) w ∙ (turned_calls up x.transaction.value x.world m ∙ none) in
     record {
       script = kept.script;
@@ -71,7 +74,16 @@ kept_step s k up x y rows m none q t w kept =
       given = λ n a c i. subst (λ (u : TxNo). IsCallOf s u.value n a c) (sym t) (kept.given n a c (subst (λ ks. IsIn ks n a c) calls i));
       in_order = subst (λ (u : TxNo). IsPrefix s u.value rows y.world.calls) (sym t) (subst (IsPrefix s x.transaction.value rows) (sym calls) kept.in_order);
       planned = subst (λ (v : World). always (is_as_planned (plans_of s) (has_object s k)) v.past ≡ true) (sym w) (turned_right s k up x.transaction.value x.world m q kept.planned);
+      sound = λ is. still is (kept.sound is);
     }
+
+-- as after each but a restart,
+pub sound_step : (up : Bool) (x y : TxState) (m : Step) → is_restarting m ≡ false → y.world ≡ turned up x.transaction.value x.world m → tied x.world.past ≡ true → tied y.world.past ≡ true
+sound_step up x y m other w before = subst (λ (v : World). tied v.past ≡ true) (sym w) (turned_tied up x.transaction.value x.world m other before)
+
+pub kept_step : (s : List Line) (k : ℕ) (honest up : Bool) (x y : TxState) (rows : List (SeenRow Call)) (m : Step) → entered m x.world.calls ≡ x.world.calls → IsReplyRight (plans_of s) (has_object s k) m → is_restarting m ≡ false
+    → y.transaction ≡ x.transaction → y.world ≡ turned up x.transaction.value x.world m → IsKept s k honest x rows → IsKept s k honest y rows
+kept_step s k honest up x y rows m none q other t w kept = kept_tied s k honest up x y rows m none q (λ is. sound_step up x y m other w) t w kept
 
 -- and after a call that the script gives, with its row one further.
 given_more : (s : List Line) (t : ℕ) (k : EnteredCall) (ks : List EnteredCall) → IsCallOf s t k.line k.actor k.call → ((n : ℕ) (a : ActorNo) (c : Call) → IsIn ks n a c → IsCallOf s t n a c)
@@ -85,9 +97,9 @@ given_more s t k ks mine given n a c i = by i.place i.stands
         subst (λ (j : EnteredCall). IsCallOf s t j.line j.actor j.call) same mine
     by (suc (suc j)) e = given n a c (record { place = suc j; stands = e })
 
-pub kept_call : (s : List Line) (k : ℕ) (up : Bool) (x y : TxState) (rows rows' : List (SeenRow Call)) (n : ℕ) (a : ActorNo) (c : Call) (m : ℕ) → IsCallOf s x.transaction.value n a c
-    → IsPrefix s x.transaction.value rows' (record { line = n; actor = a; call = c } ∷ x.world.calls) → y.transaction ≡ x.transaction → y.world ≡ turned up x.transaction.value x.world (Calls n a c m) → IsKept s k x rows → IsKept s k y rows'
-kept_call s k up x y rows rows' n a c m mine prefix t w kept =
+pub kept_call : (s : List Line) (k : ℕ) (honest up : Bool) (x y : TxState) (rows rows' : List (SeenRow Call)) (n : ℕ) (a : ActorNo) (c : Call) (m : ℕ) → IsCallOf s x.transaction.value n a c
+    → IsPrefix s x.transaction.value rows' (record { line = n; actor = a; call = c } ∷ x.world.calls) → y.transaction ≡ x.transaction → y.world ≡ turned up x.transaction.value x.world (Calls n a c m) → IsKept s k honest x rows → IsKept s k honest y rows'
+kept_call s k honest up x y rows rows' n a c m mine prefix t w kept =
     let here : EnteredCall = record { line = n; actor = a; call = c } in
     let calls : y.world.calls ≡ here ∷ x.world.calls = ap (λ (v : World). v.calls) w ∙ turned_calls up x.transaction.value x.world (Calls n a c m) in
     record {
@@ -97,6 +109,7 @@ kept_call s k up x y rows rows' n a c m mine prefix t w kept =
           (given_more s x.transaction.value here x.world.calls mine kept.given j b d (subst (λ ks. IsIn ks j b d) calls i));
       in_order = subst (λ (u : TxNo). IsPrefix s u.value rows' y.world.calls) (sym t) (subst (IsPrefix s x.transaction.value rows') (sym calls) prefix);
       planned = subst (λ (v : World). always (is_as_planned (plans_of s) (has_object s k)) v.past ≡ true) (sym w) (turned_right s k up x.transaction.value x.world (Calls n a c m) tt kept.planned);
+      sound = λ is. sound_step up x y (Calls n a c m) refl w (kept.sound is);
     }
 
 -- A step that sends no BEGIN is done in the same way whether the log is up or not.
@@ -233,9 +246,9 @@ same_made (Some x) d k = (x, refl, name_here x (made_by d) k)
 same_made None d k = absurd cc
 
 -- the call that isn't put off is next, and may be entered
-pub next_may : (s : List Line) (k : ℕ) (x : TxState) (rows : List (SeenRow Call)) (a : ActorNo) (n : ℕ) (c : Call) → IsKept s k x rows → next_in (row_at a rows) ≡ Some (record { line = n; call = c })
+pub next_may : (s : List Line) (k : ℕ) (honest : Bool) (x : TxState) (rows : List (SeenRow Call)) (a : ActorNo) (n : ℕ) (c : Call) → IsKept s k honest x rows → next_in (row_at a rows) ≡ Some (record { line = n; call = c })
     → may_enter x.world n c ≡ true
-next_may s k x rows a n c kept next =
+next_may s k honest x rows a n c kept next =
     let d : Due Call = record { line = n; call = c } in
     let no_line = next_line_new s x.transaction.value rows x.world.calls a d kept.in_order next in
     let no_maker = next_name_new s x.transaction.value rows x.world.calls a d (is_maker (made_by c)) kept.script.script.named kept.in_order next (same_made (made_by c)) in

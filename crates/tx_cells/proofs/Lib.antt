@@ -1,5 +1,4 @@
 pub mod Asked
-pub mod Blocks
 pub mod EitherWay
 pub mod Following
 pub mod Entered
@@ -8,8 +7,8 @@ pub mod Kept
 pub mod LogKept
 pub mod LogOrder
 pub mod LogStep
-pub mod Managing
+pub mod MayPromote
+pub mod Nearer
 pub mod Numbers
-pub mod Replies
 pub mod Stepped
 pub mod Turning

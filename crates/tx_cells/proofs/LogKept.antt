@@ -19,9 +19,9 @@ use Rattle.coordinator_log.specs.declared.stop.ArmedStop.{ArmedStop}
 use Rattle.script_calls.specs.Prefix.{IsLogPrefix, lines_by}
 use Rattle.script_calls.specs.SeenRow.{SeenRow}
 use Rattle.script_calls.specs.declared.calls.LogCall.{LogCall}
-use Rattle.tx_cells.specs.LogAnswers.{is_no_log_answer, restart_answer, restarted, stop_armed}
+use Rattle.tx_cells.specs.LogAnswers.{is_no_log_answer, stop_armed}
 use Rattle.tx_cells.specs.LogCell.{AreCounted, AreOwn, IsLogKept, LAST, LogCell, is_left, is_up_by}
-use Rattle.tx_cells.specs.LogEntering.{IsReopened}
+use Rattle.turn_parts.specs.Reopening.{IsReopened, restart_answer, restarted}
 
 -- Of what is counted, where as much is told as before,
 counted_same : (b m n : ℕ) (stop : Option ArmedStop) (past U : List Entry) → armed U ≡ armed past → faults_told U ≡ faults_told past → m ≤ n → AreCounted b m stop past → AreCounted b n stop U
@@ -152,6 +152,7 @@ kept_armed {D} faults honest image s tells before old log rows n a k i st is ord
       unlike = c.unlike;
       held = c.held;
       imaged = c.imaged;
+      logs = c.logs;
     })
 
 -- and so does a restart.
@@ -171,6 +172,7 @@ kept_restarted {D} faults honest image seen s tells before old log rows n a foun
   unlike = λ is. unlike_restarted n a old.log.is_up found old.past (r.never is) (c.unlike is);
   held = λ is up. held found (r.records is) (sym r.up ∙ up) (c.imaged is (seen old.log.disk) (among is));
   imaged = λ is b one. c.imaged is b (within is b one);
+  logs = λ is b one. c.logs is b (within is b one);
 }
   where
     held : (f : Result ℕ LogRefusal) → OnOk f (log_has (seen old.log.disk) ≡ Ok (open_records log.slots)) → is_ok f ≡ true → IfOk (log_has (seen old.log.disk)) (AreOwn s) → AreOwn s (open_records log.slots)

@@ -27,8 +27,9 @@ use Rattle.tx_world.specs.AtLog.{AreFit, AtMostOne, Fits, KeepsLog, Tie, act_cal
 use Rattle.tx_world.specs.State.{TxState}
 use Rattle.tx_world.specs.Stepping.{IsAnswered}
 use Rattle.tx_cells.specs.Board.{transactions_of}
-use Rattle.tx_cells.specs.LogAnswers.{is_no_log_answer, stop_noted}
+use Rattle.tx_cells.specs.LogAnswers.{is_no_log_answer}
 use Rattle.tx_cells.specs.LogCell.{AreCounted, AreOwn, IsLogKept, LAST, LogCell, is_left, is_own, is_up_by}
+use Rattle.turn_parts.specs.Reopening.{stop_noted}
 
 -- A count that doesn't fall, and one that rose
 not_fewer : (b m n f : ℕ) → m ≤ n → b + f ≤ m → b + f ≤ n
@@ -216,6 +217,7 @@ kept_as faults honest image s tells before x y old to after k counted up uncalle
   unlike = λ is. like ∙ c.unlike is;
   held = held_step faults honest image s x y old.log to k c.held;
   imaged = imaged_step faults honest image s x y old.log to k c.held c.imaged;
+  logs = λ is. (k.keeps is).logs (c.logs is);
 }
 
 pub kept_step : {D : Type 0} (faults : D → ℕ) (honest : Bool) (image : D → List ℕ → Type 0) (s : List Line) (tells : Bool) (before : ℕ) (x y : TxState) (old : LogCell D) (to : LogState D) → StepsOver faults honest image s x y old.log to → (after : List Entry) → after ≡ stop_noted old.log.is_up to.is_up old.past

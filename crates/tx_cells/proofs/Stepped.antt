@@ -32,12 +32,13 @@ use Rattle.coordinator_log.specs.State.{LogState}
 use Rattle.local_half.specs.Half.{fits_due}
 use Rattle.tx_world.specs.State.{TxState, turned}
 use Rattle.tx_world.specs.OwnCalls.{DoesKthAlone}
+use Rattle.tx_world.proofs.StillTied.{named_elsewhere}
 use Rattle.tx_world.specs.Stepping.{DoesKth, IsToPlan, is_to_promote}
 use Rattle.tx_cells.specs.Cell.{IsKept, MayReply}
-use Rattle.tx_cells.specs.Turns.{same_note}
 use Rattle.tx_cells.proofs.Asked.{IsOwed}
 use Rattle.tx_cells.proofs.Kept.{kept_step, turned_silent}
-use Rattle.tx_cells.proofs.Replies.{IsReplyRight, free_to, reply_to}
+use Rattle.script_calls.proofs.RightReplies.{IsReplyRight, free_to, reply_to}
+use Rattle.turn_parts.specs.Marks.{same_note}
 
 -- A reply other than an acknowledgement is due of an enlistment that stands.
 found_stands : {A : Type 0} (p : A → Bool) (xs : List A) (x : A) → find p xs ≡ Some x → has p xs ≡ true
@@ -63,8 +64,8 @@ due_stands o e n d = by (is_gone o e) (find (is_of e) o.table) refl d
     by false (Some x) f k = inr (found_stands (is_of e) o.table x f)
 
 -- The plan of an enlistment that stands is the script's.
-plan_here : (s : List Line) (k : ℕ) (x : TxState) (rows : List (SeenRow Call)) (e : ℕ) → IsKept s k x rows → IsOwnRun x.transaction.value x.world → has (is_enlisted e) x.world.past ≡ true → plan_of x.world.calls e ≡ plans_of s e
-plan_here s k x rows e kept own stands =
+plan_here : (s : List Line) (k : ℕ) (honest : Bool) (x : TxState) (rows : List (SeenRow Call)) (e : ℕ) → IsKept s k honest x rows → IsOwnRun x.transaction.value x.world → has (is_enlisted e) x.world.past ≡ true → plan_of x.world.calls e ≡ plans_of s e
+plan_here s k honest x rows e kept own stands =
     let w = x.world in
     let t = x.transaction.value in
     let ran = lift_ran (IsIn w.calls) (IsCallOf s t) kept.given t own.0 w own.1 in
@@ -73,43 +74,43 @@ plan_here s k x rows e kept own stands =
     ∙ plan_same s t e w.past kept.script.script.named (record { number = m.number; actor = m.actor; call = m.call; given = m.may; passes = maker_called e m.call m.passes; called = m.called })
 
 -- So what it plans to a note to which a reply of it is due is the same by its calls as by the script.
-pub planned_here : (s : List Line) (k : ℕ) (x : TxState) (rows : List (SeenRow Call)) (e : ℕ) (n : Note) → IsKept s k x rows → IsOwnRun x.transaction.value x.world → due_of (half x.world).seen e ≡ Some n
+pub planned_here : (s : List Line) (k : ℕ) (honest : Bool) (x : TxState) (rows : List (SeenRow Call)) (e : ℕ) (n : Note) → IsKept s k honest x rows → IsOwnRun x.transaction.value x.world → due_of (half x.world).seen e ≡ Some n
     → reply_planned (plan_of x.world.calls e) n ≡ reply_planned (plans_of s e) n
 unfolding observe
-planned_here s k x rows e n kept own due = elim (due_stands (half x.world).seen e n due) [
+planned_here s k honest x rows e n kept own due = elim (due_stands (half x.world).seen e n due) [
   | inl is ↦ subst (λ (o : Note). reply_planned (plan_of x.world.calls e) o ≡ reply_planned (plans_of s e) o) (sym is) refl
   | inr stands ↦
       let enlisted : has (is_enlisted e) x.world.past ≡ true = sym (enlisted_in_rows e x.world.past) ∙ stands in
-      ap (λ (p : Plan). reply_planned p n) (plan_here s k x rows e kept own enlisted)
+      ap (λ (p : Plan). reply_planned p n) (plan_here s k honest x rows e kept own enlisted)
 ]
 
-to_plan : (s : List Line) (k : ℕ) (x : TxState) (rows : List (SeenRow Call)) (m : Step) → IsKept s k x rows → IsOwnRun x.transaction.value x.world → IsToPlan x.world m → IsReplyRight (plans_of s) (has_object s k) m
-to_plan s k x rows (Replies e r) kept own (n, due, plan) = reply_to (plans_of s) (has_object s k) e n r (sym (planned_here s k x rows e.value n kept own due) ∙ plan)
-to_plan s k x rows m kept own q = tt
+to_plan : (s : List Line) (k : ℕ) (honest : Bool) (x : TxState) (rows : List (SeenRow Call)) (m : Step) → IsKept s k honest x rows → IsOwnRun x.transaction.value x.world → IsToPlan x.world m → IsReplyRight (plans_of s) (has_object s k) m
+to_plan s k honest x rows (Replies e r) kept own (n, due, plan) = reply_to (plans_of s) (has_object s k) e n r (sym (planned_here s k honest x rows e.value n kept own due) ∙ plan)
+to_plan s k honest x rows m kept own q = tt
 
 -- So the cell keeps what it kept, after a pending step without the log, and after one with it.
-pub kept_alone : (s : List Line) (k : ℕ) (x y : TxState) (rows : List (SeenRow Call)) (place : ℕ) → IsKept s k x rows → IsOwnRun x.transaction.value x.world → DoesKthAlone place x y → IsKept s k y rows
-kept_alone s k x y rows place kept own d =
-    kept_step s k true x y rows d.step (no_call_entered x.world.calls d.step (named_no_call x.world d.name d.step d.named)) (to_plan s k x rows d.step kept own d.planned) d.done.transaction
+pub kept_alone : (s : List Line) (k : ℕ) (honest : Bool) (x y : TxState) (rows : List (SeenRow Call)) (place : ℕ) → IsKept s k honest x rows → IsOwnRun x.transaction.value x.world → DoesKthAlone place x y → IsKept s k honest y rows
+kept_alone s k honest x y rows place kept own d =
+    kept_step s k honest true x y rows d.step (no_call_entered x.world.calls d.step (named_no_call x.world d.name d.step d.named)) (to_plan s k honest x rows d.step kept own d.planned) (named_elsewhere x.world d.name d.step d.named) d.done.transaction
     (d.done.world ∙ turned_silent x.transaction.value x.world d.step) kept
 
-pub kept_over : {D : Type 0} (faults : D → ℕ) (from to : LogState D) (s : List Line) (k : ℕ) (x y : TxState) (rows : List (SeenRow Call)) (place : ℕ) → IsKept s k x rows → IsOwnRun x.transaction.value x.world → DoesKth faults place x from y to → IsKept s k y rows
-kept_over faults from to s k x y rows place kept own d =
-    kept_step s k from.is_up x y rows d.step (no_call_entered x.world.calls d.step (named_no_call x.world d.name d.step d.named)) (to_plan s k x rows d.step kept own d.planned) d.done.transaction d.done.world kept
+pub kept_over : {D : Type 0} (faults : D → ℕ) (from to : LogState D) (s : List Line) (k : ℕ) (honest : Bool) (x y : TxState) (rows : List (SeenRow Call)) (place : ℕ) → IsKept s k honest x rows → IsOwnRun x.transaction.value x.world → DoesKth faults place x from y to → IsKept s k honest y rows
+kept_over faults from to s k honest x y rows place kept own d =
+    kept_step s k honest from.is_up x y rows d.step (no_call_entered x.world.calls d.step (named_no_call x.world d.name d.step d.named)) (to_plan s k honest x rows d.step kept own d.planned) (named_elsewhere x.world d.name d.step d.named) d.done.transaction d.done.world kept
 
 -- A reply that may come is right: it is planned, or free; where it is owed.
-reply_right : (s : List Line) (k : ℕ) (x : TxState) (rows : List (SeenRow Call)) (e : EnlNo) (n : Note) (r : Reply) → IsKept s k x rows → IsOwnRun x.transaction.value x.world → IsOwed x.world e n → MayReply s k e n r
+reply_right : (s : List Line) (k : ℕ) (honest : Bool) (x : TxState) (rows : List (SeenRow Call)) (e : EnlNo) (n : Note) (r : Reply) → IsKept s k honest x rows → IsOwnRun x.transaction.value x.world → IsOwed x.world e n → MayReply s k e n r
     → IsReplyRight (plans_of s) (has_object s k) (Replies e r)
-reply_right s k x rows e n r kept own owed may = elim may.right [
+reply_right s k honest x rows e n r kept own owed may = elim may.right [
   | inl free ↦
-      let unsilent : is_some (reply_planned (plans_of s e.value) n) ≡ true = ap is_some (sym (planned_here s k x rows e.value n kept own owed.due)) ∙ owed.unsilent in
+      let unsilent : is_some (reply_planned (plans_of s e.value) n) ≡ true = ap is_some (sym (planned_here s k honest x rows e.value n kept own owed.due)) ∙ owed.unsilent in
       free_to (plans_of s) (has_object s k) e n r free may.fitting unsilent
   | inr plan ↦ reply_to (plans_of s) (has_object s k) e n r plan
 ]
 
-pub kept_reply : (s : List Line) (k : ℕ) (up : Bool) (x y : TxState) (rows : List (SeenRow Call)) (e : EnlNo) (n : Note) (r : Reply) → IsKept s k x rows → IsOwnRun x.transaction.value x.world → IsOwed x.world e n → MayReply s k e n r
-    → y.transaction ≡ x.transaction → y.world ≡ turned up x.transaction.value x.world (Replies e r) → IsKept s k y rows
-kept_reply s k up x y rows e n r kept own owed may t w = kept_step s k up x y rows (Replies e r) refl (reply_right s k x rows e n r kept own owed may) t w kept
+pub kept_reply : (s : List Line) (k : ℕ) (honest up : Bool) (x y : TxState) (rows : List (SeenRow Call)) (e : EnlNo) (n : Note) (r : Reply) → IsKept s k honest x rows → IsOwnRun x.transaction.value x.world → IsOwed x.world e n → MayReply s k e n r
+    → y.transaction ≡ x.transaction → y.world ≡ turned up x.transaction.value x.world (Replies e r) → IsKept s k honest y rows
+kept_reply s k honest up x y rows e n r kept own owed may t w = kept_step s k honest up x y rows (Replies e r) refl (reply_right s k honest x rows e n r kept own owed may) refl t w kept
 
 -- What a reply that is owed needs of the note.
 pub fits_owed : (w : World) (e : EnlNo) (n : Note) (r : Reply) → IsOwed w e n → fits r n ≡ true → fits_due r (due_of (half w).seen e.value) ≡ true

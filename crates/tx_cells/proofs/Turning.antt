@@ -1,32 +1,20 @@
 -- Going through the pending steps, one place after the other.
-use Rattle.std.proofs.Common.{◌≡◌, ℕ, ◌+◌, ◌<◌, Bool, true, false, ◌||◌, List, ◌∷◌, length, drop, get_or, Option, Some, None, refl, ap, sym, subst, ◌∙◌, add-one, if◌then◌else◌}
-use Rattle.std.proofs.Math.Seq.{drop-cons}
-use Rattle.std.proofs.lemmas.Option.{slice_get-get_or}
+use Rattle.std.proofs.Common.{◌≡◌, ℕ, ◌+◌, ◌<◌, Bool, true, false, List, length, drop, Option, Some, None, refl, ap, sym, subst, ◌∙◌, if◌then◌else◌}
 use Rattle.dtx_values.specs.declared.call.Call.{Call}
 use Rattle.dtx_values.specs.declared.note.Note.{Note}
 use Rattle.dtx_values.specs.declared.number.EnlNo.{EnlNo}
-use Rattle.dtx_model.specs.Words.{has, kth}
+use Rattle.dtx_model.specs.Words.{kth}
 use Rattle.dtx_model.specs.World.{World}
-use Rattle.dtx_model.specs.Steps.{StepName, LocalAct, pending}
+use Rattle.dtx_model.specs.Steps.{StepName, pending}
 use Rattle.script_calls.specs.SeenRow.{SeenRow}
 use Rattle.tx_world.specs.State.{TxState}
+use Rattle.turn_parts.proofs.Placing.{from_here, here}
 use Rattle.tx_world.specs.Stepping.{reply_in}
 use Rattle.tx_cells.specs.Cell.{Cell}
-use Rattle.tx_cells.specs.Turns.{first_turn, is_due, is_out, is_that, turn_of, turn_or}
+use Rattle.tx_cells.specs.Turns.{first_turn, turn_of, turn_or}
 use Rattle.tx_cells.specs.declared.turns.Turn.{Turn}
 use Rattle.tx_cells.specs.declared.turns.Turn.TheVariants.{Step, Ask}
-
--- the step at place k, from 0
-step_at : List StepName → ℕ → StepName
-step_at ms k = get_or ms k LocalAct
-
-from_here : (ms : List StepName) (k : ℕ) → k < length ms → drop k ms ≡ step_at ms k ∷ drop (k + 1) ms
-unfolding step_at
-from_here ms k h = rw add-one (drop-cons ms k LocalAct h)
-
-here : (ms : List StepName) (k : ℕ) → k < length ms → kth ms (k + 1) ≡ Some (step_at ms k)
-unfolding step_at
-here ms k h = rw add-one (slice_get-get_or ms k LocalAct h)
+use Rattle.turn_parts.specs.Marks.{is_out}
 
 -- What is known at place k: the cell is seen so, the turn is the first one from here on, and this is the reply here.
 pub record IsAtTurn (x : TxState) (rows : List (SeenRow Call)) (out : List (EnlNo × Note)) (seen : Cell) (k : ℕ) (o : Option (EnlNo × Note)) : Type 0 where
@@ -74,22 +62,3 @@ turn_on x rows out seen k o y t e f =
     let rest = first_turn x.world out (k + 1 + 1) (drop (k + 1) (pending x.world)) in
     let on : rest ≡ turn_of seen = passed (is_out out y) rest (Ask y.0 y.1) f ∙ (ap (λ (p : Option (EnlNo × Note)). turn_or out (k + 1) p rest) (sym e) ∙ turn_here x rows out seen k o t) in
     subst (λ (z : Cell). first_turn z.tx.world z.out (k + 1 + 1) (drop (k + 1) (pending z.tx.world)) ≡ turn_of seen) t.view on
-
--- A search for one reply.
-due_step : (w : World) (x : EnlNo × Note) (ms : List StepName) (k : ℕ) → k < length ms
-    → has (λ m. is_that x (reply_in w (Some m))) (drop k ms) ≡ (is_that x (reply_in w (kth ms (k + 1))) || has (λ m. is_that x (reply_in w (Some m))) (drop (k + 1) ms))
-due_step w x ms k h =
-    ap (has (λ m. is_that x (reply_in w (Some m)))) (from_here ms k h)
-    ∙ ap (λ (o : Option StepName). is_that x (reply_in w o) || has (λ m. is_that x (reply_in w (Some m))) (drop (k + 1) ms)) (sym (here ms k h))
-
-pub due_found : (w : World) (x : EnlNo × Note) (k : ℕ) (o : Option (EnlNo × Note)) → k < length (pending w) → has (λ m. is_that x (reply_in w (Some m))) (drop k (pending w)) ≡ is_due w x → o ≡ reply_in w (kth (pending w) (k + 1)) → is_that x o ≡ true
-    → true ≡ is_due w x
-due_found w x k o h so_far e is =
-    let rest = has (λ m. is_that x (reply_in w (Some m))) (drop (k + 1) (pending w)) in
-    ap (λ b. b || rest) (sym (sym (ap (is_that x) e) ∙ is)) ∙ (sym (due_step w x (pending w) k h) ∙ so_far)
-
-pub due_on : (w : World) (x : EnlNo × Note) (k : ℕ) (o : Option (EnlNo × Note)) → k < length (pending w) → has (λ m. is_that x (reply_in w (Some m))) (drop k (pending w)) ≡ is_due w x → o ≡ reply_in w (kth (pending w) (k + 1)) → is_that x o ≡ false
-    → has (λ m. is_that x (reply_in w (Some m))) (drop (k + 1) (pending w)) ≡ is_due w x
-due_on w x k o h so_far e is =
-    let rest = has (λ m. is_that x (reply_in w (Some m))) (drop (k + 1) (pending w)) in
-    ap (λ b. b || rest) (sym (sym (ap (is_that x) e) ∙ is)) ∙ (sym (due_step w x (pending w) k h) ∙ so_far)

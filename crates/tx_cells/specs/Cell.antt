@@ -1,5 +1,5 @@
 -- What lies under a transaction's lock, and what its type keeps.
-use Rattle.std.specs.Prelude.{ℕ, ◌≡◌, ◌⊎◌, Bool, true, false, List, [], Some, None}
+use Rattle.std.specs.Prelude.{ℕ, ◌≡◌, ◌⊎◌, Bool, true, false, List, [], Some, None, IsTrue}
 use Rattle.dtx_values.specs.declared.call.Call.{Call}
 use Rattle.dtx_values.specs.declared.note.Note.{Note}
 use Rattle.dtx_values.specs.declared.note.Reply.{Reply}
@@ -13,6 +13,7 @@ use Rattle.dtx_model.specs.Words.{always, has}
 use Rattle.dtx_model.specs.Grammar.{IsScript, OfTransaction, is_made}
 use Rattle.dtx_model.specs.Plans.{planned}
 use Rattle.dtx_model.specs.Replies.{fits}
+use Rattle.dtx_model.specs.Tied.{tied}
 use Rattle.dtx_model.specs.Caused.{IsCallOf, IsIn, has_object, is_as_planned, plans_of}
 use Rattle.script_calls.specs.Prefix.{IsPrefix}
 use Rattle.script_calls.specs.SeenRow.{SeenRow}
@@ -38,14 +39,16 @@ pub record IsThreadable (s : List Line) : Type 0 where
   pub script : IsScript s
   pub free_of_do : has (λ l. is_do_line l.body) s ≡ false
 
--- What a cell keeps in a run of the script s in which the first k managers have an object: the script names the transaction, each call that was entered is one that its line gives the transaction, of each actor's calls there those
--- that were entered are the first ones, in order, and each reply is the planned one, or that of an enlistment whose manager has an object.
-pub record IsKept (s : List Line) (k : ℕ) (x : TxState) (rows : List (SeenRow Call)) : Type 0 where
+-- What a cell keeps in a run of the script s in which the first k managers have an object, and whose disk tells what it holds where `honest` says so: the script names the transaction, each call that was entered is one that its line
+-- gives the transaction, of each actor's calls there those that were entered are the first ones, in order, and each reply is the planned one, or that of an enlistment whose manager has an object; over an honest disk each restart of the log
+-- that the history tells of found what may be found.
+pub record IsKept (s : List Line) (k : ℕ) (honest : Bool) (x : TxState) (rows : List (SeenRow Call)) : Type 0 where
   pub script : IsThreadable s
   pub named : is_made s (OfTransaction x.transaction.value) ≡ true
   pub given : (n : ℕ) (a : ActorNo) (c : Call) → IsIn x.world.calls n a c → IsCallOf s x.transaction.value n a c
   pub in_order : IsPrefix s x.transaction.value rows x.world.calls
   pub planned : always (is_as_planned (plans_of s) (has_object s k)) x.world.past ≡ true
+  pub sound : IsTrue honest → tied x.world.past ≡ true
 
 -- The enlistment may reply so to the note: the reply fits it, and is the planned one unless its manager has an object.
 pub record MayReply (s : List Line) (k : ℕ) (e : EnlNo) (n : Note) (r : Reply) : Type 0 where

@@ -5,6 +5,5 @@ pub mod Following
 pub mod LogAnswers
 pub mod LogCell
 pub mod LogEntering
-pub mod Managers
 pub mod Ties
 pub mod Turns

@@ -12,7 +12,7 @@ use Rattle.coordinator_log.specs.declared.stop.ArmedStop.{ArmedStop}
 use Rattle.script_calls.specs.Prefix.{IsLogPrefix}
 use Rattle.script_calls.specs.SeenRow.{SeenRow}
 use Rattle.script_calls.specs.declared.calls.LogCall.{LogCall}
-use Rattle.tx_world.specs.AtLog.{AreFit, AtMostOne}
+use Rattle.tx_world.specs.AtLog.{AreFit, AreLogs, AtMostOne}
 use Rattle.tx_cells.specs.Board.{transactions_of}
 use Rattle.tx_cells.specs.Cell.{IsThreadable}
 use Rattle.tx_cells.specs.LogAnswers.{is_no_log_answer}
@@ -53,7 +53,7 @@ is_up_by past = unless_said (latest up_of past)
 
 -- What the log's cell keeps in a run of the script s whose disk tells what it holds where `tells` says so, and whose count of faults was `before` at the start: of each actor's calls there those
 -- that were entered are the first ones, in order; each stop has its cause, and each fault that is told of rose the count; the log is up exactly where its entries say so, and a call isn't the last of them then; over an honest disk no
--- restart found other bytes than a log's; and then the records of the log, where it is up, and of each image that a crash can leave, are only the run's, each at most once.
+-- restart found other bytes than a log's; and then the records of the log, where it is up, and of each image that a crash can leave, are only the run's, each at most once, and each such image is a log.
 pub record IsLogKept {D : Type 0} (faults : D → ℕ) (honest : Bool) (image : D → List ℕ → Type 0) (s : List Line) (tells : Bool) (before : ℕ) (x : LogCell D) : Type 0 where
   pub script : IsThreadable s
   pub in_order : IsLogPrefix s x.rows x.past
@@ -65,3 +65,4 @@ pub record IsLogKept {D : Type 0} (faults : D → ℕ) (honest : Bool) (image : 
   pub unlike : IsTrue honest → has is_no_log_answer x.past ≡ false
   pub held : IsTrue honest → IsTrue x.log.is_up → AreOwn s (open_records x.log.slots)
   pub imaged : IsTrue honest → AreFit (image x.log.disk) (AreOwn s)
+  pub logs : IsTrue honest → AreLogs (image x.log.disk)

@@ -1,36 +1,21 @@
 -- A call that is entered at the log.
-use Rattle.std.specs.Prelude.{ℕ, ◌+◌, ◌-◌, ◌≡◌, ◌≢◌, Bool, List, length, Option, Some, Result, Err, IfOk, IsTrue, OnOk, is_ok, if◌then◌else◌}
-use Rattle.outside.specs.Faults.{Rose}
+use Rattle.std.specs.Prelude.{ℕ, ◌-◌, ◌≡◌, ◌≢◌, Bool, List, Option, Some, Result}
 use Rattle.dtx_values.specs.declared.entry.Answer.TheVariants.{Fine}
 use Rattle.dtx_values.specs.declared.number.ActorNo.{ActorNo}
-use Rattle.coordinator_log.specs.Crash.{IsOpened}
-use Rattle.coordinator_log.specs.Slots.{open_records}
-use Rattle.coordinator_log.specs.State.{LogState}
 use Rattle.coordinator_log.specs.declared.refusal.LogRefusal.{LogRefusal}
-use Rattle.coordinator_log.specs.declared.refusal.LogRefusal.TheVariants as Refusal
 use Rattle.script_calls.specs.declared.calls.LogCall.{LogCall}
 use Rattle.script_calls.specs.declared.calls.LogCall.TheVariants.{Stop, Restart}
 use Rattle.script_calls.specs.declared.rows.Due.{Due}
 use Rattle.script_calls.specs.Rows.{further, next_in, row_at}
-use Rattle.tx_cells.specs.LogAnswers.{restart_answer, restarted, stop_armed}
+use Rattle.tx_cells.specs.LogAnswers.{stop_armed}
 use Rattle.tx_cells.specs.LogCell.{LogCell}
 use Rattle.tx_cells.specs.declared.turns.Turned.{Turned}
 use Rattle.tx_cells.specs.declared.turns.Turned.TheVariants.{Did}
+use Rattle.turn_parts.specs.Reopening.{IsReopened, restart_answer, restarted}
 
 -- the actor's next call at the log
 abbrev pub next_at_log : {D : Type 0} → ActorNo → LogCell D → Option (Due LogCall)
 next_at_log a c = next_in (row_at a c.rows)
-
--- The log was stopped and opened again, or wasn't opened: `found` says how many records it then has, or why it wasn't. That comes by a fault alone, or over a disk that isn't honest.
-pub record IsReopened {D : Type 0} (faults : D → ℕ) (honest : Bool) (seen : D → List ℕ) (found : Result ℕ LogRefusal) (from to : LogState D) : Type 0 where
-  pub up : to.is_up ≡ is_ok found
-  pub life : to.life ≡ (if is_ok found then from.life + 1 else from.life)
-  pub armed : to.armed ≡ from.armed
-  pub count : IfOk found (λ n. n ≡ length (open_records to.slots))
-  pub records : IsTrue honest → OnOk found (IsOpened seen from.disk to)
-  pub fault : found ≡ Err Refusal.Fault → Rose (faults from.disk) (faults to.disk)
-  pub never : IsTrue honest → (p : ℕ) → found ≢ Err (Refusal.NotALog p)
-  pub smooth : OnOk found (faults to.disk ≡ faults from.disk)
 
 -- the call was made at the log, by line n, and answered so
 abbrev pub IsDoneAtLog : {D : Type 0} → (D → ℕ) → Bool → (D → List ℕ) → ℕ → ActorNo → LogCall → Turned → LogCell D → LogCell D → Type 0

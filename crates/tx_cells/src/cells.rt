@@ -1,5 +1,5 @@
 //! The cells of a run: the lock and the board of each transaction.
-ghost use Rattle.std.specs.Prelude.{◌≡◌, ◌==◌, [], IfOk, IsSome, MatchOption, None, Some, length, map, true};
+ghost use Rattle.std.specs.Prelude.{◌≡◌, ◌==◌, [], IfOk, IsSome, MatchOption, None, Some, is_some, length, map, true};
 ghost use Rattle.dtx_model.specs.Grammar.{OfTransaction, is_made, makes, same_name};
 ghost use Rattle.dtx_model.specs.Caused.{calls_in};
 ghost use Rattle.dtx_model.specs.Plans.{manager_of};
@@ -9,14 +9,15 @@ ghost use Rattle.script_calls.specs.Prefix.{IsPrefix};
 ghost use Rattle.script_calls.specs.RowsOf.{rows_of};
 ghost use Rattle.tx_cells.specs.Board.{Post, board_of, transactions_of};
 ghost use Rattle.tx_cells.specs.Cell.{IsThreadable};
+ghost use Rattle.tx_cells.specs.Entering.{may_promote_at};
 
 use crate::board::{BoardNote, Posted};
 use crate::cell::CellState;
-use crate::managers::managers_of;
+use crate::promoting::promoting_of;
 use crate::run::Run;
 use dtx_values::{Body, Call, EnlNo, Line, Opening, RmNo, Script, TxNo};
 use once_cell::race::OnceBox;
-use script_calls::{Plans, Rows, transaction_rows};
+use script_calls::{Plans, Rows, managers_of, transaction_rows};
 use std::alloc::{AllocError, Global};
 use std::marker::Model;
 use std::sync::Mutex;
@@ -107,19 +108,22 @@ pub struct Cells<N: Run> {
     cells: Vec<TxCell<N>>,
     /// The manager of each enlistment of the script, at the place of its number.
     managers: Vec<Option<RmNo>>,
+    /// Of each line of the script, in order, whether it may begin a promotion.
+    promoting: Vec<bool>,
 }
 
 impl<N: Run> Model for Cells<N> {
-    ghost use Rattle.std.specs.Prelude.{◌≡◌, List, length};
+    ghost use Rattle.std.specs.Prelude.{◌≡◌, List, length, map};
     ghost use Rattle.dtx_values.specs.declared.number.TheConstants.EnlNo.{MAX};
     ghost use Rattle.tx_cells.specs.Board.{Named};
-    ghost use Rattle.tx_cells.specs.Managers.{AreManagers};
+    ghost use Rattle.script_calls.specs.Managers.{AreManagers};
+    ghost use Rattle.tx_cells.specs.Entering.{is_promoting_line};
 
     ghost Value = { List Named };
 
     ghost view = { λ c. c.cells.items };
 
-    ghost invariant = { λ c. (length c.managers.items ≡ MAX) × AreManagers N.script N.script c.managers.items };
+    ghost invariant = { λ c. (length c.managers.items ≡ MAX) × AreManagers N.script N.script c.managers.items × (c.promoting.items ≡ map (λ l. is_promoting_line l.body) N.script) };
 }
 
 impl<N: Run> Cells<N> {
@@ -138,7 +142,15 @@ impl<N: Run> Cells<N> {
         Ok(Cells {
             cells: cells_of(alloc, s.lines(), all)?,
             managers: managers_of(alloc, s.lines())?,
+            promoting: promoting_of(alloc, s.lines())?,
         })
+    }
+
+    /// Whether it is a transaction of the run.
+    pub fn has(&self, t: TxNo) -> bool
+        ensures { result ≡ is_some (board_of self.now t.value) }
+    {
+        find(self.cells.as_slice(), t).is_some()
     }
 
     /// The cell of a transaction of the run.
@@ -160,6 +172,17 @@ impl<N: Run> Cells<N> {
         self.managers[e.index()]
     }
 
+    /// Whether this line of the script needs the log, as it may begin a promotion: it is a durable or a marshal. No lock is taken.
+    pub fn needs_log(&self, line: u32) -> bool
+        ensures { result ≡ may_promote_at N.script line }
+    {
+        if line == 0 {
+            return false;
+        }
+        let place = line as usize - 1;
+        self.promoting.get(place).copied().unwrap_or(false)
+    }
+
     /// A note of the board of a transaction of the run. It knows nothing yet.
     pub fn note_of(&self, t: TxNo) -> BoardNote<N>
         requires { IsSome (board_of self.now t.value) }
@@ -177,7 +200,11 @@ impl<N: Run> Cells<N> {
     pub fn into_states(self, alloc: Global) -> Result<Vec<CellState<N>>, AllocError>
         ensures { IfOk result (λ v. length v.items ≡ length self) }
     {
-        let Cells { cells, managers: _ } = self;
+        let Cells {
+            cells,
+            managers: _,
+            promoting: _,
+        } = self;
         let mut states = Vec::with_capacity(alloc, cells.len())?;
         for cell in cells {
             let TxCell {
@@ -244,7 +271,7 @@ fn cells_of<N: Run>(
 }
 
 /// Whether a line makes this transaction.
-fn is_made(s: &[Line], t: TxNo) -> bool
+pub fn is_made(s: &[Line], t: TxNo) -> bool
     ensures { result ≡ is_made s.now (OfTransaction t.value) }
 {
     s.iter().any(|l| makes(&l.body, t))

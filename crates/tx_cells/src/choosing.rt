@@ -1,14 +1,16 @@
 //! The calls of a transaction's state that may be lent the log's.
-ghost use Rattle.std.specs.Prelude.{◌≡◌, ◌⊎◌, IfErr, IfNone, IfOk, MatchOption, None, Ok, Some, false, true};
+ghost use Rattle.std.specs.Prelude.{◌≡◌, ◌⊎◌, ◌<◌, IfErr, IfNone, IfOk, MatchOption, None, Ok, Some, false, true};
 ghost use Rattle.dtx_values.specs.declared.note.Note.{Note};
 ghost use Rattle.dtx_model.specs.Steps.{Replies, pending};
 ghost use Rattle.dtx_model.specs.Words.{kth};
 ghost use Rattle.tx_cells.specs.Cell.{MayReply};
 ghost use Rattle.tx_cells.specs.Entering.{Enters, IsDone, IsKthDone, may_promote_at, next_of, put_off};
 ghost use Rattle.tx_cells.specs.Ties.{IsCause};
-ghost use Rattle.tx_cells.specs.Turns.{is_due, same_note, unmarked, with_tx};
+ghost use Rattle.tx_cells.specs.Turns.{unmarked, with_tx};
 ghost use Rattle.tx_cells.specs.declared.turns.Turned.{Turned};
 ghost use Rattle.tx_world.specs.Stepping.{needs_log};
+ghost use Rattle.world_laws.specs.Left.{steps_left};
+ghost use Rattle.turn_parts.specs.Marks.{is_due, same_note};
 
 use crate::cell::CellState;
 use crate::error::TurnError;
@@ -56,6 +58,7 @@ impl<N: Run> CellState<N> {
         requires lent { IfNone log (needs_log self.old.tx.world k ≡ false) }
         ensures none { result ≡ Ok false → (kth (pending self.old.tx.world) k ≡ None) × (self.new ≡ self.old) }
         ensures some { result ≡ Ok true → IsKthDone k self.old.tx self.new.tx }
+        ensures nearer { result ≡ Ok true → steps_left self.new.tx.world < steps_left self.old.tx.world }
         ensures same { self.new ≡ with_tx self.new.tx self.old }
         ensures cause { IfErr result (λ e. (self.new ≡ self.old) × MatchOption log.entry (e ≡ TurnError.Memory) (λ l. (e ≡ TurnError.Memory) ⊎ IsCause self.old.tx l.now.log e)) }
     {
@@ -82,6 +85,7 @@ impl<N: Run> CellState<N> {
         requires lent { IfNone log (same_note n Note.Promote ≡ false) }
         ensures due { IfOk result (λ b. b ≡ is_due self.old.tx.world (e, n)) }
         ensures done { result ≡ Ok true → IsDone (Replies e r) self.old.tx self.new.tx }
+        ensures nearer { result ≡ Ok true → steps_left self.new.tx.world < steps_left self.old.tx.world }
         ensures unmarked { self.new ≡ with_tx self.new.tx (unmarked (e, n) self.old) }
         ensures late { result ≡ Ok false → self.new.tx ≡ self.old.tx }
         ensures cause { IfErr result (λ x. (self.new.tx ≡ self.old.tx) × MatchOption log.entry (x ≡ TurnError.Memory) (λ l. IsCause self.old.tx l.now.log x)) }

@@ -1,14 +1,16 @@
 //! The calls of a transaction's state that are lent the log's.
-ghost use Rattle.std.specs.Prelude.{◌≡◌, ◌⊎◌, None, Ok, Some, IfErr, IfOk, false, true};
+ghost use Rattle.std.specs.Prelude.{◌≡◌, ◌⊎◌, ◌<◌, ◌≤◌, None, Ok, Some, IfErr, IfOk, IsTrue, false, true};
 ghost use Rattle.dtx_model.specs.Steps.{Replies, pending};
 ghost use Rattle.dtx_model.specs.Words.{kth};
 ghost use Rattle.tx_cells.specs.Cell.{MayReply};
 ghost use Rattle.tx_cells.specs.Entering.{Enters, next_of, put_off};
-ghost use Rattle.tx_cells.specs.LogAnswers.{stop_noted};
 ghost use Rattle.tx_cells.specs.Ties.{IsCause, TiesWith};
-ghost use Rattle.tx_cells.specs.Turns.{is_due, unmarked, with_tx};
+ghost use Rattle.tx_cells.specs.Turns.{unmarked, with_tx};
 ghost use Rattle.tx_cells.specs.declared.turns.Turned.{Turned};
 ghost use Rattle.tx_world.specs.Stepping.{Does, DoesKth};
+ghost use Rattle.world_laws.specs.Left.{steps_left};
+ghost use Rattle.turn_parts.specs.Marks.{is_due};
+ghost use Rattle.turn_parts.specs.Reopening.{stop_noted};
 
 use crate::cell::CellState;
 use crate::error::TurnError;
@@ -52,9 +54,13 @@ impl<N: Run> CellState<N> {
         ensures tied { IfOk result (λ b. TiesWith self.old.tx log.old.log) }
         ensures none { result ≡ Ok false → (kth (pending self.old.tx.world) k ≡ None) × (self.new ≡ self.old) × (log.new ≡ log.old) }
         ensures some { result ≡ Ok true → DoesKth D.faults k self.old.tx log.old.log self.new.tx log.new.log }
+        ensures nearer { result ≡ Ok true → steps_left self.new.tx.world < steps_left self.old.tx.world }
         ensures same { self.new ≡ with_tx self.new.tx self.old }
         ensures rows { log.new.rows ≡ log.old.rows }
         ensures stopped { log.new.past ≡ stop_noted log.old.log.is_up log.new.log.is_up log.old.past }
+        ensures life { log.new.log.life ≡ log.old.log.life }
+        ensures grows { D.faults log.old.log.disk ≤ D.faults log.new.log.disk }
+        ensures still { IsTrue log.new.log.is_up → IsTrue log.old.log.is_up }
         ensures cause { IfErr result (λ e. ((e ≡ TurnError.Memory) ⊎ IsCause self.old.tx log.old.log e) × (self.new ≡ self.old) × (log.new ≡ log.old)) }
     {
         log.step(self, k)
@@ -76,6 +82,7 @@ impl<N: Run> CellState<N> {
         ensures tied { IfOk result (λ b. TiesWith self.old.tx log.now.log) }
         ensures due { IfOk result (λ b. b ≡ is_due self.old.tx.world (e, n)) }
         ensures done { result ≡ Ok true → Does D.faults (Replies e r) self.old.tx log.now.log self.new.tx log.now.log }
+        ensures nearer { result ≡ Ok true → steps_left self.new.tx.world < steps_left self.old.tx.world }
         ensures unmarked { self.new ≡ with_tx self.new.tx (unmarked (e, n) self.old) }
         ensures late { result ≡ Ok false → self.new.tx ≡ self.old.tx }
         ensures cause { IfErr result (λ x. IsCause self.old.tx log.now.log x × (self.new.tx ≡ self.old.tx)) }

@@ -7,15 +7,15 @@ mod cells;
 mod choosing;
 mod error;
 mod lent;
-mod managers;
 mod posting;
+mod promoting;
 mod run;
 mod shared_log;
 mod turns;
 
 pub use board::{BoardNote, Posted};
 pub use cell::CellState;
-pub use cells::{Cells, TxCell, peek_outcome};
+pub use cells::{Cells, TxCell, is_made, peek_outcome};
 pub use error::TurnError;
 pub use run::Run;
 pub use shared_log::{LogState, SharedLog};

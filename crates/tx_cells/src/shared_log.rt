@@ -1,32 +1,38 @@
 //! What lies under the log's lock.
-ghost use Rattle.std.specs.Prelude.{ℕ, ◌≡◌, ◌≢◌, ◌≤◌, ◌<◌, ◌+◌, ◌-◌, ◌^◌, ◌⊎◌, List, [], None, Some, Ok, IfErr, IfOk, IsTrue, OnErr, false, true, vec_capacity, vec_len};
-ghost use Rattle.outside.specs.Disk.{AreWithin};
+ghost use Rattle.std.specs.Prelude.{ℕ, ◌≡◌, ◌≤◌, ◌<◌, ◌-◌, ◌^◌, ◌⊎◌, List, [], None, Some, Ok, IfErr, IfOk, IsTrue, OnErr, false, true};
 ghost use Rattle.dtx_model.specs.Steps.{pending};
 ghost use Rattle.dtx_model.specs.Words.{kth, past_of};
 ghost use Rattle.coordinator_log.specs.Slots.{open_records};
+ghost use Rattle.script_calls.specs.Rows.{are_entered};
 ghost use Rattle.script_calls.specs.SeenRow.{SeenRow};
+ghost use Rattle.dtx_values.specs.declared.number.ActorNo.{ActorNo};
 ghost use Rattle.script_calls.specs.declared.calls.LogCall.{LogCall};
 ghost use Rattle.tx_cells.specs.Cell.{IsThreadable};
-ghost use Rattle.tx_cells.specs.LogAnswers.{opened_where, put_off_at_log, restart_answer, restarted, stop_noted, stopped_where};
+ghost use Rattle.tx_cells.specs.LogAnswers.{put_off_at_log};
 ghost use Rattle.tx_cells.specs.LogCell.{IsLogKept};
-ghost use Rattle.tx_cells.specs.LogEntering.{EntersLog, IsReopened, next_at_log};
+ghost use Rattle.tx_cells.specs.LogEntering.{EntersLog, next_at_log};
 ghost use Rattle.tx_cells.specs.Ties.{IsCause, TiesWith};
 ghost use Rattle.tx_cells.specs.Turns.{with_tx};
 ghost use Rattle.tx_cells.specs.declared.turns.Turned.{Turned};
 ghost use Rattle.tx_world.specs.AtLog.{AtMostOne};
 ghost use Rattle.tx_world.specs.Stepping.{DoesKth};
+ghost use Rattle.world_laws.specs.Left.{steps_left};
+ghost use Rattle.turn_parts.specs.Reopening.{restart_answer, stop_noted};
 
 use crate::cell::CellState;
 use crate::error::TurnError;
 use crate::run::Run;
 use crate::turns::Turned;
-use coordinator_log::{Log, LogRefusal};
+use coordinator_log::Log;
 use dtx_values::{ActorNo, Answer, Entry, Image, LogNote, Script};
 use outside::Disk;
-use script_calls::{LogCall, Rows, log_rows};
+use script_calls::{Due, LogCall, Rows, log_rows};
 use std::alloc::{AllocError, Global};
 use std::marker::{Model, PhantomData};
 use std::sync::Mutex;
+use turn_parts::{reopened, restart_answer, write_restart, write_stop};
+
+mod kept;
 
 /// What lies under the log's lock: the log, the calls of each actor there, and the entries at the log.
 #[derive(Drop)]
@@ -89,9 +95,32 @@ impl<D: Disk, N: Run> LogState<D, N> {
         self.entries.as_slice()
     }
 
+    /// The actor's next call at the log; `None` where none is left.
+    pub fn next(&self, a: ActorNo) -> Option<Due<LogCall>>
+        ensures { result ≡ next_at_log a self.now }
+    {
+        self.rows.next(a)
+    }
+
+    /// Whether each call at the log was entered.
+    pub fn are_entered(&self) -> bool
+        ensures value { result ≡ are_entered self.now.rows }
+        ensures none { ((a : ActorNo) → next_at_log a self.now ≡ None) → are_entered self.now.rows ≡ true }
+    {
+        self.rows.are_all_entered()
+    }
+
+    /// Whether the log is up.
+    pub fn is_up(&self) -> bool
+        ensures { result ≡ self.now.log.is_up }
+    {
+        self.log.is_up()
+    }
+
     /// The log.
-    pub(crate) fn log(&self) -> &Log<D>
+    pub fn log(&self) -> &Log<D>
         ensures same { result.now ≡ self.now.log }
+        ensures honest { D.honest ≡ N.honest }
         ensures once { (id : ℕ) → IsTrue D.honest → IsTrue self.now.log.is_up → AtMostOne id (open_records self.now.log.slots) }
     {
         &self.log
@@ -130,9 +159,13 @@ impl<D: Disk, N: Run> LogState<D, N> {
         ensures tied { IfOk result (λ b. TiesWith cell.old.tx self.old.log) }
         ensures none { result ≡ Ok false → (kth (pending cell.old.tx.world) k ≡ None) × (cell.new ≡ cell.old) × (self.new ≡ self.old) }
         ensures some { result ≡ Ok true → DoesKth D.faults k cell.old.tx self.old.log cell.new.tx self.new.log }
+        ensures nearer { result ≡ Ok true → steps_left cell.new.tx.world < steps_left cell.old.tx.world }
         ensures same { cell.new ≡ with_tx cell.new.tx cell.old }
         ensures rows { self.new.rows ≡ self.old.rows }
         ensures past { self.new.past ≡ stop_noted self.old.log.is_up self.new.log.is_up self.old.past }
+        ensures life { self.new.log.life ≡ self.old.log.life }
+        ensures grows { D.faults self.old.log.disk ≤ D.faults self.new.log.disk }
+        ensures still { IsTrue self.new.log.is_up → IsTrue self.old.log.is_up }
         ensures cause { IfErr result (λ e. ((e ≡ TurnError.Memory) ⊎ IsCause cell.old.tx self.old.log e) × (cell.new ≡ cell.old) × (self.new ≡ self.old)) }
     {
         cell.is_named();
@@ -144,6 +177,20 @@ impl<D: Disk, N: Run> LogState<D, N> {
         let is_up = self.log.is_up();
         write_stop(&mut self.entries, was_up, is_up);
         Ok(true)
+    }
+
+    /// The log, and the entries at it, oldest first.
+    pub fn into_parts(self) -> (Log<D>, Vec<Entry>)
+        ensures log { result.0 ≡ self.log }
+        ensures past { past_of result.1.items ≡ self.past }
+    {
+        let LogState {
+            log,
+            rows: _,
+            entries,
+            of: _,
+        } = self;
+        (log, entries)
     }
 
     /// Enters the actor's next call, which arms a stop.
@@ -219,89 +266,16 @@ impl<D: Disk, N: Run> SharedLog<D, N> {
         &self.lock
     }
 
+    /// What the lock has.
+    pub fn into_state(self) -> LogState<D, N> {
+        let SharedLog { lock } = self;
+        lock.into_inner()
+    }
+
     /// The log, and the entries at it, oldest first. They are what the type of its state keeps.
     pub fn into_parts(self) -> (Log<D>, Vec<Entry>)
         ensures { (rows : List (SeenRow LogCall)) × IsLogKept D.faults D.honest D.image N.script N.honest N.faults (record { log = result.0; rows = rows; past = past_of result.1.items }) }
     {
-        let SharedLog { lock } = self;
-        let LogState {
-            log,
-            rows: _,
-            entries,
-            of: _,
-        } = lock.into_inner();
-        (log, entries)
-    }
-}
-
-/// Stops the log and opens it again.
-fn reopened<D: Disk>(log: &mut Log<D>) -> Result<u16, LogRefusal>
-    requires { log.old.life < 2 ^ 64 - 1 }
-    ensures reopened { IsReopened D.faults D.honest D.seen result log.old log.new }
-    ensures only { IfErr result (λ e. (e ≡ LogRefusal.Fault) ⊎ ((p : ℕ) × (e ≡ LogRefusal.NotALog p))) }
-    ensures grows { D.faults log.old.disk ≤ D.faults log.new.disk }
-    ensures among { IsTrue D.honest → D.image log.old.disk (D.seen log.old.disk) }
-    ensures within { IsTrue D.honest → AreWithin (D.image log.old.disk) (D.image log.new.disk) }
-{
-    log.halt();
-    log.reopen()
-}
-
-/// What a restart is answered.
-fn restart_answer(found: &Result<u16, LogRefusal>) -> Answer
-    ensures { result ≡ restart_answer found.now }
-{
-    match found {
-        Ok(_) => Answer::Fine,
-        Err(LogRefusal::NotALog(place)) => Answer::NotALog(*place),
-        Err(_) => Answer::Fault,
-    }
-}
-
-/// Writes what a restart by a line wrote at the log.
-fn write_restart(
-    entries: &mut Vec<Entry>,
-    line: u32,
-    a: ActorNo,
-    was_up: bool,
-    found: &Result<u16, LogRefusal>,
-)
-    requires { vec_len entries.old + 3 ≤ vec_capacity entries.old }
-    ensures { past_of entries.new.items ≡ restarted line a was_up found.now (past_of entries.old.items) }
-{
-    entries.push_reserved(Entry::Called(line, a, restart_answer(found)));
-    write_stopped(entries, was_up);
-    write_opened(entries, found);
-}
-
-/// Writes `stopped` where the log was up and isn't any more.
-fn write_stop(entries: &mut Vec<Entry>, was_up: bool, is_up: bool)
-    requires { vec_len entries.old + 1 ≤ vec_capacity entries.old }
-    ensures { past_of entries.new.items ≡ stop_noted was_up is_up (past_of entries.old.items) }
-{
-    if was_up && !is_up {
-        entries.push_reserved(Entry::Stopped);
-    }
-}
-
-/// Writes `stopped` where the log was up.
-fn write_stopped(entries: &mut Vec<Entry>, was_up: bool)
-    requires { vec_len entries.old + 1 ≤ vec_capacity entries.old }
-    ensures past { past_of entries.new.items ≡ stopped_where was_up (past_of entries.old.items) }
-    ensures room { vec_len entries.new ≤ vec_len entries.old + 1 }
-    ensures capacity { vec_capacity entries.new ≡ vec_capacity entries.old }
-{
-    if was_up {
-        entries.push_reserved(Entry::Stopped);
-    }
-}
-
-/// Writes `opened` where the log was opened.
-fn write_opened(entries: &mut Vec<Entry>, found: &Result<u16, LogRefusal>)
-    requires { vec_len entries.old + 1 ≤ vec_capacity entries.old }
-    ensures { past_of entries.new.items ≡ opened_where found.now (past_of entries.old.items) }
-{
-    if let Ok(records) = found {
-        entries.push_reserved(Entry::LogWord(LogNote::Opened(*records)));
+        self.into_state().into_parts()
     }
 }

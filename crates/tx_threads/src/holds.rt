@@ -1,53 +1,37 @@
-//! What a thread does with a transaction under its lock, and between two holds.
-ghost use Rattle.std.specs.Prelude.{◌≡◌, ◌≢◌, IfErr, IfSome, IsSome, Ok, false, length, true};
-ghost use Rattle.dtx_model.specs.Replies.{fits};
+//! What a thread does with the state of a transaction that it is lent, inside its lock.
+ghost use Rattle.std.specs.Prelude.{◌≡◌, ◌≢◌, ◌⊎◌, IfErr, IsSome, IsTrue, None, Ok, OnOk, Some, false, true};
+ghost use Rattle.dtx_model.specs.Entries.{client_told_of};
 ghost use Rattle.dtx_model.specs.Steps.{pending};
-ghost use Rattle.dtx_model.specs.Words.{kth};
-ghost use Rattle.tx_cells.specs.Board.{board_of};
-ghost use Rattle.tx_cells.specs.Cell.{MayReply};
+ghost use Rattle.dtx_model.specs.Words.{kth, latest};
+ghost use Rattle.tx_cells.specs.Board.{Post, board_of};
 ghost use Rattle.tx_cells.specs.Entering.{IsKthDone};
+ghost use Rattle.tx_cells.specs.Ties.{IsCause};
 ghost use Rattle.tx_cells.specs.Turns.{with_tx};
+ghost use Rattle.tx_threads.specs.Turning.{MayFail};
 
-use dtx_values::{Differs, EnlNo, Note, Reply, Resource, TxNo};
-use outside::{Disk, Gate};
-use std::sync::{Mutex, Wait};
-use tx_cells::{CellState, Cells, Run, SharedLog, Turn, TurnError};
+use dtx_values::{Differs, EnlNo, Note, TxNo};
+use outside::Disk;
+use std::alloc::Global;
+use std::sync::Wait;
+use tx_cells::{BoardNote, CellState, Cells, LogState, Run, SharedLog, TurnError, peek_outcome};
 
-/// Whether the reply fits the note.
-fn fits(r: Reply, n: Note) -> bool
-    ensures { result ≡ fits r n }
-{
-    matches!(
-        (r, n),
-        (Reply::Vote(_), Note::Prepare)
-            | (Reply::Promote(_), Note::Promote)
-            | (Reply::Owner(_), Note::Hand | Note::Single)
-            | (Reply::Ack, Note::Commit)
-    )
-}
-
-/// What the object of the enlistment's manager replies to the note, while no other lock is held. `None` is the planned reply: there is no object, or it says nothing that fits the note.
-fn ask<N: Run, R: Wait>(
-    rt: &R,
-    cells: &Cells<N>,
-    resources: &[Mutex<Box<dyn Resource + Send>>],
-    t: TxNo,
-    e: EnlNo,
-    n: Note,
-) -> Option<Reply>
-    requires { length resources.now ≡ N.objects }
-    ensures { IfSome result (λ r. MayReply N.script N.objects e n r) }
-{
-    let rm = cells.manager(e)?;
-    let object = resources.get(rm.index())?;
-    let mut held = object.lock(rt);
-    let r = held.on(t, e, n)?;
-    if fits(r, n) { Some(r) } else { None }
+/// What came of a turn inside the lock, and so what is to be done behind it.
+#[derive(Clone, Copy, PartialEq, Eq, Debug)]
+pub(crate) enum Came {
+    /// Nothing was done.
+    Nothing,
+    /// A step was done, and the log is up or stopped as before.
+    Done,
+    /// A step was done, and it stopped the log.
+    Stopped,
+    /// The reply of this enlistment to this note is out, and is to be asked for.
+    Out(EnlNo, Note),
 }
 
 /// That the state is that of this transaction.
-fn is_of<N: Run>(state: &CellState<N>, t: TxNo) -> Result<(), TurnError>
-    ensures { IfErr result (λ e. (e ≡ TurnError.Differs (Differs.Cell t state.now.tx.transaction)) × (state.now.tx.transaction ≢ t)) }
+pub(crate) fn is_of<N: Run>(state: &CellState<N>, t: TxNo) -> Result<(), TurnError>
+    ensures of { OnOk result (state.now.tx.transaction ≡ t) }
+    ensures other { IfErr result (λ e. (e ≡ TurnError.Differs (Differs.Cell t state.now.tx.transaction)) × (state.now.tx.transaction ≢ t)) }
 {
     let found = state.t();
     if found != t {
@@ -56,81 +40,74 @@ fn is_of<N: Run>(state: &CellState<N>, t: TxNo) -> Result<(), TurnError>
     Ok(())
 }
 
+/// Puts what the client was told on the board, inside the lock of the transaction, unless a value is there. Nothing is put where the client wasn't told.
+pub(crate) fn tell<N: Run>(
+    alloc: Global,
+    cells: &Cells<N>,
+    t: TxNo,
+    state: &CellState<N>,
+    note: &mut BoardNote<N>,
+) -> Result<(), TurnError>
+    requires { board_of cells.now t.value ≡ Some note.old.cell }
+    ensures cell { note.new.cell ≡ note.old.cell }
+    ensures memory { IfErr result (λ e. e ≡ TurnError.Memory) }
+    ensures known { OnOk result (IsSome (latest client_told_of state.now.tx.world.past) → (x : Post) × (note.new.known ≡ Some x)) }
+    ensures kept { (x : Post) → note.old.known ≡ Some x → note.new.known ≡ Some x }
+{
+    if let Some(_) = peek_outcome(cells, t, note) {
+        return Ok(());
+    }
+    if let Some(posted) = state.post(alloc)? {
+        cells.cell(t).post(posted, note);
+    }
+    Ok(())
+}
+
+/// Does the k-th pending step, from 1, inside the locks of its transaction and of the log.
+#[tactic(auto, using(tx_cells::proofs::EitherWay::kth_over))]
+fn do_over<D: Disk, N: Run>(
+    state: &mut CellState<N>,
+    log: &mut LogState<D, N>,
+    k: u32,
+) -> Result<Came, TurnError>
+    ensures none { result ≡ Ok Came.Nothing → (kth (pending state.old.tx.world) k ≡ None) × (state.new ≡ state.old) × (log.new ≡ log.old) }
+    ensures done { result ≡ Ok Came.Done → IsKthDone k state.old.tx state.new.tx × (log.new.log.is_up ≡ log.old.log.is_up) }
+    ensures stopped { result ≡ Ok Came.Stopped → IsKthDone k state.old.tx state.new.tx × IsTrue log.old.log.is_up × (log.new.log.is_up ≡ false) }
+    ensures never { (e : EnlNo) (n : Note) → result ≢ Ok (Came.Out e n) }
+    ensures same { state.new ≡ with_tx state.new.tx state.old }
+    ensures life { log.new.log.life ≡ log.old.log.life }
+    ensures cause { IfErr result (λ e. ((e ≡ TurnError.Memory) ⊎ IsCause state.old.tx log.old.log e) × (state.new ≡ state.old) × (log.new ≡ log.old)) }
+{
+    let was_up = log.is_up();
+    if !state.do_step_with(log, k)? {
+        return Ok(Came::Nothing);
+    }
+    if was_up && !log.is_up() {
+        Ok(Came::Stopped)
+    } else {
+        Ok(Came::Done)
+    }
+}
+
 /// Does the k-th pending step, from 1, inside the lock of its transaction. A step that needs the log takes the lock of the log for as long.
-#[tactic(auto, using(tx_cells::proofs::EitherWay::kth_alone, tx_cells::proofs::EitherWay::kth_over))]
-fn do_turn<D: Disk, N: Run, R: Wait>(
+#[tactic(auto, using(tx_cells::proofs::EitherWay::kth_alone))]
+pub(crate) fn do_turn<D: Disk, N: Run, R: Wait>(
     rt: &R,
     state: &mut CellState<N>,
     log: &SharedLog<D, N>,
     k: u32,
-) -> Result<bool, TurnError>
-    ensures none { result ≡ Ok false → (kth (pending state.old.tx.world) k ≡ None) × (state.new ≡ state.old) }
-    ensures some { result ≡ Ok true → IsKthDone k state.old.tx state.new.tx }
+) -> Result<Came, TurnError>
+    ensures none { result ≡ Ok Came.Nothing → (kth (pending state.old.tx.world) k ≡ None) × (state.new ≡ state.old) }
+    ensures done { result ≡ Ok Came.Done → IsKthDone k state.old.tx state.new.tx }
+    ensures stopped { result ≡ Ok Came.Stopped → IsKthDone k state.old.tx state.new.tx }
+    ensures never { (e : EnlNo) (n : Note) → result ≢ Ok (Came.Out e n) }
     ensures same { state.new ≡ with_tx state.new.tx state.old }
+    ensures cause { IfErr result (λ e. MayFail D state.old.tx e × (state.new ≡ state.old)) }
 {
     if !state.needs_log(k) {
-        return state.do_step_alone(k);
+        let is_done = state.do_step_alone(k)?;
+        return Ok(if is_done { Came::Done } else { Came::Nothing });
     }
     let mut held = log.state().lock(rt);
-    state.do_step_with(&mut held, k)
-}
-
-/// Takes back the reply of the enlistment to this note, inside the lock of its transaction: this one, or else the planned one. False where it isn't pending any more. A reply to Promote takes the lock of the log
-/// for as long.
-fn take_reply<D: Disk, N: Run, R: Wait>(
-    rt: &R,
-    state: &mut CellState<N>,
-    log: &SharedLog<D, N>,
-    e: EnlNo,
-    n: Note,
-    reply: Option<Reply>,
-) -> Result<bool, TurnError>
-    requires { IfSome reply (λ r. MayReply N.script N.objects e n r) }
-{
-    let Some(r) = reply else {
-        let Some(k) = state.unmark(e, n) else {
-            return Ok(false);
-        };
-        return do_turn(rt, state, log, k);
-    };
-    if n != Note::Promote {
-        return state.take_back_alone(e, n, r);
-    }
-    let held = log.state().lock(rt);
-    state.take_back_with(&held, e, n, r)
-}
-
-/// Does what is to be done next in the transaction; false where that is nothing. A reply is asked for and brought back between two holds of its lock: the object of the manager is called, where it has one, and then the
-/// gate.
-///
-/// # Errors
-///
-/// [`TurnError::Differs`] where another transaction's state is found, or the log doesn't tie with the transaction, and [`TurnError::Memory`] where memory ran out.
-pub fn help_one<D: Disk, G: Gate, N: Run, R: Wait>(
-    rt: &R,
-    cells: &Cells<N>,
-    log: &SharedLog<D, N>,
-    gate: &G,
-    resources: &[Mutex<Box<dyn Resource + Send>>],
-    t: TxNo,
-) -> Result<bool, TurnError>
-    requires transaction { IsSome (board_of cells.now t.value) }
-    requires resources { length resources.now ≡ N.objects }
-{
-    let cell = cells.cell(t);
-    let mut state = cell.state().lock(rt);
-    is_of(&state, t)?;
-    let (e, n) = match state.next_turn() {
-        Turn::Nothing => return Ok(false),
-        Turn::Step(k) => return do_turn(rt, &mut state, log, k),
-        Turn::Ask(e, n) => (e, n),
-    };
-    state.mark_out(e, n)?;
-    drop(state);
-    let reply = ask(rt, cells, resources, t, e, n);
-    gate.at(t.get() as u16, e.get() as u16);
-    let mut state = cell.state().lock(rt);
-    is_of(&state, t)?;
-    take_reply(rt, &mut state, log, e, n, reply)?;
-    Ok(true)
+    do_over(state, &mut held, k)
 }

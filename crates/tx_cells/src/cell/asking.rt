@@ -1,13 +1,16 @@
 //! What is to be done next, and replies that are out.
-ghost use Rattle.std.specs.Prelude.{◌≡◌, ◌++◌, ◌∷◌, [], Ok, IfErr, IfOk, IfSome, OnOk, is_some, true, false};
+ghost use Rattle.std.specs.Prelude.{◌≡◌, ◌<◌, ◌&&◌, ◌++◌, ◌∷◌, [], Ok, IfErr, IfOk, IfSome, OnOk, is_some, length, true, false};
 ghost use Rattle.dtx_values.specs.declared.note.Note.{Note};
+ghost use Rattle.dtx_model.specs.Outcome.{is_empty};
 ghost use Rattle.dtx_model.specs.Steps.{Replies, pending};
 ghost use Rattle.dtx_model.specs.Words.{kth};
 ghost use Rattle.tx_cells.specs.Cell.{MayReply};
 ghost use Rattle.tx_cells.specs.Ties.{IsCause, TiesWith};
-ghost use Rattle.tx_cells.specs.Turns.{is_due, is_out, is_that, is_to, same_note, taken_off, turn_of, unmarked, with_tx};
+ghost use Rattle.tx_cells.specs.Turns.{turn_of, unmarked, with_tx};
 ghost use Rattle.tx_world.specs.OwnCalls.{DoesAlone};
-ghost use Rattle.tx_world.specs.Stepping.{Does, is_to_promote, reply_in};
+ghost use Rattle.tx_world.specs.Stepping.{Does, reply_in};
+ghost use Rattle.world_laws.specs.Left.{steps_left};
+ghost use Rattle.turn_parts.specs.Marks.{is_due, is_out, is_that, same_note};
 
 use super::CellState;
 use crate::error::TurnError;
@@ -16,68 +19,30 @@ use crate::turns::Turn;
 use coordinator_log::Log;
 use dtx_values::{EnlNo, Note, Reply};
 use outside::Disk;
-use tx_world::TxWorld;
-
-/// Whether both are the same note.
-fn same_note(a: Note, b: Note) -> bool
-    ensures { result ≡ same_note a b }
-{
-    a == b
-}
-
-/// Whether it is a reply of this enlistment to this note.
-fn is_to(x: (EnlNo, Note), y: (EnlNo, Note)) -> bool
-    ensures { result ≡ is_to x y }
-{
-    x.0 == y.0 && same_note(x.1, y.1)
-}
-
-/// Whether it is a reply of this enlistment to this note, where there is one.
-fn is_that(x: (EnlNo, Note), y: Option<(EnlNo, Note)>) -> bool
-    ensures { result ≡ is_that x y }
-{
-    match y {
-        Some(y) => is_to(x, y),
-        None => false,
-    }
-}
-
-/// Whether the reply is out.
-fn is_out(out: &[(EnlNo, Note)], x: (EnlNo, Note)) -> bool
-    ensures { result ≡ is_out out.now x }
-{
-    out.iter().any(|y| is_to(x, *y))
-}
-
-/// Takes the mark of a reply off.
-fn take_off(out: &mut Vec<(EnlNo, Note)>, x: (EnlNo, Note))
-    ensures { out.new.items ≡ taken_off x out.old.items }
-{
-    out.retain(|y| !is_to(x, *y));
-}
-
-/// The place of the pending reply of the enlistment to this note, from 1; `None` where none is pending.
-fn place_of(world: &TxWorld, x: (EnlNo, Note)) -> Option<u32>
-    ensures due { is_some result ≡ is_due world.now.world x }
-    ensures place { IfSome result (λ k. is_that x (reply_in world.now.world (kth (pending world.now.world) k)) ≡ true) }
-{
-    let count = world.pending();
-    for k in 0..count {
-        if is_that(x, world.due_at(k + 1)) {
-            return Some(k + 1);
-        }
-    }
-    None
-}
-
-/// Whether a reply of the enlistment to this note is pending.
-fn is_due(world: &TxWorld, x: (EnlNo, Note)) -> bool
-    ensures { result ≡ is_due world.now.world x }
-{
-    place_of(world, x).is_some()
-}
+use turn_parts::{is_due, is_out, place_of, take_off};
 
 impl<N: Run> CellState<N> {
+    /// How many steps are pending.
+    pub fn pending(&self) -> u32
+        ensures { result ≡ length (pending self.now.tx.world) }
+    {
+        self.world.pending()
+    }
+
+    /// The enlistment and the note of the k-th pending step, from 1, where that step is a reply.
+    pub fn due_at(&self, k: u32) -> Option<(EnlNo, Note)>
+        ensures { result ≡ reply_in self.now.tx.world (kth (pending self.now.tx.world) k) }
+    {
+        self.world.due_at(k)
+    }
+
+    /// Whether nothing is pending and no reply is out.
+    pub fn is_quiet(&self) -> bool
+        ensures { result ≡ (is_empty (pending self.now.tx.world) && is_empty self.now.out) }
+    {
+        self.world.pending() == 0 && self.out.is_empty()
+    }
+
     /// What is to be done next: the first pending step that isn't a reply that is out.
     pub fn next_turn(&self) -> Turn
         ensures { result ≡ turn_of self.now }
@@ -129,6 +94,7 @@ impl<N: Run> CellState<N> {
         requires alone { same_note n Note.Promote ≡ false }
         ensures due { IfOk result (λ b. b ≡ is_due self.old.tx.world (e, n)) }
         ensures done { result ≡ Ok true → DoesAlone (Replies e r) self.old.tx self.new.tx }
+        ensures nearer { result ≡ Ok true → steps_left self.new.tx.world < steps_left self.old.tx.world }
         ensures unmarked { self.new ≡ with_tx self.new.tx (unmarked (e, n) self.old) }
         ensures late { result ≡ Ok false → self.new.tx ≡ self.old.tx }
         ensures ours { (self.new.tx.ours ≡ self.old.tx.ours) × (self.new.tx.unsure ≡ self.old.tx.unsure) }
@@ -159,6 +125,7 @@ impl<N: Run> CellState<N> {
         ensures tied { IfOk result (λ b. TiesWith self.old.tx log.now) }
         ensures due { IfOk result (λ b. b ≡ is_due self.old.tx.world (e, n)) }
         ensures done { result ≡ Ok true → Does D.faults (Replies e r) self.old.tx log.now self.new.tx log.now }
+        ensures nearer { result ≡ Ok true → steps_left self.new.tx.world < steps_left self.old.tx.world }
         ensures unmarked { self.new ≡ with_tx self.new.tx (unmarked (e, n) self.old) }
         ensures late { result ≡ Ok false → self.new.tx ≡ self.old.tx }
         ensures ours { (self.new.tx.ours ≡ self.old.tx.ours) × (self.new.tx.unsure ≡ self.old.tx.unsure) }

@@ -1,5 +1,5 @@
 //! Doing a pending step.
-ghost use Rattle.std.specs.Prelude.{◌≡◌, ◌≤◌, None, Ok, IfErr, IfOk, OnOk, IsTrue, true, false};
+ghost use Rattle.std.specs.Prelude.{◌≡◌, ◌<◌, ◌≤◌, None, Ok, IfErr, IfOk, OnOk, IsTrue, true, false};
 ghost use Rattle.coordinator_log.specs.Slots.{open_records};
 ghost use Rattle.dtx_model.specs.Steps.{pending};
 ghost use Rattle.dtx_model.specs.Words.{kth};
@@ -8,6 +8,7 @@ ghost use Rattle.tx_cells.specs.Turns.{with_tx};
 ghost use Rattle.tx_world.specs.AtLog.{AtMostOne, KeepsLog, KeepsSlots, id_of};
 ghost use Rattle.tx_world.specs.OwnCalls.{DoesKthAlone};
 ghost use Rattle.tx_world.specs.Stepping.{DoesKth, needs_log};
+ghost use Rattle.world_laws.specs.Left.{steps_left};
 
 use super::CellState;
 use crate::error::TurnError;
@@ -32,6 +33,7 @@ impl<N: Run> CellState<N> {
         requires alone { needs_log self.old.tx.world k ≡ false }
         ensures none { result ≡ Ok false → (kth (pending self.old.tx.world) k ≡ None) × (self.new ≡ self.old) }
         ensures some { result ≡ Ok true → DoesKthAlone k self.old.tx self.new.tx }
+        ensures nearer { result ≡ Ok true → steps_left self.new.tx.world < steps_left self.old.tx.world }
         ensures same { self.new ≡ with_tx self.new.tx self.old }
         ensures ours { (self.new.tx.ours ≡ self.old.tx.ours) × (self.new.tx.unsure ≡ self.old.tx.unsure) }
         ensures memory { IfErr result (λ e. (e ≡ TurnError.Memory) × (self.new ≡ self.old)) }
@@ -57,6 +59,7 @@ impl<N: Run> CellState<N> {
         ensures tied { IfOk result (λ b. TiesWith self.old.tx log.old) }
         ensures none { result ≡ Ok false → (kth (pending self.old.tx.world) k ≡ None) × (self.new ≡ self.old) × (log.new ≡ log.old) }
         ensures some { result ≡ Ok true → DoesKth D.faults k self.old.tx log.old self.new.tx log.new }
+        ensures nearer { result ≡ Ok true → steps_left self.new.tx.world < steps_left self.old.tx.world }
         ensures same { self.new ≡ with_tx self.new.tx self.old }
         ensures kept { OnOk result (IsTrue D.honest → KeepsLog D.image self.old.tx log.old self.new.tx log.new) }
         ensures slots { KeepsSlots self.old.tx log.old self.new.tx log.new }

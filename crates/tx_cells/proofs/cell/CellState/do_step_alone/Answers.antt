@@ -7,5 +7,5 @@ pub invariant_of-self-2 : goal.invariant_of-self-2
 invariant_of-self-2 g c =
     let does = c.step_alone.ensures.some (c.in_ok-step_alone.was ∙ ap Ok c.if-not-branch.false) in (
       c.self.invariant.0 ∙ sym does.done.transaction,
-      kept_alone g.N.Run.script g.N.Run.objects c.self.inside.world c.step_alone.new.self c.self.inside.rows c.args.k c.self.invariant.1 c.is_own_run.ensures.run does,
+      kept_alone g.N.Run.script g.N.Run.objects g.N.Run.honest c.self.inside.world c.step_alone.new.self c.self.inside.rows c.args.k c.self.invariant.1 c.is_own_run.ensures.run does,
     )

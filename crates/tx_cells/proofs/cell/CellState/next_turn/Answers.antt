@@ -1,7 +1,7 @@
 use Rattle.std.proofs.Common.{arith, sym, ap, ◌∙◌}
-use Rattle.tx_cells.specs.Turns.{is_out}
 use Rattle.tx_cells.proofs.Turning.{IsAtTurn, turn_ask, turn_on, turn_step_there}
 use Rattle.tx_cells.proofs.cell.CellState.next_turn.Goals as goal
+use Rattle.turn_parts.specs.Marks.{is_out}
 
 pub returns-in_default : goal.returns-in_default
 returns-in_default g c =

@@ -3,12 +3,12 @@ use Rattle.dtx_values.specs.declared.entry.Entry.{Entry}
 use Rattle.dtx_model.specs.Words.{past_of}
 use Rattle.script_calls.specs.Rows.{next_in, row_at}
 use Rattle.script_calls.specs.declared.calls.LogCall.TheVariants.{Restart}
-use Rattle.tx_cells.specs.LogAnswers.{restart_answer, restarted}
 use Rattle.tx_cells.specs.LogCell.{IsLogKept, LogCell}
 use Rattle.tx_cells.specs.LogEntering.{next_at_log}
 use Rattle.tx_cells.proofs.LogKept.{kept_restarted, lines_restarted}
 use Rattle.tx_cells.proofs.LogOrder.{prefix_next}
 use Rattle.tx_cells.proofs.shared_log.LogState.enter_restart.Goals as goal
+use Rattle.turn_parts.specs.Reopening.{restart_answer, restarted}
 
 pub invariant_of-self-2 : goal.invariant_of-self-2
 invariant_of-self-2 g c =

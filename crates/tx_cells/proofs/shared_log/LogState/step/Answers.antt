@@ -1,9 +1,9 @@
 use Rattle.std.proofs.Common.{◌≡◌, Bool, true, List, Ok, ap, rules, ◌∙◌}
 use Rattle.dtx_values.specs.declared.entry.Entry.{Entry}
 use Rattle.dtx_model.specs.Words.{past_of}
-use Rattle.tx_cells.specs.LogAnswers.{stop_noted}
 use Rattle.tx_cells.proofs.LogStep.{StepsOver, kept_step}
 use Rattle.tx_cells.proofs.shared_log.LogState.step.Goals as goal
+use Rattle.turn_parts.specs.Reopening.{stop_noted}
 
 pub invariant_of-self-2 : goal.invariant_of-self-2
 invariant_of-self-2 g c =

@@ -1,0 +1,164 @@
+//! What each thread of a run does.
+ghost use Rattle.std.specs.Prelude.{◌≡◌, IfOk, IsSome, length};
+ghost use Rattle.std.specs.List.{All};
+ghost use Rattle.tx_cells.specs.Board.{board_of};
+ghost use Rattle.tx_threads.specs.Turning.{is_await_at};
+
+use crate::contexts::{ToDo, What};
+use dtx_values::{ActorNo, Body, Line, Resource, TxNo};
+use outside::{Disk, Gate};
+use std::alloc::{AllocError, Global};
+use std::sync::atomic::{AtomicU64, Ordering};
+use std::sync::{Mutex, Wait};
+use std::thread;
+use tx_threads::{Cells, Run, SharedLog, TurnError, await_as, call_as, call_at_log, help_one};
+
+/// What the threads of a run share.
+#[derive(Drop)]
+pub(super) struct Shared<'a, D: Disk, G: Gate, N: Run> {
+    pub(super) lines: &'a [Line],
+    pub(super) cells: &'a Cells<N>,
+    pub(super) log: &'a SharedLog<D, N>,
+    pub(super) gate: &'a G,
+    pub(super) resources: &'a [Mutex<Box<dyn Resource + Send>>],
+}
+
+/// How often a helper looks for something to do, at most.
+const TURNS: u32 = 1_000_000;
+
+/// Whether line n is an await.
+fn is_await(s: &[Line], n: u32) -> bool
+    ensures { result ≡ is_await_at s.now n }
+{
+    if n == 0 {
+        return false;
+    }
+    match s.get(n as usize - 1) {
+        Some(l) => matches!(l.body, Body::Await(_)),
+        None => false,
+    }
+}
+
+/// Makes a call, at its transaction or at the log. One that isn't the actor's next there is left out: the caller of the run enters it afterwards.
+///
+/// # Errors
+///
+/// As `call_as`, `await_as` and `call_at_log`.
+pub(super) fn call<D: Disk, G: Gate, N: Run, R: Wait>(
+    rt: &R,
+    alloc: Global,
+    x: &Shared<D, G, N>,
+    due: ToDo,
+) -> Result<(), TurnError>
+    requires named { x.now.lines.now ≡ N.script }
+    requires objects { length x.now.resources.now ≡ N.objects }
+{
+    let (a, line) = (due.actor, due.line);
+    match due.what {
+        What::AtLog => {
+            call_at_log(rt, alloc, x.cells, x.log, a, line)?;
+        }
+        What::Call(t) => {
+            if x.cells.has(t) {
+                call_as(rt, alloc, x.cells, x.log, x.gate, x.resources, a, line, t)?;
+            }
+        }
+        What::Await(t) => {
+            if !x.cells.has(t) {
+                return Ok(());
+            }
+            if !is_await(x.lines, line) {
+                return Ok(());
+            }
+            let mut note = x.cells.note_of(t);
+            await_as(
+                rt, alloc, x.cells, x.log, x.gate, x.resources, &mut note, a, line, t,
+            )?;
+        }
+    }
+    Ok(())
+}
+
+/// Makes an actor's calls, in order.
+///
+/// # Errors
+///
+/// As `call`.
+pub(super) fn act<D: Disk, G: Gate, N: Run, R: Wait>(
+    rt: &R,
+    alloc: Global,
+    x: &Shared<D, G, N>,
+    to_do: &[ToDo],
+    a: ActorNo,
+) -> Result<(), TurnError>
+    requires named { x.now.lines.now ≡ N.script }
+    requires objects { length x.now.resources.now ≡ N.objects }
+{
+    for due in to_do {
+        if due.actor == a {
+            call(rt, alloc, x, *due)?;
+        }
+    }
+    Ok(())
+}
+
+/// The transactions of the run, by number.
+///
+/// # Errors
+///
+/// Where memory ran out.
+pub(super) fn transactions<N: Run>(
+    alloc: Global,
+    cells: &Cells<N>,
+) -> Result<Vec<TxNo>, AllocError>
+    ensures { IfOk result (λ v. All (λ t. IsSome (board_of cells.now t.value)) v.items) }
+{
+    let mut transactions = Vec::new(alloc);
+    for n in 1..TxNo::MAX + 1 {
+        let t = TxNo::new(n).unwrap();
+        if cells.has(t) {
+            transactions.push(t)?;
+        }
+    }
+    Ok(transactions)
+}
+
+/// Does pending steps, of one transaction after the other, until so many actors have ended. After a round in which nothing was to be done it lets others go first.
+///
+/// # Errors
+///
+/// As `help_one`.
+pub(super) fn help<D: Disk, G: Gate, N: Run, R: Wait>(
+    rt: &R,
+    alloc: Global,
+    x: &Shared<D, G, N>,
+    transactions: &[TxNo],
+    ended: &AtomicU64,
+    actors: u64,
+) -> Result<(), TurnError>
+    requires transactions { All (λ t. IsSome (board_of x.now.cells.now t.value)) transactions.now }
+    requires objects { length x.now.resources.now ≡ N.objects }
+{
+    let count = transactions.len();
+    if count == 0 {
+        return Ok(());
+    }
+    let mut did = false;
+    for turn in 0..TURNS {
+        if ended.load(Ordering::SeqCst) >= actors {
+            break;
+        }
+        let place = turn as usize % count;
+        let t = transactions[place];
+        if help_one(rt, alloc, x.cells, x.log, x.gate, x.resources, t)? {
+            did = true;
+        }
+        if place + 1 == count {
+            if !did {
+                thread::yield_now();
+            }
+            did = false;
+        }
+    }
+    Ok(())
+}

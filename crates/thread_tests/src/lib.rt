@@ -1,0 +1,22 @@
+//! Tests of runs on threads, through public calls alone: of the turns under the locks, and of whole runs. They stand apart from the crates that they test, since a crate with tests
+//! is proved twice.
+#![tactic(auto)]
+
+#[cfg(test)]
+mod boards;
+#[cfg(test)]
+mod calls;
+#[cfg(test)]
+mod flags;
+#[cfg(test)]
+mod gates;
+#[cfg(test)]
+mod objects;
+#[cfg(test)]
+mod runs;
+#[cfg(test)]
+mod scripts;
+#[cfg(test)]
+mod slow_disk;
+#[cfg(test)]
+mod turns;

@@ -1,9 +1,0 @@
-use Rattle.std.proofs.Common.{◌≡◌, Some, drop}
-use Rattle.dtx_model.specs.Words.{has}
-use Rattle.dtx_model.specs.Steps.{pending}
-use Rattle.tx_world.specs.Stepping.{reply_in}
-use Rattle.tx_cells.specs.Turns.{is_due, is_that}
-use Rattle.tx_cells.proofs.cell.asking.place_of.Given as goal
-
-abbrev pub invariant-loop-k : goal.invariant-loop-k
-invariant-loop-k l = has (λ m. is_that l.x (reply_in l.world.world (Some m))) (drop l.k (pending l.world.world)) ≡ is_due l.world.world l.x

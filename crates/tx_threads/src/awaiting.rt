@@ -1,0 +1,110 @@
+//! A call that waits for the outcome.
+ghost use Rattle.std.specs.Prelude.{◌≡◌, ◌&&◌, IfErr, IsSome, None, Ok, Some, false, is_some, length, not, true};
+ghost use Rattle.dtx_values.specs.declared.entry.Answer.{Answer};
+ghost use Rattle.dtx_values.specs.declared.words.Outcome.{Outcome};
+ghost use Rattle.dtx_model.specs.Entries.{client_told_of};
+ghost use Rattle.dtx_model.specs.Words.{latest};
+ghost use Rattle.tx_cells.specs.Board.{Post, board_of};
+ghost use Rattle.tx_cells.specs.Entering.{Enters};
+ghost use Rattle.tx_cells.specs.declared.turns.Turned.{Turned};
+ghost use Rattle.tx_threads.specs.Turning.{is_await_at, is_of_line, is_quiet};
+ghost use Rattle.tx_world.specs.OwnCalls.{DoesAlone};
+
+use crate::holds::{is_of, tell};
+use crate::turning::{begin_turn, end_turn};
+use dtx_values::{ActorNo, Call, Resource, TxNo};
+use outside::{Disk, Gate};
+use script_calls::Due;
+use std::alloc::Global;
+use std::sync::{Mutex, Wait};
+use std::thread;
+use tx_cells::{BoardNote, CellState, Cells, Run, SharedLog, TurnError, Turned, peek_outcome};
+
+/// Whether the transaction goes on: the client wasn't told, and a step is pending or a reply is out.
+#[tactic(auto, unfolding(dtx_model::specs::Observed::observe))]
+fn goes_on<N: Run>(state: &CellState<N>) -> bool
+    ensures { result ≡ (not (is_some (latest client_told_of state.now.tx.world.past)) && not (is_quiet state.now)) }
+{
+    state.told().is_none() && !state.is_quiet()
+}
+
+/// Whether the next call is that of this line.
+fn is_of_line(next: &Option<Due<Call>>, line: u32) -> bool
+    ensures { result ≡ is_of_line line next.now }
+{
+    match next {
+        Some(due) => due.line == line,
+        None => false,
+    }
+}
+
+/// Enters the actor's await inside the lock of its transaction, unless that goes on: the client wasn't told, and a step is pending or a reply is out. Where the client was told, the board has that then, and the note knows it.
+fn enter_await<N: Run>(
+    alloc: Global,
+    cells: &Cells<N>,
+    note: &mut BoardNote<N>,
+    state: &mut CellState<N>,
+    a: ActorNo,
+    line: u32,
+    t: TxNo,
+) -> Result<Turned, TurnError>
+    requires board { board_of cells.now t.value ≡ Some note.old.cell }
+    requires awaits { is_await_at N.script line ≡ true }
+    ensures cell { note.new.cell ≡ note.old.cell }
+    ensures known { (o : Outcome) → result ≡ Ok (Turned.Did (Answer.OutcomeIs o)) → (x : Post) × (note.new.known ≡ Some x) }
+    ensures kept { (x : Post) → note.old.known ≡ Some x → note.new.known ≡ Some x }
+    ensures entered { (x : Answer) → result ≡ Ok (Turned.Did x) → Enters DoesAlone a line (Turned.Did x) state.old state.new }
+    ensures open { result ≡ Ok (Turned.Did Answer.StillOpen) → (latest client_told_of state.old.tx.world.past ≡ None) × (is_quiet state.old ≡ true) }
+    ensures later { result ≡ Ok Turned.Later → (latest client_told_of state.old.tx.world.past ≡ None) × (is_quiet state.old ≡ false) × (state.new ≡ state.old) }
+    ensures memory { IfErr result (λ e. (e ≡ TurnError.Memory) × (state.new ≡ state.old)) }
+{
+    tell(alloc, cells, t, state, note)?;
+    let next = state.next(a);
+    if goes_on(state) && is_of_line(&next, line) {
+        return Ok(Turned::Later);
+    }
+    state.enter_alone(a, line)
+}
+
+/// Waits for the outcome of the transaction, and then enters the actor's next call there, which is the await of this line. Until then it does pending steps, one a hold of the lock, and waits while a reply is out. The board
+/// is seen first. The hold that enters the call first puts on the board what the client was told, unless a value is there: so where the answer is an outcome, the note knows it. The answer is that the transaction is still
+/// open only where nothing was pending, no reply was out, and the client wasn't told.
+///
+/// # Errors
+///
+/// [`TurnError::Differs`] where another transaction's state is found, or the log doesn't tie with a transaction, and [`TurnError::Memory`] where memory ran out.
+pub fn await_as<D: Disk, G: Gate, N: Run, R: Wait>(
+    rt: &R,
+    alloc: Global,
+    cells: &Cells<N>,
+    log: &SharedLog<D, N>,
+    gate: &G,
+    resources: &[Mutex<Box<dyn Resource + Send>>],
+    note: &mut BoardNote<N>,
+    a: ActorNo,
+    line: u32,
+    t: TxNo,
+) -> Result<Turned, TurnError>
+    requires transaction { board_of cells.now t.value ≡ Some note.old.cell }
+    requires resources { length resources.now ≡ N.objects }
+    requires awaits { is_await_at N.script line ≡ true }
+    ensures cell { note.new.cell ≡ note.old.cell }
+    ensures known { (o : Outcome) → result ≡ Ok (Turned.Did (Answer.OutcomeIs o)) → (x : Post) × (note.new.known ≡ Some x) }
+    ensures kept { (x : Post) → note.old.known ≡ Some x → note.new.known ≡ Some x }
+{
+    let _ = peek_outcome(cells, t, note);
+    for _ in rt.forever() {
+        let mut state = cells.cell(t).state().lock(rt);
+        is_of(&state, t)?;
+        let turned = enter_await(alloc, cells, note, &mut state, a, line, t)?;
+        if turned != Turned::Later {
+            return Ok(turned);
+        }
+        let came = begin_turn(rt, alloc, cells, log, note, &mut state, t)?;
+        drop(state);
+        if !end_turn(rt, alloc, cells, log, gate, resources, t, came)? {
+            thread::yield_now();
+        }
+    }
+    unreachable!()
+}

@@ -1,0 +1,116 @@
+//! One turn of a thread: what is to be done next in a transaction.
+ghost use Rattle.std.specs.Prelude.{◌≡◌, IfErr, IfOk, IsSome, Ok, OnOk, Some, length};
+ghost use Rattle.dtx_model.specs.Entries.{client_told_of};
+ghost use Rattle.dtx_model.specs.Words.{latest};
+ghost use Rattle.tx_cells.specs.Board.{Post, board_of};
+ghost use Rattle.tx_cells.specs.Turns.{turn_of};
+ghost use Rattle.tx_cells.specs.declared.turns.Turn.{Turn};
+ghost use Rattle.tx_threads.specs.Turning.{HasStepped, MayFail, is_turned, marked};
+
+use crate::hearing::go_round;
+use crate::holds::{Came, do_turn, is_of, tell};
+use crate::replying::bring_back;
+use dtx_values::{EnlNo, Note, Resource, TxNo};
+use outside::{Disk, Gate};
+use std::alloc::Global;
+use std::sync::{Mutex, Wait};
+use tx_cells::{BoardNote, CellState, Cells, Run, SharedLog, Turn, TurnError};
+
+/// Does what is to be done next in the transaction, inside its lock: the step, or marks the reply as out that is to be asked for.
+fn do_next<D: Disk, N: Run, R: Wait>(
+    rt: &R,
+    log: &SharedLog<D, N>,
+    state: &mut CellState<N>,
+) -> Result<Came, TurnError>
+    ensures nothing { result ≡ Ok Came.Nothing → (turn_of state.old ≡ Turn.Nothing) × (state.new ≡ state.old) }
+    ensures exactly { turn_of state.old ≡ Turn.Nothing → result ≡ Ok Came.Nothing }
+    ensures done { result ≡ Ok Came.Done → HasStepped state.old state.new }
+    ensures stopped { result ≡ Ok Came.Stopped → HasStepped state.old state.new }
+    ensures out { (e : EnlNo) (n : Note) → result ≡ Ok (Came.Out e n) → (turn_of state.old ≡ Turn.Ask e n) × (state.new ≡ marked (e, n) state.old) }
+    ensures cause { IfErr result (λ e. MayFail D state.old.tx e × (state.new ≡ state.old)) }
+{
+    match state.next_turn() {
+        Turn::Nothing => Ok(Came::Nothing),
+        Turn::Step(k) => do_turn(rt, state, log, k),
+        Turn::Ask(e, n) => {
+            state.mark_out(e, n)?;
+            Ok(Came::Out(e, n))
+        }
+    }
+}
+
+/// Begins a turn inside the lock of the transaction: does what is to be done next there, and puts on the board what its client was told, unless a value is there.
+pub(crate) fn begin_turn<D: Disk, N: Run, R: Wait>(
+    rt: &R,
+    alloc: Global,
+    cells: &Cells<N>,
+    log: &SharedLog<D, N>,
+    note: &mut BoardNote<N>,
+    state: &mut CellState<N>,
+    t: TxNo,
+) -> Result<Came, TurnError>
+    requires { board_of cells.now t.value ≡ Some note.old.cell }
+    ensures nothing { result ≡ Ok Came.Nothing → (turn_of state.old ≡ Turn.Nothing) × (state.new ≡ state.old) }
+    ensures exactly { turn_of state.old ≡ Turn.Nothing → IfOk result (λ c. c ≡ Came.Nothing) }
+    ensures done { result ≡ Ok Came.Done → HasStepped state.old state.new }
+    ensures stopped { result ≡ Ok Came.Stopped → HasStepped state.old state.new }
+    ensures out { (e : EnlNo) (n : Note) → result ≡ Ok (Came.Out e n) → (turn_of state.old ≡ Turn.Ask e n) × (state.new ≡ marked (e, n) state.old) }
+    ensures cell { note.new.cell ≡ note.old.cell }
+    ensures known { OnOk result (IsSome (latest client_told_of state.new.tx.world.past) → (x : Post) × (note.new.known ≡ Some x)) }
+    ensures kept { (x : Post) → note.old.known ≡ Some x → note.new.known ≡ Some x }
+    ensures cause { IfErr result (MayFail D state.old.tx) }
+{
+    let came = do_next(rt, log, state)?;
+    tell(alloc, cells, t, state, note)?;
+    Ok(came)
+}
+
+/// Goes on behind the lock in which a turn was begun, while none is held: where the turn stopped the log each transaction hears that, and a reply that is out is asked for and brought back. False where the turn did nothing.
+pub(crate) fn end_turn<D: Disk, G: Gate, N: Run, R: Wait>(
+    rt: &R,
+    alloc: Global,
+    cells: &Cells<N>,
+    log: &SharedLog<D, N>,
+    gate: &G,
+    resources: &[Mutex<Box<dyn Resource + Send>>],
+    t: TxNo,
+    came: Came,
+) -> Result<bool, TurnError>
+    requires transaction { IsSome (board_of cells.now t.value) }
+    requires resources { length resources.now ≡ N.objects }
+    ensures { IfOk result (λ b. b ≡ is_turned came) }
+{
+    match came {
+        Came::Nothing => return Ok(false),
+        Came::Done => {}
+        Came::Stopped => go_round(rt, alloc, cells, log)?,
+        Came::Out(e, n) => bring_back(rt, alloc, cells, log, gate, resources, t, e, n)?,
+    }
+    Ok(true)
+}
+
+/// Does what is to be done next in the transaction; false where that is nothing. A reply is asked for and brought back between two holds of its lock: the object of the manager is called, where it has one, and then the
+/// gate. Where a step stopped the log, each transaction hears that behind the lock. What the client was told is put on the board in the hold that tells it.
+///
+/// # Errors
+///
+/// [`TurnError::Differs`] where another transaction's state is found, or the log doesn't tie with a transaction, and [`TurnError::Memory`] where memory ran out.
+pub fn help_one<D: Disk, G: Gate, N: Run, R: Wait>(
+    rt: &R,
+    alloc: Global,
+    cells: &Cells<N>,
+    log: &SharedLog<D, N>,
+    gate: &G,
+    resources: &[Mutex<Box<dyn Resource + Send>>],
+    t: TxNo,
+) -> Result<bool, TurnError>
+    requires transaction { IsSome (board_of cells.now t.value) }
+    requires resources { length resources.now ≡ N.objects }
+{
+    let mut state = cells.cell(t).state().lock(rt);
+    is_of(&state, t)?;
+    let mut note = cells.note_of(t);
+    let came = begin_turn(rt, alloc, cells, log, &mut note, &mut state, t)?;
+    drop(state);
+    end_turn(rt, alloc, cells, log, gate, resources, t, came)
+}
