@@ -78,33 +78,55 @@ fn come_to(ends: &[Result<(), TurnError>]) -> Result<(), RunStop>
     Ok(())
 }
 
-/// Makes the calls of each of these actors on a thread of its own, the first threads, and helps on the others, in these transactions; what each came to.
+/// The threads of a run: the first are those of these actors, the others are helpers.
+#[derive(Drop)]
+struct Crew<'a, D: Disk, G: Gate, N: Run> {
+    shared: &'a Shared<'a, D, G, N>,
+    to_do: &'a [ToDo],
+    actors: &'a [ActorNo],
+    /// Those of the run.
+    transactions: &'a [TxNo],
+    /// How many actors have ended.
+    ended: &'a AtomicU64,
+}
+
+/// What the j-th thread does: it makes its actor's calls, or helps.
+fn work<N: Run, D: Disk, G: Gate, R: Wait>(
+    rt: &R,
+    alloc: Global,
+    crew: &Crew<D, G, N>,
+    j: usize,
+) -> Result<(), TurnError>
+    requires named { crew.now.shared.now.lines.now ≡ N.script }
+    requires objects { length crew.now.shared.now.resources.now ≡ N.objects }
+    requires transactions { All (λ t. IsSome (board_of crew.now.shared.now.cells.now t.value)) crew.now.transactions.now }
+{
+    let actors = crew.actors.len();
+    if j < actors {
+        let end = act(rt, alloc, crew.shared, crew.to_do, crew.actors[j]);
+        crew.ended.fetch_add(1, Ordering::SeqCst);
+        return end;
+    }
+    help(rt, alloc, crew.shared, crew.transactions, crew.ended, actors as u64)
+}
+
+/// What each of so many threads came to.
 ///
-/// An actor that can't have a thread has its calls made by the caller, before those of the actors behind it and before the helpers: so nobody is waited for who comes later.
+/// Where a thread can't be made, the caller does its work, before that of the threads behind it: so an actor that has none waits for no helper, and a helper that has none ends at its first look.
 fn ends_of<N: Run + Send + Sync, D: Disk + Send, G: Gate + Sync, R: Threads + Wait + Sync>(
     rt: &R,
     alloc: Global,
-    x: &Shared<D, G, N>,
-    to_do: &[ToDo],
-    actors: &[ActorNo],
-    transactions: &[TxNo],
-    ended: &AtomicU64,
+    crew: &Crew<D, G, N>,
     threads: usize,
 ) -> Result<Vec<Result<(), TurnError>>, AllocError>
-    requires named { x.now.lines.now ≡ N.script }
-    requires objects { length x.now.resources.now ≡ N.objects }
-    requires transactions { All (λ t. IsSome (board_of x.now.cells.now t.value)) transactions.now }
+    requires named { crew.now.shared.now.lines.now ≡ N.script }
+    requires objects { length crew.now.shared.now.resources.now ≡ N.objects }
+    requires transactions { All (λ t. IsSome (board_of crew.now.shared.now.cells.now t.value)) crew.now.transactions.now }
 {
     thread::map_indices(rt, alloc, threads, &|j: usize| -> Result<(), TurnError>
-        requires { (x.now.lines.now ≡ N.script) × (length x.now.resources.now ≡ N.objects) × All (λ t. IsSome (board_of x.now.cells.now t.value)) transactions.now }
+        requires { (crew.now.shared.now.lines.now ≡ N.script) × (length crew.now.shared.now.resources.now ≡ N.objects) × All (λ t. IsSome (board_of crew.now.shared.now.cells.now t.value)) crew.now.transactions.now }
     {
-        if j < actors.len() {
-            let end = act(rt, alloc, x, to_do, actors[j]);
-            ended.fetch_add(1, Ordering::SeqCst);
-            end
-        } else {
-            help(rt, alloc, x, transactions, ended, actors.len() as u64)
-        }
+        work(rt, alloc, crew, j)
     })
 }
 
@@ -122,8 +144,15 @@ fn on_threads<N: Run + Send + Sync, D: Disk + Send, G: Gate + Sync, R: Threads +
     let transactions = transactions(alloc, x.cells)?;
     let actors = actors_in(alloc, to_do)?;
     let ended = AtomicU64::new(0);
+    let crew = Crew {
+        shared: x,
+        to_do,
+        actors: actors.as_slice(),
+        transactions: transactions.as_slice(),
+        ended: &ended,
+    };
     let threads = actors.len() + usize::from(helpers);
-    let ends = ends_of(rt, alloc, x, to_do, &actors, &transactions, &ended, threads)?;
+    let ends = ends_of(rt, alloc, &crew, threads)?;
     come_to(&ends)
 }
 
