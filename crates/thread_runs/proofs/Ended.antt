@@ -27,7 +27,7 @@ use Rattle.call_order.specs.InOrder.{lines_of}
 use Rattle.tx_cells.specs.Cell.{Cell}
 use Rattle.tx_cells.specs.LogCell.{AreCounted, AreOwn, IsLogKept, LAST, LogCell, is_left, is_up_by}
 use Rattle.thread_runs.specs.Contexts.{entries_of}
-use Rattle.thread_runs.specs.Finished.{AreFinished}
+use Rattle.run_endings.specs.Finished.{AreFinished}
 use Rattle.thread_runs.specs.Gathering.{HasContexts, IsCellOf, with_histories, with_log}
 use Rattle.thread_runs.specs.Run.{EndsOnThreads, IsRise}
 use Rattle.thread_runs.proofs.ByCell.{Rises, find_cell, rises_transactions, unmade}

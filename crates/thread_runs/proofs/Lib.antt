@@ -1,11 +1,8 @@
 pub mod ByCell
-pub mod ByNumber
-pub mod Left
 pub mod Ended
 pub mod Laying
 pub mod Marked
 pub mod Placing
-pub mod Settling
 pub mod Standing
 pub mod Writing
 pub mod AtContexts

@@ -24,7 +24,7 @@ use Rattle.tx_world.proofs.Fitting.{one_found}
 use Rattle.tx_cells.specs.Board.{transactions_of}
 use Rattle.tx_cells.specs.Cell.{Cell}
 use Rattle.tx_cells.specs.LogCell.{AreOwn, LogCell, is_own, is_up_by}
-use Rattle.thread_runs.specs.Finished.{follows}
+use Rattle.run_endings.specs.Finished.{follows}
 use Rattle.thread_runs.specs.Run.{records_of}
 use Rattle.thread_runs.proofs.ByCell.{is_among}
 use Rattle.thread_runs.proofs.Standing.{IsDone, Stands}

@@ -31,7 +31,7 @@ use Rattle.tx_cells.specs.Board.{transactions_of}
 use Rattle.tx_cells.specs.Cell.{Cell}
 use Rattle.tx_cells.specs.LogCell.{LogCell}
 use Rattle.tx_cells.specs.Ties.{TiesWith}
-use Rattle.thread_runs.specs.Finished.{follows}
+use Rattle.run_endings.specs.Finished.{follows}
 use Rattle.thread_runs.specs.Gathering.{IsCellOf}
 use Rattle.thread_runs.proofs.ByCell.{AllOf, IsFound, is_among, numbers}
 

@@ -6,7 +6,7 @@ ghost use Rattle.dtx_model.specs.Traces.{noted, placed};
 ghost use Rattle.dtx_model.specs.Words.{has, past_of};
 ghost use Rattle.tx_cells.specs.LogAnswers.{is_no_log_answer};
 ghost use Rattle.thread_runs.specs.Contexts.{AreContexts, entries_of};
-ghost use Rattle.thread_runs.specs.Finished.{AreFinished};
+ghost use Rattle.run_endings.specs.Finished.{AreFinished};
 ghost use Rattle.thread_runs.specs.Gathering.{HasContexts, IsCellOf, are_in_order, with_histories, with_log};
 ghost use Rattle.thread_runs.specs.Run.{AreTied, EndsOnThreads, IsRunOnThreads};
 

@@ -10,9 +10,9 @@ ghost use Rattle.thread_runs.specs.Contexts.{AreContexts};
 ghost use Rattle.thread_runs.specs.Run.{AreTied, EachHolds, EndsOnThreads, IsRunOnThreads};
 
 use crate::contexts::outline_of;
-use crate::finishing::finish;
+use run_endings::finish;
 use crate::gathering::gathered;
-use crate::stop::RunStop;
+use run_endings::RunStop;
 use coordinator_log::Log;
 use dtx_values::{Resource, Script};
 use entry_lists::{Entries, Trace};

@@ -8,7 +8,7 @@ ghost use Rattle.thread_runs.specs.Threads.{come_to, found_differing, lacked_mem
 
 use crate::contexts::ToDo;
 use crate::running::turns::{Shared, act, call, help, transactions};
-use crate::stop::RunStop;
+use run_endings::RunStop;
 use dtx_values::{ActorNo, Body, Line, TxNo};
 use outside::{Disk, Gate};
 use std::alloc::{AllocError, Global};

@@ -1,5 +1,0 @@
-use Rattle.thread_runs.proofs.Left.{IsBest}
-use Rattle.thread_runs.proofs.finishing.entering.next_place.Given as goal
-
-abbrev pub invariant-loop-i : goal.invariant-loop-i
-invariant-loop-i g l = IsBest l.a l.states l.i l.best

@@ -1,5 +1,0 @@
-use Rattle.thread_runs.specs.Finishing.{HaveSameCalls}
-use Rattle.thread_runs.proofs.finishing.following.follow_all.Given as goal
-
-abbrev pub invariant-loop-i : goal.invariant-loop-i
-invariant-loop-i g l = HaveSameCalls l.initial.states l.states

@@ -1,5 +1,0 @@
-use Rattle.thread_runs.proofs.ByNumber.{IsRest}
-use Rattle.thread_runs.proofs.finishing.testing.are_by_number.Given as goal
-
-abbrev pub invariant-loop-n : goal.invariant-loop-n
-invariant-loop-n g l = IsRest l.s l.states l.rest l.n

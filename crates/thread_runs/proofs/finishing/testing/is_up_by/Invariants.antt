@@ -1,7 +1,0 @@
-use Rattle.std.proofs.Common.{◌≡◌, take}
-use Rattle.dtx_model.specs.Words.{past_of}
-use Rattle.tx_cells.specs.LogCell.{is_up_by}
-use Rattle.thread_runs.proofs.finishing.testing.is_up_by.Given as goal
-
-abbrev pub invariant-loop-e : goal.invariant-loop-e
-invariant-loop-e l = l.up ≡ is_up_by (past_of (take l.e-index l.at_log))
