@@ -21,8 +21,6 @@ struct Recorder {
 }
 
 impl Resource for Recorder {
-    ghost use Rattle.std.specs.Prelude.{Unit};
-
     ghost gives = { λ old t e n r new. Unit {0} };
 
     fn on(&mut self, _t: TxNo, _e: EnlNo, n: Note) -> Option<Reply> {
