@@ -50,7 +50,9 @@ fn said<N: Run, D: Disk + Drop, R: Wait + Abort>(
     requires log { IsFresh log }
 {
     let cells = Cells::<N>::new(alloc, s)?;
-    let log = SharedLog::<D, N>::over(alloc, log, s).map_err(|_| "no log")?;
+    let Ok(log) = SharedLog::<D, N>::over(alloc, log, s) else {
+        return Err("no log".into());
+    };
     let a = ActorNo::new(1).ok_or("no actor")?;
     let t = TxNo::new(1).ok_or("no transaction")?;
     let turns = [
@@ -61,8 +63,11 @@ fn said<N: Run, D: Disk + Drop, R: Wait + Abort>(
         (4, Turned::Later),
     ];
     for (line, turned) in turns {
-        let came = entered(rt, &cells, &log, a, line, t).map_err(|_| "not entered")?;
-        assert_eq!(rt; came, turned, "at line {line}");
+        assert_eq!(rt;
+            entered(rt, &cells, &log, a, line, t),
+            Ok(turned),
+            "at line {line}"
+        );
     }
     if !cells.has(t) || !is_await(s.lines(), 4) {
         return Err("no await".into());
@@ -71,12 +76,14 @@ fn said<N: Run, D: Disk + Drop, R: Wait + Abort>(
     let objects = none.as_slice();
     let mut note = cells.note_of(t);
     assert!(rt; peek_outcome(&cells, t, &mut note).is_none());
-    helped(rt, alloc, &cells, &log, &OpenGate, t).map_err(|_| "no help")?;
+    assert_eq!(rt; helped(rt, alloc, &cells, &log, &OpenGate, t), Ok(()));
     let waited = await_as(
         rt, alloc, &cells, &log, &OpenGate, objects, &mut note, a, 4, t,
-    )
-    .map_err(|_| "no await")?;
-    assert_eq!(rt; waited, Turned::Did(Answer::OutcomeIs(Outcome::Committed)));
+    );
+    assert_eq!(rt;
+        waited,
+        Ok(Turned::Did(Answer::OutcomeIs(Outcome::Committed)))
+    );
     let Some(posted) = peek_outcome(&cells, t, &mut note) else {
         panic!(rt; "nothing is on the board");
     };

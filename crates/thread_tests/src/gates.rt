@@ -82,7 +82,9 @@ fn both_ways<N: Run + Send + Sync, D: Disk + Drop + Send, R: Threads + Wait + Ab
     requires log { IsFresh log }
 {
     let cells = Cells::<N>::new(alloc, s)?;
-    let log = SharedLog::<D, N>::over(alloc, log, s).map_err(|_| "no log")?;
+    let Ok(log) = SharedLog::<D, N>::over(alloc, log, s) else {
+        return Err("no log".into());
+    };
     let (a, b) = (ActorNo::new(1).ok_or("a1")?, ActorNo::new(2).ok_or("a2")?);
     let (t, u) = (TxNo::new(1).ok_or("t1")?, TxNo::new(2).ok_or("t2")?);
     flags.armed.store(true, Ordering::SeqCst);
@@ -190,7 +192,9 @@ fn peeked<N: Run + Send + Sync, D: Disk + Drop + Send, R: Threads + Wait + Abort
     requires log { IsFresh log }
 {
     let cells = Cells::<N>::new(alloc, s)?;
-    let log = SharedLog::<D, N>::over(alloc, log, s).map_err(|_| "no log")?;
+    let Ok(log) = SharedLog::<D, N>::over(alloc, log, s) else {
+        return Err("no log".into());
+    };
     let (a, b) = (ActorNo::new(1).ok_or("a1")?, ActorNo::new(2).ok_or("a2")?);
     let (t, u) = (TxNo::new(1).ok_or("t1")?, TxNo::new(2).ok_or("t2")?);
     if !cells.has(t) || !is_await(s.lines(), 7) {

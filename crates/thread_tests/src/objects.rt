@@ -58,7 +58,9 @@ fn ran<R: Threads + Wait + Sync>(
     let mut objects: Vec<Box<dyn Resource + Send>> = Vec::new(alloc);
     objects.push(Box::new(alloc, recorder)?)?;
     let (trace, _disk) = run_threads(rt, alloc, &script, helpers, log, &OpenGate, objects);
-    let trace = trace.map_err(|_| "no trace")?;
+    let Ok(trace) = trace else {
+        return Err("no trace".into());
+    };
     Ok((trace, heard.load(Ordering::SeqCst)))
 }
 
@@ -121,6 +123,9 @@ fn an_empty_script_has_an_empty_trace(rt: HostRuntime) -> Result<(), Fail> {
     assert_eq!(rt; replayed.len(), 0);
     let log = sure_log(alloc)?;
     let (trace, _disk) = run_threads(&rt, alloc, &script, 1, log, &OpenGate, Vec::new(alloc));
-    assert_eq!(rt; trace.map(|t| t.len()), Ok(0));
+    let Ok(trace) = trace else {
+        return Err("no trace".into());
+    };
+    assert_eq!(rt; trace.len(), 0);
     Ok(())
 }

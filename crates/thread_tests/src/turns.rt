@@ -61,7 +61,9 @@ fn restarted<N: Run, D: Disk + Drop, R: Wait + Abort>(
     requires log { IsFresh log }
 {
     let cells = Cells::<N>::new(alloc, s)?;
-    let log = SharedLog::<D, N>::over(alloc, log, s).map_err(|_| "no log")?;
+    let Ok(log) = SharedLog::<D, N>::over(alloc, log, s) else {
+        return Err("no log".into());
+    };
     let t = TxNo::new(1).ok_or("no transaction")?;
     if !cells.has(t) {
         return Err("no cell".into());
@@ -183,7 +185,9 @@ fn ran<N: Run, D: Disk + Drop, R: Wait + Abort>(
     requires log { IsFresh log }
 {
     let cells = Cells::<N>::new(alloc, s)?;
-    let log = SharedLog::<D, N>::over(alloc, log, s).map_err(|_| "no log")?;
+    let Ok(log) = SharedLog::<D, N>::over(alloc, log, s) else {
+        return Err("no log".into());
+    };
     assert_eq!(rt; all_entered(rt, alloc, s, &cells, &log), Ok(640));
     for k in 1..=MANY {
         let t = TxNo::new(k).ok_or("no transaction")?;
