@@ -1,9 +1,7 @@
 //! The calls before the threads of a run, and the threads.
-ghost use Rattle.std.specs.Prelude.{◌≡◌, ◌≤◌, IfOk, IsSome, length, vec_len};
-ghost use Rattle.std.specs.List.{All};
+ghost use Rattle.std.specs.Prelude.{◌≡◌, ◌≤◌, IfOk, length, vec_len};
 ghost use Rattle.dtx_values.specs.declared.number.ActorNo.{ActorNo};
 ghost use Rattle.dtx_model.specs.Words.{has};
-ghost use Rattle.tx_cells.specs.Board.{board_of};
 ghost use Rattle.thread_runs.specs.Threads.{come_to, found_differing, lacked_memory};
 
 use crate::contexts::ToDo;
@@ -99,7 +97,6 @@ fn work<N: Run, D: Disk, G: Gate, R: Wait>(
 ) -> Result<(), TurnError>
     requires named { crew.now.shared.now.lines.now ≡ N.script }
     requires objects { length crew.now.shared.now.resources.now ≡ N.objects }
-    requires transactions { All (λ t. IsSome (board_of crew.now.shared.now.cells.now t.value)) crew.now.transactions.now }
 {
     let actors = crew.actors.len();
     if j < actors {
@@ -121,10 +118,9 @@ fn ends_of<N: Run + Send + Sync, D: Disk + Send, G: Gate + Sync, R: Threads + Wa
 ) -> Result<Vec<Result<(), TurnError>>, AllocError>
     requires named { crew.now.shared.now.lines.now ≡ N.script }
     requires objects { length crew.now.shared.now.resources.now ≡ N.objects }
-    requires transactions { All (λ t. IsSome (board_of crew.now.shared.now.cells.now t.value)) crew.now.transactions.now }
 {
     thread::map_indices(rt, alloc, threads, &|j: usize| -> Result<(), TurnError>
-        requires { (crew.now.shared.now.lines.now ≡ N.script) × (length crew.now.shared.now.resources.now ≡ N.objects) × All (λ t. IsSome (board_of crew.now.shared.now.cells.now t.value)) crew.now.transactions.now }
+        requires { (crew.now.shared.now.lines.now ≡ N.script) × (length crew.now.shared.now.resources.now ≡ N.objects) }
     {
         work(rt, alloc, crew, j)
     })

@@ -1,7 +1,5 @@
 //! What each thread of a run does.
-ghost use Rattle.std.specs.Prelude.{◌≡◌, IfOk, IsSome, length};
-ghost use Rattle.std.specs.List.{All};
-ghost use Rattle.tx_cells.specs.Board.{board_of};
+ghost use Rattle.std.specs.Prelude.{◌≡◌, length};
 ghost use Rattle.tx_threads.specs.Turning.{is_await_at};
 
 use crate::contexts::{ToDo, What};
@@ -110,9 +108,7 @@ pub(super) fn act<D: Disk, G: Gate, N: Run, R: Wait>(
 pub(super) fn transactions<N: Run>(
     alloc: Global,
     cells: &Cells<N>,
-) -> Result<Vec<TxNo>, AllocError>
-    ensures { IfOk result (λ v. All (λ t. IsSome (board_of cells.now t.value)) v.items) }
-{
+) -> Result<Vec<TxNo>, AllocError> {
     let mut transactions = Vec::new(alloc);
     for n in 1..TxNo::MAX + 1 {
         let t = TxNo::new(n).unwrap();
@@ -136,7 +132,6 @@ pub(super) fn help<D: Disk, G: Gate, N: Run, R: Wait>(
     ended: &AtomicU64,
     actors: u64,
 ) -> Result<(), TurnError>
-    requires transactions { All (λ t. IsSome (board_of x.now.cells.now t.value)) transactions.now }
     requires objects { length x.now.resources.now ≡ N.objects }
 {
     let count = transactions.len();
@@ -150,8 +145,10 @@ pub(super) fn help<D: Disk, G: Gate, N: Run, R: Wait>(
         }
         let place = turn as usize % count;
         let t = transactions[place];
-        if help_one(rt, alloc, x.cells, x.log, x.gate, x.resources, t)? {
-            did = true;
+        if x.cells.has(t) {
+            if help_one(rt, alloc, x.cells, x.log, x.gate, x.resources, t)? {
+                did = true;
+            }
         }
         if place + 1 == count {
             if !did {
