@@ -7,14 +7,14 @@ ghost use Rattle.thread_runs.specs.Threads.{come_to, found_differing, lacked_mem
 use crate::contexts::ToDo;
 use crate::running::turns::{Shared, act, call, help, transactions};
 use crate::stop::RunStop;
-use dtx_values::{ActorNo, Body, Line, TxNo};
+use dtx_values::{ActorNo, Body, Line, Resource, TxNo};
 use outside::{Disk, Gate};
 use std::alloc::{AllocError, Global};
 use std::sync::atomic::{AtomicU64, Ordering};
-use std::sync::Wait;
+use std::sync::{Mutex, Wait};
 use std::thread;
 use std::thread::Threads;
-use tx_threads::{Run, TurnError};
+use tx_threads::{Cells, Run, SharedLog, TurnError};
 
 /// The calls of the lines before the `par` line, and the others. Without a `par` line none stands before.
 fn split_at_par<'a>(s: &[Line], to_do: &'a [ToDo]) -> (&'a [ToDo], &'a [ToDo]) {
@@ -76,10 +76,14 @@ fn come_to(ends: &[Result<(), TurnError>]) -> Result<(), RunStop>
     Ok(())
 }
 
-/// The threads of a run: the first are those of these actors, the others are helpers.
+/// The threads of a run, and what they share: the first are those of these actors, the others are helpers.
 #[derive(Drop)]
 struct Crew<'a, D: Disk, G: Gate, N: Run> {
-    shared: &'a Shared<'a, D, G, N>,
+    lines: &'a [Line],
+    cells: &'a Cells<N>,
+    log: &'a SharedLog<D, N>,
+    gate: &'a G,
+    resources: &'a [Mutex<Box<dyn Resource + Send>>],
     to_do: &'a [ToDo],
     actors: &'a [ActorNo],
     /// Those of the run.
@@ -95,16 +99,23 @@ fn work<N: Run, D: Disk, G: Gate, R: Wait>(
     crew: &Crew<D, G, N>,
     j: usize,
 ) -> Result<(), TurnError>
-    requires named { crew.now.shared.now.lines.now ≡ N.script }
-    requires objects { length crew.now.shared.now.resources.now ≡ N.objects }
+    requires named { crew.now.lines.now ≡ N.script }
+    requires objects { length crew.now.resources.now ≡ N.objects }
 {
+    let shared = Shared {
+        lines: crew.lines,
+        cells: crew.cells,
+        log: crew.log,
+        gate: crew.gate,
+        resources: crew.resources,
+    };
     let actors = crew.actors.len();
     if j < actors {
-        let end = act(rt, alloc, crew.shared, crew.to_do, crew.actors[j]);
+        let end = act(rt, alloc, &shared, crew.to_do, crew.actors[j]);
         crew.ended.fetch_add(1, Ordering::SeqCst);
         return end;
     }
-    help(rt, alloc, crew.shared, crew.transactions, crew.ended, actors as u64)
+    help(rt, alloc, &shared, crew.transactions, crew.ended, actors as u64)
 }
 
 /// What each of so many threads came to.
@@ -116,11 +127,11 @@ fn ends_of<N: Run + Send + Sync, D: Disk + Send, G: Gate + Sync, R: Threads + Wa
     crew: &Crew<D, G, N>,
     threads: usize,
 ) -> Result<Vec<Result<(), TurnError>>, AllocError>
-    requires named { crew.now.shared.now.lines.now ≡ N.script }
-    requires objects { length crew.now.shared.now.resources.now ≡ N.objects }
+    requires named { crew.now.lines.now ≡ N.script }
+    requires objects { length crew.now.resources.now ≡ N.objects }
 {
     thread::map_indices(rt, alloc, threads, &|j: usize| -> Result<(), TurnError>
-        requires { (crew.now.shared.now.lines.now ≡ N.script) × (length crew.now.shared.now.resources.now ≡ N.objects) }
+        requires { (crew.now.lines.now ≡ N.script) × (length crew.now.resources.now ≡ N.objects) }
     {
         work(rt, alloc, crew, j)
     })
@@ -141,7 +152,11 @@ fn on_threads<N: Run + Send + Sync, D: Disk + Send, G: Gate + Sync, R: Threads +
     let actors = actors_in(alloc, to_do)?;
     let ended = AtomicU64::new(0);
     let crew = Crew {
-        shared: x,
+        lines: x.lines,
+        cells: x.cells,
+        log: x.log,
+        gate: x.gate,
+        resources: x.resources,
         to_do,
         actors: actors.as_slice(),
         transactions: transactions.as_slice(),
