@@ -20,6 +20,7 @@ use outside::{Disk, Gate};
 use script_calls::{Plans, managers_of};
 use std::alloc::{AllocError, Global};
 use std::marker::Brand;
+use std::sync::atomic::AtomicU64;
 use std::sync::{Mutex, Wait};
 use std::thread::Threads;
 use tx_threads::{CellState, Cells, LogState, Run, SharedLog};
@@ -27,7 +28,7 @@ use tx_threads::{CellState, Cells, LogState, Run, SharedLog};
 mod threads;
 mod turns;
 
-use threads::call_all;
+use threads::{call_all, highest_in, split_at_par};
 use turns::Shared;
 
 /// What the threads of a run leave, but the log: what stands at each actor's context, the transactions by number, and the objects.
@@ -86,14 +87,18 @@ fn threads_over<N: Run + Send + Sync, D: Disk + Send, G: Gate + Sync, R: Threads
     let outline = outline_of(alloc, &plans)?;
     let cells = Cells::new(alloc, s)?;
     let locks = locked(alloc, resources)?;
+    let (alone, apart) = split_at_par(s.lines(), &outline.to_do);
+    let ended = AtomicU64::new(0);
     let shared = Shared {
         lines: s.lines(),
         cells: &cells,
         log,
         gate,
         resources: locks.as_slice(),
+        actors: highest_in(apart),
+        ended: &ended,
     };
-    call_all(rt, alloc, &shared, helpers, &outline.to_do)?;
+    call_all(rt, alloc, &shared, helpers, alone, apart)?;
     Ok(Left {
         contexts: outline.contexts,
         states: cells.into_states(alloc)?,

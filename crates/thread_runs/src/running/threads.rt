@@ -1,23 +1,24 @@
 //! The calls before the threads of a run, and the threads.
-ghost use Rattle.std.specs.Prelude.{◌≡◌, ◌≤◌, IfOk, length, vec_len};
+ghost use Rattle.std.specs.Prelude.{◌≡◌, ◌≤◌, length};
 ghost use Rattle.dtx_values.specs.declared.number.ActorNo.{ActorNo};
 ghost use Rattle.dtx_model.specs.Words.{has};
 ghost use Rattle.thread_runs.specs.Threads.{come_to, found_differing, lacked_memory};
 
 use crate::contexts::ToDo;
-use crate::running::turns::{Shared, act, call, help, transactions};
-use run_endings::RunStop;
-use dtx_values::{ActorNo, Body, Line, TxNo};
+use crate::running::turns::{Shared, act, call, help};
+use dtx_values::{ActorNo, Body, Line};
 use outside::{Disk, Gate};
+use run_endings::RunStop;
 use std::alloc::{AllocError, Global};
-use std::sync::atomic::{AtomicU64, Ordering};
+use std::cmp::max;
+use std::sync::atomic::Ordering;
 use std::sync::Wait;
 use std::thread;
 use std::thread::Threads;
 use tx_threads::{Run, TurnError};
 
 /// The calls of the lines before the `par` line, and the others. Without a `par` line none stands before.
-fn split_at_par<'a>(s: &[Line], to_do: &'a [ToDo]) -> (&'a [ToDo], &'a [ToDo]) {
+pub(super) fn split_at_par<'a>(s: &[Line], to_do: &'a [ToDo]) -> (&'a [ToDo], &'a [ToDo]) {
     let Some(before) = s.iter().position(|l| l.body == Body::Par) else {
         return to_do.split_at(0);
     };
@@ -29,23 +30,15 @@ fn split_at_par<'a>(s: &[Line], to_do: &'a [ToDo]) -> (&'a [ToDo], &'a [ToDo]) {
     to_do.split_at(to_do.len())
 }
 
-/// Whether a call is this actor's.
-fn has_calls(to_do: &[ToDo], a: ActorNo) -> bool {
-    to_do.iter().any(|due| due.actor == a)
-}
-
-/// The actors that have calls, by number.
-fn actors_in(alloc: Global, to_do: &[ToDo]) -> Result<Vec<ActorNo>, AllocError>
-    ensures { IfOk result (λ v. vec_len v ≤ ActorNo.MAX) }
+/// The highest number of an actor that has calls; 0 where none has.
+pub(super) fn highest_in(to_do: &[ToDo]) -> usize
+    ensures { result ≤ ActorNo.MAX }
 {
-    let mut actors = Vec::with_capacity(alloc, ActorNo::MAX as usize)?;
-    for n in 1..ActorNo::MAX + 1 {
-        let a = ActorNo::new(n).unwrap();
-        if has_calls(to_do, a) {
-            actors.push_reserved(a);
-        }
+    let mut highest = 0;
+    for due in to_do {
+        highest = max(highest, due.actor.index() + 1);
     }
-    Ok(actors)
+    highest
 }
 
 /// Whether a thread found two kept values that differ.
@@ -76,35 +69,25 @@ fn come_to(ends: &[Result<(), TurnError>]) -> Result<(), RunStop>
     Ok(())
 }
 
-/// The threads of a run: the first are those of these actors, the others are helpers.
-#[derive(Drop)]
-struct Crew<'a, D: Disk, G: Gate, N: Run> {
-    shared: &'a Shared<'a, D, G, N>,
-    to_do: &'a [ToDo],
-    actors: &'a [ActorNo],
-    /// Those of the run.
-    transactions: &'a [TxNo],
-    /// How many actors have ended.
-    ended: &'a AtomicU64,
-}
-
-/// What the j-th thread does: it makes its actor's calls, or helps.
+/// What the j-th thread does: the first `x.actors` threads are the actors', the others are helpers.
 fn work<N: Run, D: Disk, G: Gate, R: Wait>(
     rt: &R,
     alloc: Global,
-    crew: &Crew<D, G, N>,
+    x: &Shared<D, G, N>,
+    to_do: &[ToDo],
     j: usize,
 ) -> Result<(), TurnError>
-    requires named { crew.now.shared.now.lines.now ≡ N.script }
-    requires objects { length crew.now.shared.now.resources.now ≡ N.objects }
+    requires named { x.now.lines.now ≡ N.script }
+    requires objects { length x.now.resources.now ≡ N.objects }
+    requires actors { x.now.actors ≤ ActorNo.MAX }
 {
-    let actors = crew.actors.len();
-    if j < actors {
-        let end = act(rt, alloc, crew.shared, crew.to_do, crew.actors[j]);
-        crew.ended.fetch_add(1, Ordering::SeqCst);
-        return end;
+    if j >= x.actors {
+        return help(rt, alloc, x);
     }
-    help(rt, alloc, crew.shared, crew.transactions, crew.ended, actors as u64)
+    let a = ActorNo::new(j as u32 + 1).unwrap();
+    let end = act(rt, alloc, x, to_do, a);
+    x.ended.fetch_add(1, Ordering::SeqCst);
+    end
 }
 
 /// What each of so many threads came to.
@@ -113,46 +96,22 @@ fn work<N: Run, D: Disk, G: Gate, R: Wait>(
 fn ends_of<N: Run + Send + Sync, D: Disk + Send, G: Gate + Sync, R: Threads + Wait + Sync>(
     rt: &R,
     alloc: Global,
-    crew: &Crew<D, G, N>,
+    x: &Shared<D, G, N>,
+    to_do: &[ToDo],
     threads: usize,
 ) -> Result<Vec<Result<(), TurnError>>, AllocError>
-    requires named { crew.now.shared.now.lines.now ≡ N.script }
-    requires objects { length crew.now.shared.now.resources.now ≡ N.objects }
+    requires named { x.now.lines.now ≡ N.script }
+    requires objects { length x.now.resources.now ≡ N.objects }
+    requires actors { x.now.actors ≤ ActorNo.MAX }
 {
     thread::map_indices(rt, alloc, threads, &|j: usize| -> Result<(), TurnError>
-        requires { (crew.now.shared.now.lines.now ≡ N.script) × (length crew.now.shared.now.resources.now ≡ N.objects) }
+        requires { (x.now.lines.now ≡ N.script) × (length x.now.resources.now ≡ N.objects) × (x.now.actors ≤ ActorNo.MAX) }
     {
-        work(rt, alloc, crew, j)
+        work(rt, alloc, x, to_do, j)
     })
 }
 
-/// Makes the calls of each actor on a thread of its own, with so many helpers beside them, and waits for all.
-fn on_threads<N: Run + Send + Sync, D: Disk + Send, G: Gate + Sync, R: Threads + Wait + Sync>(
-    rt: &R,
-    alloc: Global,
-    x: &Shared<D, G, N>,
-    helpers: u8,
-    to_do: &[ToDo],
-) -> Result<(), RunStop>
-    requires named { x.now.lines.now ≡ N.script }
-    requires objects { length x.now.resources.now ≡ N.objects }
-{
-    let transactions = transactions(alloc, x.cells)?;
-    let actors = actors_in(alloc, to_do)?;
-    let ended = AtomicU64::new(0);
-    let crew = Crew {
-        shared: x,
-        to_do,
-        actors: actors.as_slice(),
-        transactions: transactions.as_slice(),
-        ended: &ended,
-    };
-    let threads = actors.len() + usize::from(helpers);
-    let ends = ends_of(rt, alloc, &crew, threads)?;
-    come_to(&ends)
-}
-
-/// Makes the calls of the lines before the `par` line in order, alone, and then those of each actor on a thread of its own, with so many helpers beside them.
+/// Makes the calls of the lines before the `par` line in order, alone, and then the others, those of each actor on a thread of its own, with so many helpers beside them.
 ///
 /// # Errors
 ///
@@ -167,14 +126,17 @@ pub(super) fn call_all<
     alloc: Global,
     x: &Shared<D, G, N>,
     helpers: u8,
-    to_do: &[ToDo],
+    alone: &[ToDo],
+    apart: &[ToDo],
 ) -> Result<(), RunStop>
     requires named { x.now.lines.now ≡ N.script }
     requires objects { length x.now.resources.now ≡ N.objects }
+    requires actors { x.now.actors ≤ ActorNo.MAX }
 {
-    let (alone, apart) = split_at_par(x.lines, to_do);
     for due in alone {
         call(rt, alloc, x, *due)?;
     }
-    on_threads(rt, alloc, x, helpers, apart)
+    let threads = x.actors + usize::from(helpers);
+    let ends = ends_of(rt, alloc, x, apart, threads)?;
+    come_to(&ends)
 }

@@ -19,6 +19,10 @@ pub(super) struct Shared<'a, D: Disk, G: Gate, N: Run> {
     pub(super) log: &'a SharedLog<D, N>,
     pub(super) gate: &'a G,
     pub(super) resources: &'a [Mutex<Box<dyn Resource + Send>>],
+    /// How many actors have a thread: those of the first numbers.
+    pub(super) actors: usize,
+    /// How many of them have ended.
+    pub(super) ended: &'a AtomicU64,
 }
 
 /// How often a helper looks for something to do, at most.
@@ -105,7 +109,7 @@ pub(super) fn act<D: Disk, G: Gate, N: Run, R: Wait>(
 /// # Errors
 ///
 /// Where memory ran out.
-pub(super) fn transactions<N: Run>(
+fn transactions<N: Run>(
     alloc: Global,
     cells: &Cells<N>,
 ) -> Result<Vec<TxNo>, AllocError> {
@@ -119,7 +123,7 @@ pub(super) fn transactions<N: Run>(
     Ok(transactions)
 }
 
-/// Does pending steps, of one transaction after the other, until so many actors have ended. After a round in which nothing was to be done it lets others go first.
+/// Does pending steps, of one transaction after the other, until the actors have ended. After a round in which nothing was to be done it lets others go first.
 ///
 /// # Errors
 ///
@@ -128,19 +132,17 @@ pub(super) fn help<D: Disk, G: Gate, N: Run, R: Wait>(
     rt: &R,
     alloc: Global,
     x: &Shared<D, G, N>,
-    transactions: &[TxNo],
-    ended: &AtomicU64,
-    actors: u64,
 ) -> Result<(), TurnError>
     requires objects { length x.now.resources.now ≡ N.objects }
 {
+    let transactions = transactions(alloc, x.cells)?;
     let count = transactions.len();
     if count == 0 {
         return Ok(());
     }
     let mut did = false;
     for turn in 0..TURNS {
-        if ended.load(Ordering::SeqCst) >= actors {
+        if x.ended.load(Ordering::SeqCst) >= x.actors as u64 {
             break;
         }
         let place = turn as usize % count;
