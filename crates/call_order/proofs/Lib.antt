@@ -1,0 +1,5 @@
+mod Counted
+mod Entered
+mod Lists
+mod Named
+mod Ordered

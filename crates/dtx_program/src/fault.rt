@@ -57,6 +57,8 @@ pub enum Fault {
     Usage,
     #[error("dtx: line {0}: {1}")]
     BadScript(u32, Mistake),
+    #[error("dtx: line {0}: do needs replay")]
+    NotThreadable(u32),
     #[error("dtx: read fault")]
     Read,
     #[error("dtx: log fault")]
@@ -76,6 +78,7 @@ impl Fault {
             Exit::Fine => Ok(()),
             Exit::Usage => Err(Fault::Usage),
             Exit::BadScript(line, cause) => Err(Fault::BadScript(line, Mistake::of(cause))),
+            Exit::NotThreadable(line) => Err(Fault::NotThreadable(line)),
             Exit::ReadFault => Err(Fault::Read),
             Exit::LogFault => Err(Fault::Log),
             Exit::WriteFault => Err(Fault::Write),
@@ -88,6 +91,7 @@ impl Fault {
         match self {
             Fault::Usage => 2,
             Fault::BadScript(_, _) => 3,
+            Fault::NotThreadable(_) => 4,
             Fault::Read => 5,
             Fault::Write => 6,
             Fault::Log => 7,
@@ -132,6 +136,13 @@ mod tests {
     fn exits_have_their_texts_and_statuses(rt: HostRuntime) -> Result<(), AllocError> {
         assert!(rt; Fault::of(Exit::Fine).is_ok());
         says(&rt, rt.alloc(), Exit::Usage, "dtx: usage", 2)?;
+        says(
+            &rt,
+            rt.alloc(),
+            Exit::NotThreadable(7),
+            "dtx: line 7: do needs replay",
+            4,
+        )?;
         says(&rt, rt.alloc(), Exit::ReadFault, "dtx: read fault", 5)?;
         says(&rt, rt.alloc(), Exit::WriteFault, "dtx: write fault", 6)?;
         says(&rt, rt.alloc(), Exit::LogFault, "dtx: log fault", 7)?;

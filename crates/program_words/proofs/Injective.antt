@@ -1,13 +1,13 @@
 -- The same words ask for one command.
-use Rattle.std.proofs.Common.{◌≡◌, ℕ, ◌^◌, ◌<◌, ◌≤◌, true, get_or, List, [], ◌∷◌, refl, ap, sym, ◌∙◌, arith, decimal}
+use Rattle.std.proofs.Common.{◌≡◌, ℕ, ◌^◌, ◌<◌, ◌≤◌, true, get_or, ◌&&◌, List, [], ◌∷◌, refl, ap, sym, ◌∙◌, arith, decimal}
 use Rattle.std.specs.Str.Parse.{digits_value}
 use Rattle.std.proofs.lemmas.Bool.Decides.{nat_tests}
 use Rattle.std.proofs.lemmas.Fmt.{decimal_is_IsNumeral}
-use Rattle.program_words.specs.Commands.{Asks, form_words, is_command, is_count, words_of}
+use Rattle.program_words.specs.Commands.{Asks, form_words, is_command, is_count, is_form_on_threads, is_helpers, words_of}
 use Rattle.program_words.specs.declared.command.Form.{Form}
 use Rattle.program_words.specs.declared.command.Form.TheVariants.{Plain, Wire, Json, Summary}
 use Rattle.program_words.specs.declared.command.Command.{Command}
-use Rattle.program_words.specs.declared.command.Command.TheVariants.{Replay, Make, Demo}
+use Rattle.program_words.specs.declared.command.Command.TheVariants.{Replay, Make, Demo, Threads}
 
 few : (n : ℕ) → is_count n ≡ true → n < 2 ^ 64
 few n h = let k : n ≤ 256 = grind (arith, nat_tests) in omega arith
@@ -15,6 +15,19 @@ few n h = let k : n ≤ 256 = grind (arith, nat_tests) in omega arith
 -- two numbers of one text are one
 number : (n m : ℕ) → is_count n ≡ true → is_count m ≡ true → decimal n ≡ decimal m → n ≡ m
 number n m h k e = sym ((decimal_is_IsNumeral n (few n h)).1) ∙ ap (digits_value 10) e ∙ (decimal_is_IsNumeral m (few m k)).1
+
+as_count : (n : ℕ) → is_helpers n ≡ true → is_count n ≡ true
+as_count n h = grind (arith, nat_tests)
+
+helped : (i j : ℕ) → is_helpers i ≡ true → is_helpers j ≡ true → decimal i ≡ decimal j → i ≡ j
+helped i j h k e = number i j (as_count i h) (as_count j k) e
+
+-- the number of helpers of a command is in its range
+within : (f : Form) (h : ℕ) → (is_form_on_threads f && is_helpers h) ≡ true → is_helpers h ≡ true
+within Plain h k = k
+within Wire h k = absurd cc
+within Json h k = absurd cc
+within Summary h k = k
 
 -- the letter of the first word at a place
 abbrev letter : ℕ → List (List ℕ) → ℕ
@@ -41,6 +54,12 @@ forms Summary Summary e = refl
 first : (x y : List ℕ) → ◌≡◌ {A = List (List ℕ)} (x ∷ []) (y ∷ []) → x ≡ y
 first x y e = cc
 
+head_same : (v w : List ℕ) (x y : List (List ℕ)) → ◌≡◌ {A = List (List ℕ)} (v ∷ x) (w ∷ y) → v ≡ w
+head_same v w x y e = cc
+
+tail_same : (v w : List ℕ) (x y : List (List ℕ)) → ◌≡◌ {A = List (List ℕ)} (v ∷ x) (w ∷ y) → x ≡ y
+tail_same v w x y e = cc
+
 behind : (w : List ℕ) (x y : List (List ℕ)) → w ∷ x ≡ w ∷ y → x ≡ y
 behind w x y e = cc
 
@@ -54,6 +73,17 @@ same (Make n) (Demo m) h k e = let k : ◌≡◌ {A = ℕ} 109 100 = ap (letter 
 same (Demo n) (Replay g) h k e = let k : ◌≡◌ {A = ℕ} 100 114 = ap (letter 0) e in absurd (omega arith)
 same (Demo n) (Make m) h k e = let k : ◌≡◌ {A = ℕ} 100 109 = ap (letter 0) e in absurd (omega arith)
 same (Demo n) (Demo m) h k e = ap Demo (number n m h k (first _ _ (behind _ _ _ e)))
+same (Replay f) (Threads j g) h k e = let k : ◌≡◌ {A = ℕ} 114 116 = ap (letter 0) e in absurd (omega arith)
+same (Make n) (Threads j g) h k e = let k : ◌≡◌ {A = ℕ} 109 116 = ap (letter 0) e in absurd (omega arith)
+same (Demo n) (Threads j g) h k e = let k : ◌≡◌ {A = ℕ} 100 116 = ap (letter 0) e in absurd (omega arith)
+same (Threads i f) (Replay g) h k e = let k : ◌≡◌ {A = ℕ} 116 114 = ap (letter 0) e in absurd (omega arith)
+same (Threads i f) (Make m) h k e = let k : ◌≡◌ {A = ℕ} 116 109 = ap (letter 0) e in absurd (omega arith)
+same (Threads i f) (Demo m) h k e = let k : ◌≡◌ {A = ℕ} 116 100 = ap (letter 0) e in absurd (omega arith)
+same (Threads i f) (Threads j g) h k e =
+    let rest = behind _ _ _ e in
+    let helpers = helped i j (within f i h) (within g j k) (head_same _ _ _ _ rest) in
+    let form = forms f g (tail_same _ _ _ _ rest) in
+    cc
 
 pub one_command : (ws : List (List ℕ)) (c d : Command) → Asks ws c → Asks ws d → c ≡ d
 one_command ws c d a b = same c d a.within b.within (sym a.words ∙ b.words)

@@ -1,9 +1,9 @@
 -- The words of each command, and no others.
-use Rattle.std.specs.Prelude.{ℕ, ◌≡◌, Bool, true, nat_le, ◌&&◌, List, [], ◌∷◌, codes, decimal}
+use Rattle.std.specs.Prelude.{ℕ, ◌≡◌, Bool, true, false, nat_le, ◌&&◌, List, [], ◌∷◌, codes, decimal}
 use Rattle.program_words.specs.declared.command.Form.{Form}
 use Rattle.program_words.specs.declared.command.Form.TheVariants.{Plain, Wire, Json, Summary}
 use Rattle.program_words.specs.declared.command.Command.{Command}
-use Rattle.program_words.specs.declared.command.Command.TheVariants.{Replay, Make, Demo}
+use Rattle.program_words.specs.declared.command.Command.TheVariants.{Replay, Make, Demo, Threads}
 
 -- the words that ask for a form
 abbrev pub form_words : Form → List (List ℕ)
@@ -17,15 +17,27 @@ abbrev pub words_of : Command → List (List ℕ)
 words_of (Replay f) = codes "replay" ∷ form_words f
 words_of (Make n) = codes "make" ∷ decimal n ∷ []
 words_of (Demo n) = codes "demo" ∷ decimal n ∷ []
+words_of (Threads h f) = codes "threads" ∷ decimal h ∷ form_words f
 
 -- so many transactions can be made: from 1 to 256
 abbrev pub is_count : ℕ → Bool
 is_count n = nat_le 1 n && nat_le n 256
 
+-- so many helpers can go beside the actors: from 1 to 16
+abbrev pub is_helpers : ℕ → Bool
+is_helpers h = nat_le 1 h && nat_le h 16
+
+-- the trace of a run on threads is written as it is, or as its summary
+abbrev pub is_form_on_threads : Form → Bool
+is_form_on_threads Plain = true
+is_form_on_threads Summary = true
+is_form_on_threads _ = false
+
 abbrev pub is_command : Command → Bool
 is_command (Replay f) = true
 is_command (Make n) = is_count n
 is_command (Demo n) = is_count n
+is_command (Threads h f) = is_form_on_threads f && is_helpers h
 
 -- the words ask for this command
 pub record Asks (ws : List (List ℕ)) (c : Command) : Type 0 where

@@ -22,4 +22,6 @@ pub enum Command {
     Make(u16),
     /// Replay that script, and write the summary.
     Demo(u16),
+    /// Run the script that is read on threads, each actor on one of its own and so many helpers beside them, from 1 to 16, and write the trace, as it is or its summary.
+    Threads(u8, Form),
 }

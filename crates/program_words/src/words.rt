@@ -1,13 +1,13 @@
 //! Reads the words.
 ghost use Rattle.std.specs.Prelude.{◌≡◌, ◌≢◌, ◌≤◌, ℕ, List, [], ◌∷◌, decimal, false, map, true, IfNone, IfSome};
 ghost use Rattle.std.specs.String.{string_bytes};
-ghost use Rattle.program_words.specs.Commands.{Asks, AsksNothing, form_words, is_count};
+ghost use Rattle.program_words.specs.Commands.{Asks, AsksNothing, form_words, is_count, is_form_on_threads, is_helpers};
 ghost use Rattle.program_words.specs.declared.command.Command.{Command};
 ghost use Rattle.program_words.specs.declared.command.Form.{Form};
 
 use crate::command::{Command, Form};
 use line_tail::Tail;
-use trace_words::number16;
+use trace_words::{number8, number16};
 
 /// The number from 1 to 256 that this word is, in decimal without sign or leading zero.
 fn count_of(word: &[u8]) -> Option<u16>
@@ -19,6 +19,21 @@ fn count_of(word: &[u8]) -> Option<u16>
     digits.put_number(u64::from(n));
     if 1 <= n && n <= 256 && digits.as_slice() == word {
         Some(n)
+    } else {
+        None
+    }
+}
+
+/// The number from 1 to 16 that this word is, in decimal without sign or leading zero.
+fn helpers_of(word: &[u8]) -> Option<u8>
+    ensures some { IfSome result (λ h. (word.now ≡ decimal h) × (is_helpers h ≡ true)) }
+    ensures none { IfNone result ((h : ℕ) → is_helpers h ≡ true → word.now ≢ decimal h) }
+{
+    let h = number8(word);
+    let mut digits = Tail::new();
+    digits.put_number(u64::from(h));
+    if 1 <= h && h <= 16 && digits.as_slice() == word {
+        Some(h)
     } else {
         None
     }
@@ -58,11 +73,31 @@ fn pair_of(first: &[u8], second: &[u8]) -> Option<Command>
     ensures some { IfSome result (λ c. Asks (first.now ∷ second.now ∷ []) c) }
     ensures none { IfNone result (AsksNothing (first.now ∷ second.now ∷ [])) }
 {
+    if first == b"threads".as_slice() {
+        return match helpers_of(second) {
+            Some(h) => Some(Command::Threads(h, Form::Plain)),
+            None => None,
+        };
+    }
     match first {
         b"replay" => form_of(second).map(Command::Replay),
         b"make" => count_of(second).map(Command::Make),
         b"demo" => count_of(second).map(Command::Demo),
         _ => None,
+    }
+}
+
+/// The command of three words.
+fn triple_of(first: &[u8], second: &[u8], third: &[u8]) -> Option<Command>
+    ensures some { IfSome result (λ c. Asks (first.now ∷ second.now ∷ third.now ∷ []) c) }
+    ensures none { IfNone result (AsksNothing (first.now ∷ second.now ∷ third.now ∷ [])) }
+{
+    if first != b"threads".as_slice() || third != b"--summary".as_slice() {
+        return None;
+    }
+    match helpers_of(second) {
+        Some(h) => Some(Command::Threads(h, Form::Summary)),
+        None => None,
     }
 }
 
@@ -76,6 +111,7 @@ pub fn command_of(words: &[String]) -> Option<Command>
     match words {
         [word] => single_of(word.as_bytes()),
         [first, second] => pair_of(first.as_bytes(), second.as_bytes()),
+        [first, second, third] => triple_of(first.as_bytes(), second.as_bytes(), third.as_bytes()),
         _ => None,
     }
 }

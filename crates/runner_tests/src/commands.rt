@@ -1,14 +1,16 @@
 //! The words of the program, each with what it writes.
-use crate::runs::{disk, unwritten, words};
+use crate::runs::{disk, run_open, unwritten, words};
 use outside::{SureSink, SureSource};
-use script_runner::{Exit, run_program};
+use script_runner::Exit;
 use std::alloc::{AllocError, Global};
 use std::process::Abort;
+use std::sync::Wait;
 use std::test::Fail;
+use std::thread::Threads;
 
 /// What a run on these words writes, over this script.
-fn written(
-    rt: &impl Abort,
+fn written<R: Abort + Threads + Wait + Sync>(
+    rt: &R,
     alloc: Global,
     given: &[&str],
     script: &str,
@@ -16,7 +18,7 @@ fn written(
     let words = words(alloc, given)?;
     let mut source = SureSource::new(Vec::from_slice(alloc, script.as_bytes())?);
     let mut sink = SureSink::new(alloc);
-    let (exit, _disk) = run_program(alloc, &words, &mut source, &mut sink, disk(alloc, &[])?);
+    let (exit, _disk) = run_open(rt, alloc, &words, &mut source, &mut sink, disk(alloc, &[])?);
     assert_eq!(rt; exit, Exit::Fine, "with {given:?}");
     Ok(sink)
 }

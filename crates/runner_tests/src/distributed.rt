@@ -7,7 +7,9 @@ use crate::printed::{
 use coordinator_log::LogRefusal;
 use std::alloc::{AllocError, Global};
 use std::process::Abort;
+use std::sync::Wait;
 use std::test::Fail;
+use std::thread::Threads;
 
 /// Transaction 1 asks for its identifier at the coordinator, and waits for it. What comes after that is a case's own.
 const PROMOTION: &str = "a1 begin t1 default\na1 marshal t1\na1 await t1\n";
@@ -117,7 +119,11 @@ type Case = (&'static str, u64, &'static [Part], Result<u16, LogRefusal>);
 const NONE: u64 = 1_000_000;
 
 /// Runs each of them.
-fn run_each(rt: &impl Abort, alloc: Global, cases: &[Case]) -> Result<(), AllocError> {
+fn run_each<R: Abort + Threads + Wait + Sync>(
+    rt: &R,
+    alloc: Global,
+    cases: &[Case],
+) -> Result<(), AllocError> {
     for (lines, call, parts, records) in cases {
         let script = format!(in alloc; "{PROMOTION}{lines}")?;
         let came = prints(rt, alloc, script.as_str(), &[*call], parts)?;

@@ -11,6 +11,8 @@ mod live;
 #[cfg(test)]
 mod losses;
 #[cfg(test)]
+mod objects;
+#[cfg(test)]
 mod printed;
 #[cfg(test)]
 mod runs;

@@ -7,7 +7,9 @@ use dtx_model::{Verdict, judge};
 use dtx_values::{ActorNo, Answer, Entry, Outcome, Party};
 use std::alloc::{AllocError, Global};
 use std::process::Abort;
+use std::sync::Wait;
 use std::test::Fail;
+use std::thread::Threads;
 use trace_text::read_trace;
 
 /// A durable is the owner; while phase zero is under way, a voter of it enlists a second one.
@@ -332,7 +334,11 @@ fn calls_come_while_a_promotion_is_under_way(rt: HostRuntime) -> Result<(), Fail
 }
 
 /// The history that a script's one transaction has in the end.
-fn history(rt: &impl Abort, alloc: Global, script: &str) -> Result<Vec<Entry>, AllocError> {
+fn history<R: Abort + Threads + Wait + Sync>(
+    rt: &R,
+    alloc: Global,
+    script: &str,
+) -> Result<Vec<Entry>, AllocError> {
     let (sink, _disk) = output(rt, alloc, script, &[])?;
     let Ok(trace) = read_trace(alloc, sink.bytes()) else {
         panic!(rt; "what was printed isn't a trace");

@@ -4,7 +4,9 @@ use dtx_model::{Verdict, judge};
 use dtx_values::{Entry, Outcome, Party, Place, TxNo};
 use std::alloc::{AllocError, Global};
 use std::process::Abort;
+use std::sync::Wait;
 use std::test::Fail;
+use std::thread::Threads;
 use trace_text::read_trace;
 
 /// BEGIN is lost on its way: the local side and the coordinator see the end of b, and the promotion fails.
@@ -206,8 +208,8 @@ fn lines(
 
 /// What the clients are told, in a letter each, where at this moment these connections are lost, in each transaction one list of them with one pair of kept numbers. All
 /// are transactions of one script; each history is as it should be.
-fn told(
-    rt: &impl Abort,
+fn told<R: Abort + Threads + Wait + Sync>(
+    rt: &R,
     alloc: Global,
     losses: &[&[&str]],
     moment: Moment,
@@ -245,8 +247,8 @@ fn told(
 type Row = (u16, u16, &'static str);
 
 /// Compares what the clients are told, after each number of steps.
-fn tells(
-    rt: &impl Abort,
+fn tells<R: Abort + Threads + Wait + Sync>(
+    rt: &R,
     alloc: Global,
     losses: &[&[&str]],
     is_after_the_commit: bool,

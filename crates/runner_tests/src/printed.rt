@@ -1,12 +1,14 @@
 //! What runs of the top call print, part by part, and the parts that several tests have in common.
 ghost use Rattle.std.specs.Prelude.{◌≡◌, ◌≤◌, length, IfOk};
 
-use crate::runs::{disk, found, words};
+use crate::runs::{disk, found, run_open, words};
 use coordinator_log::LogRefusal;
 use outside::{MemDisk, SureSink, SureSource};
-use script_runner::{Exit, LOG_BYTES, run_program};
+use script_runner::{Exit, LOG_BYTES};
 use std::alloc::{AllocError, Global};
 use std::process::Abort;
+use std::sync::Wait;
+use std::thread::Threads;
 
 /// A place, and what it has there: pieces, each a list of entries.
 pub type Part = (&'static str, &'static [&'static [&'static str]]);
@@ -84,8 +86,8 @@ pub const E1_HEARS: [&str; 5] = [
 pub const FREED: [&str; 1] = ["freed"];
 
 /// Runs a script over a disk whose calls of these numbers fail: what it prints, and the disk after it.
-pub fn output(
-    rt: &impl Abort,
+pub fn output<R: Abort + Threads + Wait + Sync>(
+    rt: &R,
     alloc: Global,
     script: &str,
     fail: &[u64],
@@ -96,7 +98,7 @@ pub fn output(
     let mut source = SureSource::new(Vec::from_slice(alloc, script.as_bytes())?);
     let mut sink = SureSink::new(alloc);
     let disk = disk(alloc, fail)?;
-    let (exit, disk) = run_program(alloc, &words, &mut source, &mut sink, disk);
+    let (exit, disk) = run_open(rt, alloc, &words, &mut source, &mut sink, disk);
     assert_eq!(rt; exit, Exit::Fine, "at {fail:?}: {script}");
     Ok((sink, disk))
 }
@@ -118,8 +120,8 @@ fn text(alloc: Global, parts: &[Part]) -> Result<Vec<u8>, AllocError> {
 }
 
 /// Runs a script over a disk whose calls of these numbers fail, and compares what it prints with these parts. Returns how many records the log has then.
-pub fn prints(
-    rt: &impl Abort,
+pub fn prints<R: Abort + Threads + Wait + Sync>(
+    rt: &R,
     alloc: Global,
     script: &str,
     fail: &[u64],

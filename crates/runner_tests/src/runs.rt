@@ -5,12 +5,16 @@ ghost use Rattle.dtx_values.specs.RecoveryInfo.{is_id};
 
 use coordinator_log::{Log, LogRefusal};
 use dtx_values::{EnlNo, LogRecord, Resource, RmNo};
-use outside::{Disk, MemDisk, MemSink, MemSource, SureDisk, SureSink, SureSource};
+use outside::{
+    Disk, MemDisk, MemSink, MemSource, OpenGate, Sink, Source, SureDisk, SureSink, SureSource,
+};
 use script_runner::{BadCause, Exit, LOG_BYTES, run_program, run_replay};
 use script_text::{Script, read_script};
 use std::alloc::{AllocError, Global};
 use std::process::Abort;
+use std::sync::Wait;
 use std::test::Fail;
+use std::thread::Threads;
 
 /// These words.
 pub fn words(alloc: Global, given: &[&str]) -> Result<Vec<String>, AllocError> {
@@ -26,6 +30,30 @@ pub fn disk(alloc: Global, fail: &[u64]) -> Result<MemDisk, AllocError>
     ensures { IfOk result (λ d. length d.images.kept ≡ LOG_BYTES) }
 {
     MemDisk::new(alloc, LOG_BYTES, Vec::from_slice(alloc, fail)?)
+}
+
+/// Runs the program with a gate that holds nothing, and no objects.
+pub fn run_open<S: Source, K: Sink, D: Disk + Send, R: Threads + Wait + Sync>(
+    rt: &R,
+    alloc: Global,
+    words: &[String],
+    source: &mut S,
+    sink: &mut K,
+    disk: D,
+) -> (Exit, D)
+    requires { LOG_BYTES ≤ D.size disk }
+    ensures room { LOG_BYTES ≤ D.size result.1 }
+{
+    run_program(
+        rt,
+        alloc,
+        words,
+        source,
+        sink,
+        disk,
+        &OpenGate,
+        Vec::new(alloc),
+    )
 }
 
 const SCRIPT: &str = "a1 begin t1 0\na1 volatile t1 e1 none yes\na1 commit t1\n";
@@ -73,7 +101,7 @@ fn a_trace_is_the_same_in_pieces_of_each_size(rt: HostRuntime) -> Result<(), Fai
         let mut source = MemSource::new(script, piece, Vec::new(rt.alloc()));
         let mut sink = MemSink::new(rt.alloc(), piece, Vec::new(rt.alloc()));
         let disk = disk(rt.alloc(), &[])?;
-        let (exit, disk) = run_program(rt.alloc(), &words, &mut source, &mut sink, disk);
+        let (exit, disk) = run_open(&rt, rt.alloc(), &words, &mut source, &mut sink, disk);
         assert_eq!(rt; exit, Exit::Fine);
         assert!(rt; sink.bytes() == TRACE.as_bytes(), "at {piece}");
         assert_eq!(rt; found(&rt, rt.alloc(), disk), Ok(0));
@@ -96,7 +124,7 @@ fn each_call_of_the_disk_fails_in_turn(rt: HostRuntime) -> Result<(), Fail> {
         let mut source = SureSource::new(Vec::from_slice(rt.alloc(), SCRIPT.as_bytes())?);
         let mut sink = SureSink::new(rt.alloc());
         let disk = disk_with_record(&rt, rt.alloc(), &[call])?;
-        let (came, disk) = run_program(rt.alloc(), &words, &mut source, &mut sink, disk);
+        let (came, disk) = run_open(&rt, rt.alloc(), &words, &mut source, &mut sink, disk);
         assert_eq!(rt; came, exit, "at call {call}");
         assert!(rt;
             sink.bytes().is_empty() == (exit != Exit::Fine),
@@ -115,7 +143,7 @@ fn each_call_of_the_sink_fails_in_turn(rt: HostRuntime) -> Result<(), Fail> {
         let fail = Vec::from_slice(rt.alloc(), &[call])?;
         let mut sink = MemSink::new(rt.alloc(), 10, fail);
         let disk = disk(rt.alloc(), &[])?;
-        let (exit, _disk) = run_program(rt.alloc(), &words, &mut source, &mut sink, disk);
+        let (exit, _disk) = run_open(&rt, rt.alloc(), &words, &mut source, &mut sink, disk);
         let written = (10 * (call as usize - 1)).min(TRACE.len());
         let whole = if written < TRACE.len() {
             Exit::WriteFault
@@ -132,8 +160,8 @@ fn each_call_of_the_sink_fails_in_turn(rt: HostRuntime) -> Result<(), Fail> {
 }
 
 /// The exit of a run that writes nothing, where the source's calls of these numbers fail, and the disk's first call.
-pub fn unwritten(
-    rt: &impl Abort,
+pub fn unwritten<R: Abort + Threads + Wait + Sync>(
+    rt: &R,
     alloc: Global,
     given: &[&str],
     script: &str,
@@ -143,7 +171,14 @@ pub fn unwritten(
     let script = Vec::from_slice(alloc, script.as_bytes())?;
     let mut source = MemSource::new(script, 10, Vec::from_slice(alloc, fail)?);
     let mut sink = SureSink::new(alloc);
-    let (exit, _disk) = run_program(alloc, &words, &mut source, &mut sink, disk(alloc, &[1])?);
+    let (exit, _disk) = run_open(
+        rt,
+        alloc,
+        &words,
+        &mut source,
+        &mut sink,
+        disk(alloc, &[1])?,
+    );
     assert!(rt; sink.bytes().is_empty());
     Ok(exit)
 }

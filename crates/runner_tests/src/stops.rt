@@ -6,7 +6,9 @@ use dtx_model::{Verdict, judge};
 use dtx_values::{Entry, Place, TxNo};
 use std::alloc::{AllocError, Global};
 use std::process::Abort;
+use std::sync::Wait;
 use std::test::Fail;
+use std::thread::Threads;
 use trace_text::read_trace;
 
 /// A durable that is to vote yes promotes its transaction, and its client asks for the commit.
@@ -219,8 +221,8 @@ fn who_is_finished_cannot_come_back(rt: HostRuntime) -> Result<(), Fail> {
 }
 
 /// The history of transaction 1 in a trace, and what its restart found.
-fn restarted(
-    rt: &impl Abort,
+fn restarted<R: Abort + Threads + Wait + Sync>(
+    rt: &R,
     alloc: Global,
     text: &[u8],
 ) -> Result<(Vec<Entry>, Option<bool>), AllocError> {

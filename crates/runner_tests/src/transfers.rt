@@ -1,11 +1,14 @@
 //! How much is read of a source and written to a sink, and which of their faults a run can answer.
 ghost use Rattle.std.specs.Prelude.{◌≢◌, ◌≤◌, ◌^◌, ◌-◌, None, length};
 
+use crate::runs::run_open;
 use dtx_values::SCRIPT_BYTES;
-use outside::{Sink, Source, SureDisk, SureSink, SureSource, WriteError};
+use outside::{OpenGate, Sink, Source, SureDisk, SureSink, SureSource, WriteError};
 use script_runner::{BadCause, Exit, LOG_BYTES, run_program};
 use std::alloc::{AllocError, Global};
+use std::sync::Wait;
 use std::test::Fail;
+use std::thread::Threads;
 
 /// A sink that takes no byte, whose count of faults stands at its last value.
 #[derive(Drop)]
@@ -34,14 +37,15 @@ fn a_sink_that_takes_no_byte_is_a_fault(rt: HostRuntime) -> Result<(), Fail> {
         let words = replay(rt.alloc())?;
         let mut source = SureSource::new(Vec::from_slice(rt.alloc(), script.as_bytes())?);
         let disk = SureDisk::new(rt.alloc(), LOG_BYTES)?;
-        let (exit, _disk) = run_program(rt.alloc(), &words, &mut source, &mut Stalled, disk);
+        let (exit, _disk) = run_open(&rt, rt.alloc(), &words, &mut source, &mut Stalled, disk);
         assert_eq!(rt; exit, wanted, "at {script}");
     }
     Ok(())
 }
 
 /// Runs the program over what meets no fault: by the clauses of the bounds alone, it answers none.
-fn run_surely(
+fn run_surely<R: Threads + Wait + Sync>(
+    rt: &R,
     alloc: Global,
     words: &[String],
     source: &mut SureSource,
@@ -53,7 +57,16 @@ fn run_surely(
     ensures log { result ≢ Exit.LogFault }
     ensures written { result ≢ Exit.WriteFault }
 {
-    let (exit, _disk) = run_program(alloc, words, source, sink, disk);
+    let (exit, _disk) = run_program(
+        rt,
+        alloc,
+        words,
+        source,
+        sink,
+        disk,
+        &OpenGate,
+        Vec::new(alloc),
+    );
     exit
 }
 
@@ -63,7 +76,7 @@ fn one_byte_more_than_the_longest_script_is_read(rt: HostRuntime) -> Result<(), 
     let mut source = SureSource::new(vec![in rt.alloc(); b'a'; SCRIPT_BYTES + 4]?);
     let mut sink = SureSink::new(rt.alloc());
     let disk = SureDisk::new(rt.alloc(), LOG_BYTES)?;
-    let exit = run_surely(rt.alloc(), &words, &mut source, &mut sink, disk);
+    let exit = run_surely(&rt, rt.alloc(), &words, &mut source, &mut sink, disk);
     assert_eq!(rt; exit, Exit::BadScript(1, BadCause::TooLong));
     assert!(rt; sink.bytes().is_empty());
     assert_eq!(rt; source.read(&mut [0u8; 9]), Ok(3));

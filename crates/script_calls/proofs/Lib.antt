@@ -5,6 +5,10 @@ pub mod Closing
 pub mod Entered
 pub mod Filling
 pub mod Managing
+pub mod NoneLeft
 pub mod Openings
 pub mod PlanTable
+pub mod RightReplies
 pub mod Scoping
+pub mod StepBlocks
+pub mod Unsilent

@@ -1,5 +1,5 @@
 //! The calls of each actor at one place, and how many of them were entered.
-ghost use Rattle.std.specs.Prelude.{◌≡◌, ◌≢◌, [], ◌∷◌, replicate, IfOk, IsSome, OnErr, OnOk};
+ghost use Rattle.std.specs.Prelude.{◌≡◌, ◌≢◌, [], ◌∷◌, None, replicate, true, IfOk, IsSome, OnErr, OnOk};
 ghost use Rattle.dtx_values.specs.declared.number.ActorNo.{ActorNo};
 ghost use Rattle.script_calls.specs.Rows.{are_entered, further, is_entered, next_in, no_calls, row_at, with_calls};
 
@@ -134,7 +134,8 @@ impl<C: Copy + Drop> Rows<C> {
 
     /// Whether each call here was entered.
     pub fn are_all_entered(&self) -> bool
-        ensures { result ≡ are_entered self.now }
+        ensures value { result ≡ are_entered self.now }
+        ensures none { ((a : ActorNo) → next_in (row_at a self.now) ≡ None) → are_entered self.now ≡ true }
     {
         self.rows.iter().all(|r| r.is_entered())
     }

@@ -25,14 +25,15 @@ use Rattle.script_runner.specs.RunState.{FitsLog, GoesWith, Holds, IsRecordKept,
 use Rattle.script_calls.specs.Scoped.{AreOpen, scopes_at}
 use Rattle.script_runner.proofs.Telling.{tells_noted}
 
--- the trace has this block of entries at an actor's context more, and the transactions and the script are the same
+-- the trace has this block of entries at an actor's context more, and the transactions, the script and the objects are the same
 pub record IsNoted (a : ActorNo) (es : List Entry) (old new : RunState) : Type 0 where
   pub script : new.script ≡ old.script
+  pub objects : new.objects ≡ old.objects
   pub worlds : new.worlds ≡ old.worlds
   pub block : past_of new.trace ≡ onto (past_of old.trace) (noted a es)
 
-noted_tied : (a : ActorNo) (es : List Entry) (old new : RunState) (t : TxNo) → IsNoted a es old new → IsTied old.script t (past_of old.trace) (state_of t old.worlds)
-    → IsTied new.script t (past_of new.trace) (state_of t new.worlds)
+noted_tied : (a : ActorNo) (es : List Entry) (old new : RunState) (t : TxNo) → IsNoted a es old new → IsTied old.script old.objects t (past_of old.trace) (state_of t old.worlds)
+    → IsTied new.script new.objects t (past_of new.trace) (state_of t new.worlds)
 noted_tied a es old new t n k =
     let same : state_of t new.worlds ≡ state_of t old.worlds = ap (λ (ws : List TxState). state_of t ws) n.worlds in
     let here : history t.value (past_of new.trace) ≡ history t.value (past_of old.trace) =
@@ -40,7 +41,9 @@ noted_tied a es old new t n k =
     record {
       past = ap (λ (x : TxState). x.world.past) same ∙ k.past ∙ sym here;
       given = λ m b c i. subst (λ (s : List Line). IsCallOf s t.value m b c) (sym n.script) (k.given m b c (subst (λ (x : TxState). IsIn x.world.calls m b c) same i));
-      planned = subst (λ (s : List Line). IsToPlan s (state_of t new.worlds).world.past) (sym n.script) (subst (λ (x : TxState). IsToPlan old.script x.world.past) (sym same) k.planned);
+      planned =
+          subst (λ (s : List Line). IsToPlan s new.objects (state_of t new.worlds).world.past) (sym n.script)
+          (subst (λ (o : ℕ). IsToPlan old.script o (state_of t new.worlds).world.past) (sym n.objects) (subst (λ (x : TxState). IsToPlan old.script old.objects x.world.past) (sym same) k.planned));
     }
 
 -- so what holds of the run holds still,

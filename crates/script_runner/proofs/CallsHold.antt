@@ -12,10 +12,11 @@ use Rattle.dtx_model.specs.AtLog.{at_log, is_called, unless_said, up_of}
 use Rattle.dtx_model.specs.Tied.{tied as is_tied_history}
 use Rattle.dtx_model.specs.World.{World}
 use Rattle.dtx_model.specs.Steps.{Step, Calls, block_at}
-use Rattle.dtx_model.specs.Caused.{AreMadeOnce, IsCallOf, IsIn, IsOwnRun, MayAnswer, plans_of}
+use Rattle.dtx_model.specs.Caused.{AreMadeOnce, IsCallOf, IsIn, IsOwnRun, MayAnswer, has_object, plans_of}
 use Rattle.dtx_model.specs.Traces.{Placed, history, placed}
 use Rattle.dtx_model.specs.Replay.{after_turn}
 use Rattle.dtx_model.proofs.Bools.{and_both, and_left, and_right}
+use Rattle.script_calls.proofs.RightReplies.{right_onto}
 use Rattle.coordinator_log.specs.State.{LogState}
 use Rattle.outcome_law.proofs.FollowingLog.{log-placed}
 use Rattle.tx_world.specs.AtLog.{IsHad}
@@ -33,11 +34,12 @@ use Rattle.script_runner.proofs.Noting.{history_here, history_there, trace_noted
 use Rattle.script_runner.proofs.Numbered.{is_it, state_here, state_reached, state_there}
 use Rattle.script_runner.proofs.Telling.{is_untelling, tells_block}
 use Rattle.script_runner.proofs.Turns.{IsOwn, own_at, turn_here, turned_calls, turned_past, written}
-use Rattle.script_runner.proofs.Tying.{planned_written, tied_same, to_plan_onto}
+use Rattle.script_runner.proofs.Tying.{right_written, tied_same}
 
 -- A call of line n was entered at transaction t, which was x and is y then: what it wrote stands at the end of the trace, and the other transactions are as before.
 pub record Entered {D : Type 0} (faults : D → ℕ) (log : LogState D) (t : TxNo) (n : ℕ) (a : ActorNo) (c : Call) (m : ℕ) (x y : TxState) (old new : RunState) : Type 0 where
   pub script : new.script ≡ old.script
+  pub objects : new.objects ≡ old.objects
   pub others : (u : TxNo) → u ≢ t → state_of u new.worlds ≡ state_of u old.worlds
   pub was : state_of t old.worlds ≡ x
   pub now : state_of t new.worlds ≡ y
@@ -55,7 +57,7 @@ world_after faults log t n a c m x y old new e = e.does.world ∙ ap (λ (u : Tx
 
 -- the transaction stays tied to its history
 tied_here : {D : Type 0} (faults : D → ℕ) (log : LogState D) (t : TxNo) (n : ℕ) (a : ActorNo) (c : Call) (m : ℕ) (x y : TxState) (old new : RunState)
-    → Entered faults log t n a c m x y old new → IsCallOf old.script t.value n a c → IsTied old.script t (past_of old.trace) x → IsTied old.script t (past_of new.trace) y
+    → Entered faults log t n a c m x y old new → IsCallOf old.script t.value n a c → IsTied old.script old.objects t (past_of old.trace) x → IsTied old.script old.objects t (past_of new.trace) y
 tied_here faults log t n a c m x y old new e mine tied =
     let step : Step = Calls n a c m in
     let T = past_of old.trace in
@@ -68,19 +70,19 @@ tied_here faults log t n a c m x y old new e mine tied =
       past = past ∙ ap (λ (h : List Entry). onto h es) tied.past ∙ sym (ap (λ (U : List Placed). history t.value U) e.block ∙ history_here t T es);
       given = subst (λ (ks : List EnteredCall). (j : ℕ) (b : ActorNo) (d : Call) → IsIn ks j b d → IsCallOf old.script t.value j b d) (sym calls)
           (given_more old.script t.value k x.world.calls mine tied.given);
-      planned = subst (λ (h : List Entry). IsToPlan old.script h) (sym past)
-          (to_plan_onto old.script x.world.past es tied.planned (planned_written (plans_of old.script) log.is_up t.value x.world step tt));
+      planned = subst (λ (h : List Entry). IsToPlan old.script old.objects h) (sym past)
+          (right_onto (plans_of old.script) (has_object old.script old.objects) x.world.past es tied.planned (right_written (plans_of old.script) (has_object old.script old.objects) log.is_up t.value x.world step tt));
     }
 
 -- and so do the others
 tied_there : {D : Type 0} (faults : D → ℕ) (log : LogState D) (t : TxNo) (n : ℕ) (a : ActorNo) (c : Call) (m : ℕ) (x y : TxState) (old new : RunState)
-    → Entered faults log t n a c m x y old new → (u : TxNo) → u ≢ t → IsTied old.script u (past_of old.trace) (state_of u old.worlds) → IsTied old.script u (past_of new.trace) (state_of u new.worlds)
+    → Entered faults log t n a c m x y old new → (u : TxNo) → u ≢ t → IsTied old.script old.objects u (past_of old.trace) (state_of u old.worlds) → IsTied old.script old.objects u (past_of new.trace) (state_of u new.worlds)
 tied_there faults log t n a c m x y old new e u apart tied =
     let es = written log.is_up t.value x.world (Calls n a c m) in
     let same = sym (e.others u apart) in
     let there : history u.value (past_of new.trace) ≡ history u.value (past_of old.trace) =
     ap (λ (U : List Placed). history u.value U) e.block ∙ history_there u t (past_of old.trace) es apart in
-    subst (λ (z : TxState). IsTied old.script u (past_of new.trace) z) same (tied_same old.script u (past_of old.trace) (past_of new.trace) (state_of u old.worlds) there tied)
+    subst (λ (z : TxState). IsTied old.script old.objects u (past_of new.trace) z) same (tied_same old.script old.objects u (past_of old.trace) (past_of new.trace) (state_of u old.worlds) there tied)
 
 -- What holds of each transaction holds still, where it does of the one that was called.
 each_still : {D : Type 0} (faults : D → ℕ) (log : LogState D) (t : TxNo) (n : ℕ) (a : ActorNo) (c : Call) (m : ℕ) (x y : TxState) (old new : RunState) (P : TxState → Type 0)
@@ -106,17 +108,20 @@ pub entered_holds : {D : Type 0} (faults : D → ℕ) (honest : Bool) (image : D
     → Entered faults log t n a c m x y old new → IsCallOf old.script t.value n a c → Holds honest image log old → Holds honest image log new
 entered_holds faults honest image log t n a c m x y old new e mine h =
     let s = old.script in
+    let o = old.objects in
     let step : Step = Calls n a c m in
-    let tied : (u : TxNo) → IsTied s u (past_of new.trace) (state_of u new.worlds) = λ u. elim (is_it u t) [
+    let tied : (u : TxNo) → IsTied s o u (past_of new.trace) (state_of u new.worlds) = λ u. elim (is_it u t) [
       | inl k ↦
-          subst (λ (v : TxNo). IsTied s v (past_of new.trace) (state_of v new.worlds)) (sym k)
-          (subst (λ (z : TxState). IsTied s t (past_of new.trace) z) (sym e.now)
-          (tied_here faults log t n a c m x y old new e mine (subst (λ (z : TxState). IsTied s t (past_of old.trace) z) e.was (h.tied t))))
+          subst (λ (v : TxNo). IsTied s o v (past_of new.trace) (state_of v new.worlds)) (sym k)
+          (subst (λ (z : TxState). IsTied s o t (past_of new.trace) z) (sym e.now)
+          (tied_here faults log t n a c m x y old new e mine (subst (λ (z : TxState). IsTied s o t (past_of old.trace) z) e.was (h.tied t))))
       | inr k ↦ tied_there faults log t n a c m x y old new e u k (h.tied u)
     ] in
     let at = log_still faults log t n a c m x y old new e in
     record {
-      tied = λ u. subst (λ (r : List Line). IsTied r u (past_of new.trace) (state_of u new.worlds)) (sym e.script) (tied u);
+      tied = λ u.
+          subst (λ (r : List Line). IsTied r new.objects u (past_of new.trace) (state_of u new.worlds)) (sym e.script)
+          (subst (λ (k : ℕ). IsTied s k u (past_of new.trace) (state_of u new.worlds)) (sym e.objects) (tied u));
       kept = each_still faults log t n a c m x y old new IsRecordKept e (λ k. e.kept) h.kept;
       goes = each_still faults log t n a c m x y old new (GoesWith log) e (λ k. goes_step faults t x y log log step e.own e.does refl k tt) h.goes;
       had = each_still faults log t n a c m x y old new (λ z. IsHad z log) e (had_as log x y e.does.transaction e.ours) h.had;
@@ -151,18 +156,19 @@ pub entered_turn : {D : Type 0} (faults : D → ℕ) (honest : Bool) (image : D 
     → Entered faults log t n a c m x y old new → Holds honest image log old → past_of new.trace ≡ after_turn old.script t (Calls n a c m) (past_of old.trace)
 entered_turn faults honest image log t n a c m x y old new e h =
     let T = past_of old.trace in
-    let tied : IsTied old.script t T x = subst (λ (z : TxState). IsTied old.script t T z) e.was (h.tied t) in
-    e.block ∙ turn_here old.script t T x (Calls n a c m) log.is_up tied e.own h.up refl
+    let tied : IsTied old.script old.objects t T x = subst (λ (z : TxState). IsTied old.script old.objects t T z) e.was (h.tied t) in
+    e.block ∙ turn_here old.script old.objects t T x (Calls n a c m) log.is_up tied e.own h.up refl
 
 -- The run has entered a call, where its transaction stood at t's place and was put there again.
 pub entered_at_place : {D : Type 0} (faults : D → ℕ) (log : LogState D) (t : TxNo) (n : ℕ) (a : ActorNo) (c : Call) (m : ℕ) (x y : TxState) (old new : RunState) (ws : List TxState) → AreNumbered ws
-    → t.value ≤ length ws → x ≡ get_or ws (t.value - 1) x → ((u : TxNo) → state_of u ws ≡ state_of u old.worlds) → new.script ≡ old.script → new.worlds ≡ set ws (t.value - 1) y
+    → t.value ≤ length ws → x ≡ get_or ws (t.value - 1) x → ((u : TxNo) → state_of u ws ≡ state_of u old.worlds) → new.script ≡ old.script → new.objects ≡ old.objects → new.worlds ≡ set ws (t.value - 1) y
     → IsOwnRun x.transaction.value x.world → Does faults (Calls n a c m) x log y log → (y.ours ≡ x.ours) × (y.unsure ≡ x.unsure) → IsRecordKept y → new.trace ≡ old.trace ++ placed t (written log.is_up t.value x.world (Calls n a c m))
     → Entered faults log t n a c m x y old new
-entered_at_place faults log t n a c m x y old new ws numbered made here same script worlds run does ours kept noted =
+entered_at_place faults log t n a c m x y old new ws numbered made here same script objects worlds run does ours kept noted =
     let at : state_of t ws ≡ x = state_reached t ws x made here in
     record {
       script = script;
+      objects = objects;
       others = λ u k. ap (λ (vs : List TxState). state_of u vs) worlds ∙ state_there u t ws y k ∙ same u;
       was = sym (same t) ∙ at;
       now = ap (λ (vs : List TxState). state_of t vs) worlds ∙ state_here t ws y made;
@@ -179,9 +185,9 @@ was_here : (old ws : List TxState) (t : TxNo) (x : TxState) → t.value ≤ leng
 was_here old ws t x made here same = sym (same t) ∙ state_reached t ws x made here
 
 -- so a call of the script may be entered there, where only calls of lines before it were
-pub may_enter_here : (s : List Line) (T : List Placed) (old ws : List TxState) (t : TxNo) (n : ℕ) (a : ActorNo) (c : Call) (x : TxState) → t.value ≤ length ws → x ≡ get_or ws (t.value - 1) x
-    → ((u : TxNo) → state_of u ws ≡ state_of u old) → AreMadeOnce (IsCallOf s t.value) → IsTied s t T (state_of t old) → IsCallOf s t.value n a c → IsBelow n (state_of t old) → may_enter x.world n c ≡ true
-may_enter_here s T old ws t n a c x made here same once tied given below =
+pub may_enter_here : (s : List Line) (o : ℕ) (T : List Placed) (old ws : List TxState) (t : TxNo) (n : ℕ) (a : ActorNo) (c : Call) (x : TxState) → t.value ≤ length ws → x ≡ get_or ws (t.value - 1) x
+    → ((u : TxNo) → state_of u ws ≡ state_of u old) → AreMadeOnce (IsCallOf s t.value) → IsTied s o t T (state_of t old) → IsCallOf s t.value n a c → IsBelow n (state_of t old) → may_enter x.world n c ≡ true
+may_enter_here s o T old ws t n a c x made here same once tied given below =
     subst (λ (z : TxState). may_enter z.world n c ≡ true) (was_here old ws t x made here same) (enters s t.value n a c (state_of t old).world once given tied.given below)
 
 -- and may answer as it may in the run

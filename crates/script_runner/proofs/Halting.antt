@@ -10,7 +10,7 @@ use Rattle.dtx_model.specs.Words.{each, has, onto}
 use Rattle.dtx_model.specs.Log.{CommitRecord, first_of}
 use Rattle.dtx_values.specs.Table.{how_many}
 use Rattle.dtx_model.specs.AtLog.{hit, is_hit, is_known, known, one_if, transactions}
-use Rattle.dtx_model.specs.Caused.{is_begin_sent, plans_of}
+use Rattle.dtx_model.specs.Caused.{has_object, is_begin_sent, plans_of}
 use Rattle.dtx_model.specs.Replay.{put_at}
 use Rattle.dtx_model.specs.Steps.{Restarts, Stops, after, block_at, restarted}
 use Rattle.dtx_model.specs.Tied.{tied as is_tied_history}
@@ -21,6 +21,7 @@ use Rattle.dtx_model.proofs.Bools.{and_both, and_left, and_never}
 use Rattle.dtx_model.proofs.SameNumbers.{same_transaction}
 use Rattle.outcome_law.proofs.CoreStages.{stopped_same}
 use Rattle.outcome_law.proofs.PutAt.{history-hit, history-known, is_tx, many-hit, many-known, one_more}
+use Rattle.script_calls.proofs.RightReplies.{is_right, right_onto}
 use Rattle.coordinator_log.specs.Slots.{open_records}
 use Rattle.coordinator_log.specs.State.{LogState}
 use Rattle.tx_world.specs.AtLog.{Fits, id_of}
@@ -30,10 +31,9 @@ use Rattle.tx_world.specs.State.{TxState, is_hit_by, is_reached_by}
 use Rattle.tx_world.proofs.Naming.{named_halt, named_told}
 use Rattle.script_runner.specs.RunState.{AreNumbered, GoesWith, HaveSameCalls, IsTied, IsToPlan, halted, record_in, reopened, state_of, untouched}
 use Rattle.script_runner.proofs.ByNumber.{AreUpTo, Rises, le_last, le_other, le_yet, one_where, put_next, rises-filter, rises-transactions, up_to_all, up_to_next, up_to_none}
-use Rattle.script_runner.proofs.Deeds.{is_to}
 use Rattle.script_runner.proofs.Goes.{restarts_core, stops_core}
 use Rattle.script_runner.proofs.Numbered.{is_it, numbered_set, state_here, state_reached, state_there, state_unreached}
-use Rattle.script_runner.proofs.Tying.{given_same, to_plan_onto}
+use Rattle.script_runner.proofs.Tying.{given_same}
 
 -- What is done at each transaction up to number n: each of them becomes what g makes of it, and an entry is written at those that pass p.
 pub record IsThrough (g : TxState → TxState) (p : TxState → Bool) (f : TxNo → Entry) (ws : List TxState) (T : List Placed) (n : ℕ) (vs : List TxState) (U : List Placed) : Type 0 where
@@ -193,39 +193,39 @@ hit_known life own true true k = refl
 hit_known life own true false k = elim (leb_tells own life) [ inl l ↦ l.0 | inr l ↦ let high = l.1 in let same = k refl in absurd (omega (arith, high, same)) ]
 hit_known life own false c k = refl
 
-pub hit_same : (s : List Line) (life : ℕ) (t : TxNo) (T : List Placed) (x : TxState) → IsTied s t T x → (has is_begin_sent x.world.past ≡ true → x.life ≡ life) → is_hit_by life x ≡ is_hit T t
-hit_same s life t T x tied lives =
+pub hit_same : (s : List Line) (o : ℕ) (life : ℕ) (t : TxNo) (T : List Placed) (x : TxState) → IsTied s o t T x → (has is_begin_sent x.world.past ≡ true → x.life ≡ life) → is_hit_by life x ≡ is_hit T t
+hit_same s o life t T x tied lives =
     hit_known life x.life (has is_begin_sent x.world.past) (core x.world).stopped lives
     ∙ (ap (λ (c : Bool). has is_begin_sent x.world.past && not c) (stopped_same x.world.past)
     ∙ ap (λ (h : List Entry). has is_begin_sent h && not (is_stopped h)) tied.past)
 
 -- So a stop of the log, told to each by number.
-pub halted_trace : (s : List Line) (life : ℕ) (ws vs : List TxState) (T U : List Placed) (n : ℕ) → IsThrough (halted life) (is_hit_by life) (λ t. Stopped) ws T n vs U → length ws ≤ n
-    → ((t : TxNo) → IsTied s t T (state_of t ws)) → ((t : TxNo) → has is_begin_sent (state_of t ws).world.past ≡ true → (state_of t ws).life ≡ life)
+pub halted_trace : (s : List Line) (o : ℕ) (life : ℕ) (ws vs : List TxState) (T U : List Placed) (n : ℕ) → IsThrough (halted life) (is_hit_by life) (λ t. Stopped) ws T n vs U → length ws ≤ n
+    → ((t : TxNo) → IsTied s o t T (state_of t ws)) → ((t : TxNo) → has is_begin_sent (state_of t ws).world.past ≡ true → (state_of t ws).life ≡ life)
     → U ≡ put_at (λ t. Stopped) (hit T) T
-halted_trace s life ws vs T U n a all tied lives =
-    through_trace (halted life) (is_hit_by life) (λ t. Stopped) ws vs T U n (is_hit T) (hit T) a all refl (λ t. refl) (λ t. hit_same s life t T (state_of t ws) (tied t) (lives t)) (λ u. many-hit u T)
+halted_trace s o life ws vs T U n a all tied lives =
+    through_trace (halted life) (is_hit_by life) (λ t. Stopped) ws vs T U n (is_hit T) (hit T) a all refl (λ t. refl) (λ t. hit_same s o life t T (state_of t ws) (tied t) (lives t)) (λ u. many-hit u T)
 
 -- each is tied to the trace with it,
 one_more_where : (b : Bool) (x : Entry) (h : List Entry) → onto h (one_where b x) ≡ one_more b x h
 one_more_where true x h = refl
 one_more_where false x h = refl
 
-pub halted_tied : (s : List Line) (life : ℕ) (t : TxNo) (T : List Placed) (x : TxState) → IsTied s t T x → (has is_begin_sent x.world.past ≡ true → x.life ≡ life)
-    → IsTied s t (put_at (λ u. Stopped) (hit T) T) (halted life x)
-halted_tied s life t T x tied lives =
+pub halted_tied : (s : List Line) (o : ℕ) (life : ℕ) (t : TxNo) (T : List Placed) (x : TxState) → IsTied s o t T x → (has is_begin_sent x.world.past ≡ true → x.life ≡ life)
+    → IsTied s o t (put_at (λ u. Stopped) (hit T) T) (halted life x)
+halted_tied s o life t T x tied lives =
     let alike = halted_as life x in
     record {
       past =
           alike.past
           ∙ (one_more_where (is_hit_by life x) Stopped x.world.past
-          ∙ (ap (λ b. one_more b Stopped x.world.past) (hit_same s life t T x tied lives)
+          ∙ (ap (λ b. one_more b Stopped x.world.past) (hit_same s o life t T x tied lives)
           ∙ (ap (λ h. one_more (is_hit T t) Stopped h) tied.past ∙ sym (history-hit t (λ u. Stopped) T T))));
       given = given_same s t.value x.world (halted life x).world alike.calls tied.given;
-      planned = subst (λ (h : List Entry). IsToPlan s h) (sym alike.past) (to_plan_onto s x.world.past (one_where (is_hit_by life x) Stopped) tied.planned (as_planned (is_hit_by life x)));
+      planned = subst (λ (h : List Entry). IsToPlan s o h) (sym alike.past) (right_onto (plans_of s) (has_object s o) x.world.past (one_where (is_hit_by life x) Stopped) tied.planned (as_planned (is_hit_by life x)));
     }
   where
-    as_planned : (b : Bool) → each (is_to (plans_of s)) (one_where b Stopped) ≡ true
+    as_planned : (b : Bool) → each (is_right (plans_of s) (has_object s o)) (one_where b Stopped) ≡ true
     as_planned true = refl
     as_planned false = refl
 
@@ -322,38 +322,38 @@ reached_known : (life own : ℕ) (b : Bool) → (b ≡ true → own < life) → 
 reached_known life own true k = elim (leb_tells life own) [ inl l ↦ let high = l.1 in let less = k refl in absurd (omega (arith, high, less)) | inr l ↦ ap not l.0 ]
 reached_known life own false k = refl
 
-pub reached_same : (s : List Line) (life : ℕ) (t : TxNo) (T : List Placed) (x : TxState) → IsTied s t T x → (has is_begin_sent x.world.past ≡ true → x.life < life) → is_reached_by life x ≡ is_known T t
-reached_same s life t T x tied lives = reached_known life x.life (has is_begin_sent x.world.past) lives ∙ ap (λ (h : List Entry). has is_begin_sent h) tied.past
+pub reached_same : (s : List Line) (o : ℕ) (life : ℕ) (t : TxNo) (T : List Placed) (x : TxState) → IsTied s o t T x → (has is_begin_sent x.world.past ≡ true → x.life < life) → is_reached_by life x ≡ is_known T t
+reached_same s o life t T x tied lives = reached_known life x.life (has is_begin_sent x.world.past) lives ∙ ap (λ (h : List Entry). has is_begin_sent h) tied.past
 
 -- So an opening of the log, told to each by number.
-pub reopened_trace : {D : Type 0} (s : List Line) (log : LogState D) (ws vs : List TxState) (T U : List Placed) (n : ℕ)
-    → IsThrough (reopened log) (is_reached_by log.life) (λ t. Restarted (is_some (record_in log.slots t.value))) ws T n vs U → length ws ≤ n → ((t : TxNo) → IsTied s t T (state_of t ws))
+pub reopened_trace : {D : Type 0} (s : List Line) (o : ℕ) (log : LogState D) (ws vs : List TxState) (T U : List Placed) (n : ℕ)
+    → IsThrough (reopened log) (is_reached_by log.life) (λ t. Restarted (is_some (record_in log.slots t.value))) ws T n vs U → length ws ≤ n → ((t : TxNo) → IsTied s o t T (state_of t ws))
     → ((t : TxNo) → has is_begin_sent (state_of t ws).world.past ≡ true → (state_of t ws).life < log.life)
     → U ≡ put_at (λ t. Restarted (is_some (record_in log.slots t.value))) (known T) T
-reopened_trace s log ws vs T U n a all tied lives =
+reopened_trace s o log ws vs T U n a all tied lives =
     through_trace (reopened log) (is_reached_by log.life) (λ t. Restarted (is_some (record_in log.slots t.value))) ws vs T U n (is_known T) (known T) a all refl (λ t. refl)
-    (λ t. reached_same s log.life t T (state_of t ws) (tied t) (lives t)) (λ u. many-known u T)
+    (λ t. reached_same s o log.life t T (state_of t ws) (tied t) (lives t)) (λ u. many-known u T)
 
 -- each is tied to the trace with it
-pub reopened_tied : {D : Type 0} (s : List Line) (log : LogState D) (t : TxNo) (T : List Placed) (x : TxState) → x.transaction ≡ t → IsTied s t T x
+pub reopened_tied : {D : Type 0} (s : List Line) (o : ℕ) (log : LogState D) (t : TxNo) (T : List Placed) (x : TxState) → x.transaction ≡ t → IsTied s o t T x
     → (has is_begin_sent x.world.past ≡ true → (core x.world).stopped ≡ true) → (has is_begin_sent x.world.past ≡ true → x.life < log.life)
-    → IsTied s t (put_at (λ u. Restarted (is_some (record_in log.slots u.value))) (known T) T) (reopened log x)
-reopened_tied {D} s log t T x number tied stopped lives =
+    → IsTied s o t (put_at (λ u. Restarted (is_some (record_in log.slots u.value))) (known T) T) (reopened log x)
+reopened_tied {D} s o log t T x number tied stopped lives =
     let found = Restarted (is_some (record_in log.slots x.transaction.value)) in
     let past = reopened_past log x stopped in
     record {
       past =
           past
           ∙ (one_more_where (is_reached_by log.life x) found x.world.past
-          ∙ (ap (λ b. one_more b found x.world.past) (reached_same s log.life t T x tied lives)
+          ∙ (ap (λ b. one_more b found x.world.past) (reached_same s o log.life t T x tied lives)
           ∙ (ap (λ h. one_more (is_known T t) found h) tied.past
           ∙ (ap (λ (u : TxNo). one_more (is_known T t) (Restarted (is_some (record_in log.slots u.value))) (history t.value T)) number
           ∙ sym (history-known t (λ u. Restarted (is_some (record_in log.slots u.value))) T T)))));
       given = given_same s t.value x.world (reopened log x).world (reopened_calls log x) tied.given;
-      planned = subst (λ (h : List Entry). IsToPlan s h) (sym past) (to_plan_onto s x.world.past (one_where (is_reached_by log.life x) found) tied.planned (as_planned (is_reached_by log.life x)));
+      planned = subst (λ (h : List Entry). IsToPlan s o h) (sym past) (right_onto (plans_of s) (has_object s o) x.world.past (one_where (is_reached_by log.life x) found) tied.planned (as_planned (is_reached_by log.life x)));
     }
   where
-    as_planned : (b : Bool) → each (is_to (plans_of s)) (one_where b (Restarted (is_some (record_in log.slots x.transaction.value)))) ≡ true
+    as_planned : (b : Bool) → each (is_right (plans_of s) (has_object s o)) (one_where b (Restarted (is_some (record_in log.slots x.transaction.value)))) ≡ true
     as_planned true = refl
     as_planned false = refl
 

@@ -24,18 +24,13 @@ use Rattle.dtx_model.specs.Words.{has, past_of}
 use Rattle.coordinator_log.specs.Crash.{AllHold}
 use Rattle.coordinator_log.specs.Slots.{open_records}
 use Rattle.coordinator_log.specs.State.{LogState}
-use Rattle.program_words.specs.declared.command.Command.TheVariants.{Replay, Make, Demo}
+use Rattle.program_words.specs.declared.command.Command.TheVariants.{Replay, Make, Demo, Threads}
 use Rattle.program_words.specs.declared.command.Form.{Form}
-use Rattle.script_runner.specs.Judged.{IsJudged}
-use Rattle.script_runner.specs.declared.exit.Exit.{Exit}
-use Rattle.script_runner.specs.declared.exit.Exit.TheVariants.{BadScript, Fine, Memory, WriteFault}
 use Rattle.tx_world.specs.AtLog.{AreLogs}
 use Rattle.script_runner.specs.Ending.{AreOfTransactions, AreOwnLogs, AreRecorded, EachHolds, EndsAs, HasNone, IsLog, IsLogOf, MayBeRecorded}
 use Rattle.script_runner.specs.LogRun.{AreForeignSame, IsForeignKept, LogGoes, LogStays, MetNoFault, has_log_line, is_no_log_answer}
-use Rattle.script_runner.specs.Program.{HasNoLogLine, IsCutShort, IsReplayOf, IsWritten, form_text}
-use Rattle.script_runner.specs.Refusal.{IsReplayText}
+use Rattle.script_runner.specs.Program.{HasNoLogLine, IsReplayOf}
 use Rattle.script_runner.specs.Run.{AreTied, IsRunOf}
-use Rattle.script_runner.specs.Transfer.{IsPartWritten}
 use Rattle.script_runner.specs.Waits.{AreWaitsAnswered}
 
 -- a script in the bytes that are read ends before they do, so they are all
@@ -55,15 +50,6 @@ IsFront given bytes = ForSome given (λ b. bytes ≡ take 1048577 b)
 pub reads-front : (given : Option (List ℕ)) (bytes : List ℕ) (s : List Line) → IsFront given bytes → Reads bytes s → ForSome given (λ b. Reads b s)
 reads-front given bytes s front reads b told = reads-all b s (subst (λ (x : List ℕ). Reads x s) (front b told) reads)
 
--- the text of a replay's trace is that of a replay
-pub text_of : {D E : Type 0} (faults : D → ℕ) (honest : Bool) (image : D → List ℕ → Type 0) (f : Form) (s : List Line) (old new : LogState D) (T : List Placed) (r : Result (Vec ℕ Global) E)
-    → IsRunOf s 0 (faults old.disk) (faults new.disk) (honest && is_empty (open_records old.slots)) T → (IsTrue honest → AreTied T) → (AreTied T → HasOneOutcome T) → (AreTied T → IsComplete s T)
-    → (AreTied T → AreWaitsAnswered s T) → new.is_up ≡ is_log_up (past_of T) → (IsTrue honest → EndsAs image (open_records old.slots) new (past_of T))
-    → (IsTrue honest → has is_no_log_answer (at_log (past_of T)) ≡ false) → IfOk r (λ v. v.items ≡ form_text f T) → IfOk r (λ v. IsReplayText faults honest image f s old new v.items)
-text_of faults honest image f s old new T (Ok v) run tied outcome complete waited up ended unlike k =
-    record { trace = T; run = run; tied = tied; outcome = outcome; complete = complete; waited = waited; up = up; ended = ended; unlike = unlike; spelled = k }
-text_of faults honest image f s old new T (Err e) run tied outcome complete waited up ended unlike k = k
-
 -- A log that had no record when a run began has none of a script's transactions.
 pub none_there : (rs : List CommitRecord) → rs ≡ [] → HasNone rs
 none_there rs none t = ap (λ (xs : List CommitRecord). filter (is_record_of (identifier_of t.value)) xs) none
@@ -71,6 +57,10 @@ none_there rs none t = ap (λ (xs : List CommitRecord). filter (is_record_of (id
 -- a log that was formatted is in its first life
 pub none_below : (n most : ℕ) → n ≡ 0 → n ≤ most
 none_below n most e = omega (arith, e)
+
+-- where a log has no record, each image that has its records has none
+pub held_none : {D : Type 0} (image : D → List ℕ → Type 0) (log : LogState D) → open_records log.slots ≡ [] → AllHold (image log.disk) (open_records log.slots) → AllHold (image log.disk) []
+held_none image log empty held = subst (λ (rs : List CommitRecord). AllHold (image log.disk) rs) empty held
 
 -- Each image of a log that was formatted is a log without a record, and no record is no transaction's.
 are_empty : (image : List ℕ → Type 0) → AllHold image [] → AreLogs image
@@ -138,65 +128,35 @@ is_log_of image before to T none up ended =
     }
 
 -- the run is one from and to the counts that the disk had before it was a log and after it
-is_run_of : (s : List Line) (a b from to : ℕ) (honest : Bool) (rs : List CommitRecord) (T : List Placed) → from ≡ a → to ≡ b → rs ≡ [] → IsRunOf s 0 from to (honest && is_empty rs) T → IsRunOf s 0 a b honest T
-is_run_of s a b from to honest rs T e f none run =
-    let blank : IsRunOf s 0 from to honest T =
-    subst (λ (h : Bool). IsRunOf s 0 from to h T) (ap (λ (xs : List CommitRecord). honest && is_empty xs) none ∙ and-true honest) run in
-    subst (λ (n : ℕ). IsRunOf s 0 n b honest T) e (subst (λ (n : ℕ). IsRunOf s 0 from n honest T) f blank)
+is_run_of : (s : List Line) (k a b from to : ℕ) (honest : Bool) (rs : List CommitRecord) (T : List Placed) → from ≡ a → to ≡ b → rs ≡ [] → IsRunOf s k from to (honest && is_empty rs) T → IsRunOf s k a b honest T
+is_run_of s k a b from to honest rs T e f none run =
+    let blank : IsRunOf s k from to honest T =
+    subst (λ (h : Bool). IsRunOf s k from to h T) (ap (λ (xs : List CommitRecord). honest && is_empty xs) none ∙ and-true honest) run in
+    subst (λ (n : ℕ). IsRunOf s k n b honest T) e (subst (λ (n : ℕ). IsRunOf s k from n honest T) f blank)
 
--- What the top call knows when the text is to be written: a replay of the script that the source gave, whose text it is.
-pub record HasText (f : Form) (from to : ℕ) (honest : Bool) (image : List ℕ → Type 0) (given : Option (List ℕ)) (text : List ℕ) : Type 0 where
-  pub lines : List Line
-  pub trace : List Placed
-  pub replay : IsReplayOf given from to honest image lines trace
-  pub spelled : text ≡ form_text f trace
-
--- That is so after a replay over a log that was made of a disk without a fault.
-pub has_text : {D : Type 0} (faults : D → ℕ) (honest : Bool) (image : D → List ℕ → Type 0) (f : Form) (start end : D) (from to : LogState D) (given : Option (List ℕ)) (bytes : List ℕ) (s : List Line) (text : List ℕ)
-    → faults from.disk ≡ faults start → end ≡ to.disk → open_records from.slots ≡ [] → IsFront given bytes → Reads bytes s → IsReplayText faults honest image f s from to text
-    → HasText f (faults start) (faults end) honest (image end) given text
-has_text faults honest image f start end from to given bytes s text smooth same empty front reads t =
+-- What run_replay says of its trace is what a replay over a log without a record promises, at the disk that is taken back.
+pub is_replay : {D : Type 0} (faults : D → ℕ) (honest : Bool) (image : D → List ℕ → Type 0) (k : ℕ) (s : List Line) (end : D) (old new : LogState D) (T : List Placed) → end ≡ new.disk → open_records old.slots ≡ []
+    → IsRunOf s k (faults old.disk) (faults new.disk) (honest && is_empty (open_records old.slots)) T → (IsTrue honest → AreTied T) → (AreTied T → HasOneOutcome T) → (AreTied T → IsComplete s T)
+    → (AreTied T → AreWaitsAnswered s T) → new.is_up ≡ is_log_up (past_of T) → (IsTrue honest → EndsAs image (open_records old.slots) new (past_of T))
+    → (IsTrue honest → has is_no_log_answer (at_log (past_of T)) ≡ false) → IsReplayOf k (faults old.disk) (faults end) honest (image end) s T
+is_replay faults honest image k s end old new T same empty run tied outcome complete waited up ended unlike =
     record {
-      lines = s;
-      trace = t.trace;
-      replay =
-          record {
-            read = reads-front given bytes s front reads;
-            script = reads.script;
-            run =
-                is_run_of s (faults start) (faults end) (faults from.disk) (faults to.disk) honest (open_records from.slots) t.trace smooth (sym (ap faults same)) empty
-                t.run;
-            tied = t.tied;
-            outcome = t.outcome;
-            complete = t.complete;
-            waited = t.waited;
-            log = λ h. subst (λ d. IsLogOf (image d) t.trace) (sym same) (is_log_of image (open_records from.slots) to t.trace empty t.up (t.ended h));
-            unlike = t.unlike;
-          };
-      spelled = t.spelled;
+      run = is_run_of s k (faults old.disk) (faults end) (faults old.disk) (faults new.disk) honest (open_records old.slots) T refl (sym (ap faults same)) empty run;
+      tied = tied;
+      outcome = outcome;
+      complete = complete;
+      waited = waited;
+      log = λ h. subst (λ d. IsLogOf (image d) T) (sym same) (is_log_of image (open_records old.slots) new T empty up (ended h));
+      unlike = unlike;
     }
 
--- the text was written whole
-pub is_written : (f : Form) (from to : ℕ) (honest : Bool) (image : List ℕ → Type 0) (given before after : Option (List ℕ)) (text out : List ℕ) → HasText f from to honest image given text → out ≡ text
-    → ForSome before (λ w. after ≡ Some (w ++ out)) → IsWritten f from to honest image given before after
-is_written f from to honest image given before after text out x same gained =
-    record {
-      lines = x.lines;
-      trace = x.trace;
-      replay = x.replay;
-      gained = λ w told. gained w told ∙ ap (λ (y : List ℕ). Some (w ++ y)) (same ∙ x.spelled);
-    }
-
--- a part of the text was written
-pub is_cut_short : (f : Form) (from to : ℕ) (honest : Bool) (image : List ℕ → Type 0) (given before after : Option (List ℕ)) (text out : List ℕ) → HasText f from to honest image given text → out ≡ text
-    → ForSome before (λ w. IsPartWritten w out after) → IsCutShort f from to honest image given before after
-is_cut_short f from to honest image given before after text out x same gained =
-    record {
-      lines = x.lines;
-      trace = x.trace;
-      replay = x.replay;
-      gained = λ w told. subst (λ (y : List ℕ). IsPartWritten w y after) (same ∙ x.spelled) (gained w told);
-    }
+pub is_replay_if : {D : Type 0} (faults : D → ℕ) (honest : Bool) (image : D → List ℕ → Type 0) (k : ℕ) (s : List Line) (end : D) (old new : LogState D) {E : Type 0} (r : Result (List Placed) E) → end ≡ new.disk → open_records old.slots ≡ []
+    → IfOk r (λ T. IsRunOf s k (faults old.disk) (faults new.disk) (honest && is_empty (open_records old.slots)) T) → (IsTrue honest → IfOk r (λ T. AreTied T)) → IfOk r (λ T. AreTied T → HasOneOutcome T)
+    → IfOk r (λ T. AreTied T → IsComplete s T) → IfOk r (λ T. AreTied T → AreWaitsAnswered s T) → IfOk r (λ T. new.is_up ≡ is_log_up (past_of T))
+    → (IsTrue honest → IfOk r (λ T. EndsAs image (open_records old.slots) new (past_of T))) → (IsTrue honest → IfOk r (λ T. has is_no_log_answer (at_log (past_of T)) ≡ false))
+    → IfOk r (λ T. IsReplayOf k (faults old.disk) (faults end) honest (image end) s T)
+is_replay_if faults honest image k s end old new (Ok T) same empty run tied outcome complete waited up ended unlike = is_replay faults honest image k s end old new T same empty run tied outcome complete waited up ended unlike
+is_replay_if faults honest image k s end old new (Err e) same empty run tied outcome complete waited up ended unlike = run
 
 -- nothing is left after a script
 pub left-none : (given left : Option (List ℕ)) (bytes : List ℕ) (s : List Line) → IsFront given bytes → Reads bytes s → ForSome given (λ b. left ≡ Some (drop 1048577 b))
@@ -222,11 +182,6 @@ made_same n m e = cc
 pub demo_same : (n m : ℕ) → Demo n ≡ Demo m → n ≡ m
 demo_same n m e = cc
 
--- an answer that names no bad line judges nothing
-pub never_judged : (x : Exit) → ((n : ℕ) (c : BadCause) → x ≡ BadScript n c → ⊥) → IsJudged x → ⊥
-never_judged x none (n, c, e) = none n c e
-
-pub not_judged : (x : Exit) → (x ≡ Fine) ⊎ ((x ≡ WriteFault) ⊎ (x ≡ Memory)) → (n : ℕ) (c : BadCause) → x ≡ BadScript n c → ⊥
-not_judged x (inl a) n c e = cc
-not_judged x (inr (inl a)) n c e = cc
-not_judged x (inr (inr a)) n c e = cc
+-- two runs on threads that are one have the same number of helpers and the same form
+pub threads_same : (h j : ℕ) (f g : Form) → Threads h f ≡ Threads j g → f ≡ g
+threads_same h j f g e = cc

@@ -207,8 +207,8 @@ none_in : (k : ℕ) (c : EnteredCall) → kth {A = EnteredCall} [] k ≡ Some c 
 none_in zero c e = absurd cc
 none_in (suc k) c e = absurd cc
 
-tied_at_start : (s : List Line) (t : TxNo) → IsTied s t [] (untouched t)
-tied_at_start s t = record { past = refl; given = λ n a c k. absurd (none_in k.place (record { line = n; actor = a; call = c }) k.stands); planned = refl }
+tied_at_start : (s : List Line) (o : ℕ) (t : TxNo) → IsTied s o t [] (untouched t)
+tied_at_start s o t = record { past = refl; given = λ n a c k. absurd (none_in k.place (record { line = n; actor = a; call = c }) k.stands); planned = refl }
 
 -- each transaction keeps nothing,
 kept_at_start : (t : TxNo) → IsRecordKept (untouched t)
@@ -234,11 +234,11 @@ in_each : (P : List CommitRecord → Type 0) (image : List ℕ → Type 0) (rs :
 in_each P image rs held p c i = subst (λ r. IfOk r P) (sym (held c i)) p
 
 -- So all holds of a run before its first step,
-pub holds_at_start : {D : Type 0} (honest : Bool) (image : D → List ℕ → Type 0) (log : LogState D) (s : List Line) (cs : List Standing) → IsTrue log.is_up → (IsTrue honest → HasNone (open_records log.slots))
-    → (IsTrue honest → AllHold (image log.disk) (open_records log.slots)) → Holds honest image log (record { script = s; worlds = []; contexts = cs; trace = [] })
-holds_at_start honest image log s cs up none held =
+pub holds_at_start : {D : Type 0} (honest : Bool) (image : D → List ℕ → Type 0) (log : LogState D) (s : List Line) (o : ℕ) (cs : List Standing) → IsTrue log.is_up → (IsTrue honest → HasNone (open_records log.slots))
+    → (IsTrue honest → AllHold (image log.disk) (open_records log.slots)) → Holds honest image log (record { script = s; objects = o; worlds = []; contexts = cs; trace = [] })
+holds_at_start honest image log s o cs up none held =
     record {
-      tied = λ t. tied_at_start s t;
+      tied = λ t. tied_at_start s o t;
       kept = λ t. kept_at_start t;
       goes = λ t. goes_at_start log t;
       had = λ t u o. absurd cc;

@@ -45,12 +45,13 @@ use Rattle.script_runner.proofs.TellingOpenings.{IsJust}
 use Rattle.script_runner.proofs.Tying.{tied_same}
 
 -- A transaction is tied to a trace with an entry of the log after it.
-pub tied_at_log : (s : List Line) (t : TxNo) (T : List Placed) (e : Entry) (x : TxState) → IsTied s t T x → IsTied s t (at_the_log e T) x
-tied_at_log s t T e x k = tied_same s t T ((Log, e) ∷ T) x refl k
+pub tied_at_log : (s : List Line) (o : ℕ) (t : TxNo) (T : List Placed) (e : Entry) (x : TxState) → IsTied s o t T x → IsTied s o t (at_the_log e T) x
+tied_at_log s o t T e x k = tied_same s o t T ((Log, e) ∷ T) x refl k
 
 -- the same of the same
-pub tied_move : (s r : List Line) (t : TxNo) (T U : List Placed) (x y : TxState) → r ≡ s → U ≡ T → y ≡ x → IsTied s t T x → IsTied r t U y
-tied_move s r t T U x y a b c k = subst (λ (q : List Line). IsTied q t U y) (sym a) (subst (λ (V : List Placed). IsTied s t V y) (sym b) (subst (λ (z : TxState). IsTied s t T z) (sym c) k))
+pub tied_move : (s r : List Line) (o w : ℕ) (t : TxNo) (T U : List Placed) (x y : TxState) → r ≡ s → w ≡ o → U ≡ T → y ≡ x → IsTied s o t T x → IsTied r w t U y
+tied_move s r o w t T U x y a e b c k =
+    subst (λ (q : List Line). IsTied q w t U y) (sym a) (subst (λ (m : ℕ). IsTied s m t U y) (sym e) (subst (λ (V : List Placed). IsTied s o t V y) (sym b) (subst (λ (z : TxState). IsTied s o t T z) (sym c) k)))
 
 -- a log isn't both up and down
 never_up : {A : Type 0} (b : Bool) → b ≡ false → IsTrue b → A
@@ -80,13 +81,13 @@ goes_armed faults honest image from to k i e =
     subst (LogGoes faults honest image from) (sym e)
     (record { grows = le_refl (faults from.disk); logs = λ h are. are; foreign = λ h before kept. record { up = kept.up; imaged = kept.imaged } })
 
-holds_with_stop : {D : Type 0} (honest : Bool) (image : D → List ℕ → Type 0) (from : LogState D) (r q : RunState) (n : ℕ) (a : ActorNo) (k : ℕ) (i : Image) → q.script ≡ r.script → q.worlds ≡ r.worlds
+holds_with_stop : {D : Type 0} (honest : Bool) (image : D → List ℕ → Type 0) (from : LogState D) (r q : RunState) (n : ℕ) (a : ActorNo) (k : ℕ) (i : Image) → q.script ≡ r.script → q.objects ≡ r.objects → q.worlds ≡ r.worlds
     → past_of q.trace ≡ at_the_log (LogWord (Armed k i)) (at_the_log (Called n a Fine) (past_of r.trace)) → Holds honest image from r → Holds honest image (with_stop from k i) q
-holds_with_stop {D} honest image from r q n a k i script worlds trace h =
+holds_with_stop {D} honest image from r q n a k i script objects worlds trace h =
     let T = past_of r.trace in record {
       tied = λ t.
-          tied_move r.script q.script t ((Log, LogWord (Armed k i)) ∷ (Log, Called n a Fine) ∷ T) (past_of q.trace) (state_of t r.worlds) (state_of t q.worlds) script trace (ap (state_of t) worlds)
-          (tied_at_log r.script t ((Log, Called n a Fine) ∷ T) (LogWord (Armed k i)) (state_of t r.worlds) (tied_at_log r.script t T (Called n a Fine) (state_of t r.worlds) (h.tied t)));
+          tied_move r.script q.script r.objects q.objects t ((Log, LogWord (Armed k i)) ∷ (Log, Called n a Fine) ∷ T) (past_of q.trace) (state_of t r.worlds) (state_of t q.worlds) script objects trace (ap (state_of t) worlds)
+          (tied_at_log r.script r.objects t ((Log, Called n a Fine) ∷ T) (LogWord (Armed k i)) (state_of t r.worlds) (tied_at_log r.script r.objects t T (Called n a Fine) (state_of t r.worlds) (h.tied t)));
       kept = λ t. subst (λ ws. IsRecordKept (state_of t ws)) (sym worlds) (h.kept t);
       goes = λ t. subst (λ ws. GoesWith (with_stop from k i) (state_of t ws)) (sym worlds) (record { life = (h.goes t).life; stopped = (h.goes t).stopped });
       had = λ t. subst (λ ws. IsHad (state_of t ws) (with_stop from k i)) (sym worlds) (h.had t);
@@ -97,18 +98,18 @@ holds_with_stop {D} honest image from r q n a k i script worlds trace h =
       named = λ is t. subst (λ ws. NamesPrepared (state_of t ws)) (sym worlds) (h.named is t);
     }
 
-pub holds_armed : {D : Type 0} (honest : Bool) (image : D → List ℕ → Type 0) (from to : LogState D) (r q : RunState) (n : ℕ) (a : ActorNo) (k : ℕ) (i : Image) → to ≡ with_stop from k i → q.script ≡ r.script → q.worlds ≡ r.worlds
+pub holds_armed : {D : Type 0} (honest : Bool) (image : D → List ℕ → Type 0) (from to : LogState D) (r q : RunState) (n : ℕ) (a : ActorNo) (k : ℕ) (i : Image) → to ≡ with_stop from k i → q.script ≡ r.script → q.objects ≡ r.objects → q.worlds ≡ r.worlds
     → past_of q.trace ≡ at_the_log (LogWord (Armed k i)) (at_the_log (Called n a Fine) (past_of r.trace)) → Holds honest image from r → Holds honest image to q
-holds_armed honest image from to r q n a k i e script worlds trace h = subst (λ l. Holds honest image l q) (sym e) (holds_with_stop honest image from r q n a k i script worlds trace h)
+holds_armed honest image from to r q n a k i e script objects worlds trace h = subst (λ l. Holds honest image l q) (sym e) (holds_with_stop honest image from r q n a k i script objects worlds trace h)
 
 -- The call of a restart, where the log was down: it still is.
 pub holds_called : {D : Type 0} (honest : Bool) (image : D → List ℕ → Type 0) (from to : LogState D) (r q : RunState) (n : ℕ) (a : ActorNo) (x : Answer) → from.is_up ≡ false → to.is_up ≡ false → to.life ≡ from.life
-    → (IsTrue honest → AreWithin (image from.disk) (image to.disk)) → q.script ≡ r.script → q.worlds ≡ r.worlds → past_of q.trace ≡ at_the_log (Called n a x) (past_of r.trace) → Holds honest image from r → Holds honest image to q
-holds_called {D} honest image from to r q n a x was down life within script worlds trace h =
+    → (IsTrue honest → AreWithin (image from.disk) (image to.disk)) → q.script ≡ r.script → q.objects ≡ r.objects → q.worlds ≡ r.worlds → past_of q.trace ≡ at_the_log (Called n a x) (past_of r.trace) → Holds honest image from r → Holds honest image to q
+holds_called {D} honest image from to r q n a x was down life within script objects worlds trace h =
     let T = past_of r.trace in record {
       tied = λ t.
-          tied_move r.script q.script t ((Log, Called n a x) ∷ T) (past_of q.trace) (state_of t r.worlds) (state_of t q.worlds) script trace (ap (state_of t) worlds)
-          (tied_at_log r.script t T (Called n a x) (state_of t r.worlds) (h.tied t));
+          tied_move r.script q.script r.objects q.objects t ((Log, Called n a x) ∷ T) (past_of q.trace) (state_of t r.worlds) (state_of t q.worlds) script objects trace (ap (state_of t) worlds)
+          (tied_at_log r.script r.objects t T (Called n a x) (state_of t r.worlds) (h.tied t));
       kept = λ t. subst (λ ws. IsRecordKept (state_of t ws)) (sym worlds) (h.kept t);
       goes = λ t. subst (λ ws. GoesWith to (state_of t ws)) (sym worlds) (goes_down from to (state_of t r.worlds) (down ∙ sym was) life (h.goes t));
       had = λ t up. never_up to.is_up down up;
@@ -128,15 +129,15 @@ up_after f us n T = ap (λ es. unless_said (latest up_of es)) (log-put f us ((Lo
 
 -- The call of a restart, where the log ran: it stops.
 pub holds_halted : {D : Type 0} (honest : Bool) (image : D → List ℕ → Type 0) (from to : LogState D) (r q : RunState) (n : ℕ) (a : ActorNo) (x : Answer) → to.is_up ≡ false → to.life ≡ from.life
-    → (IsTrue honest → AreWithin (image from.disk) (image to.disk)) → q.script ≡ r.script → ((t : TxNo) → state_of t q.worlds ≡ halted from.life (state_of t r.worlds))
+    → (IsTrue honest → AreWithin (image from.disk) (image to.disk)) → q.script ≡ r.script → q.objects ≡ r.objects → ((t : TxNo) → state_of t q.worlds ≡ halted from.life (state_of t r.worlds))
     → past_of q.trace ≡ put_at (λ u. Stopped) (hit (at_the_log Stopped (at_the_log (Called n a x) (past_of r.trace)))) (at_the_log Stopped (at_the_log (Called n a x) (past_of r.trace)))
     → ((t : TxNo) → IsRecordKept (state_of t q.worlds)) → Holds honest image from r → Holds honest image to q
-holds_halted {D} honest image from to r q n a x down life within script worlds trace kept h =
+holds_halted {D} honest image from to r q n a x down life within script objects worlds trace kept h =
     let T : List Placed = (Log, Stopped) ∷ (Log, Called n a x) ∷ past_of r.trace in record {
       tied = λ t.
-          tied_move r.script q.script t (put_at (λ u. Stopped) (hit T) T) (past_of q.trace) (halted from.life (state_of t r.worlds)) (state_of t q.worlds) script trace (worlds t)
-          (halted_tied r.script from.life t T (state_of t r.worlds)
-          (tied_at_log r.script t ((Log, Called n a x) ∷ past_of r.trace) Stopped (state_of t r.worlds) (tied_at_log r.script t (past_of r.trace) (Called n a x) (state_of t r.worlds) (h.tied t))) (h.goes t).life);
+          tied_move r.script q.script r.objects q.objects t (put_at (λ u. Stopped) (hit T) T) (past_of q.trace) (halted from.life (state_of t r.worlds)) (state_of t q.worlds) script objects trace (worlds t)
+          (halted_tied r.script r.objects from.life t T (state_of t r.worlds)
+          (tied_at_log r.script r.objects t ((Log, Called n a x) ∷ past_of r.trace) Stopped (state_of t r.worlds) (tied_at_log r.script r.objects t (past_of r.trace) (Called n a x) (state_of t r.worlds) (h.tied t))) (h.goes t).life);
       kept = kept;
       goes = λ t.
           subst (GoesWith to) (sym (worlds t ∙ ap (λ l. halted l (state_of t r.worlds)) (sym life)))
@@ -214,15 +215,15 @@ halts_at log x down g = g.stopped ∙ (ap (λ u. has is_begin_sent x.world.past 
 -- The log was opened.
 pub holds_opened : {D : Type 0} (honest : Bool) (image : D → List ℕ → Type 0) (seen : D → List ℕ) (from to : LogState D) (r q : RunState) (n : ℕ) → from.is_up ≡ false → to.is_up ≡ true → to.life ≡ from.life + 1
     → (IsTrue honest → image from.disk (seen from.disk)) → (IsTrue honest → IsOpened seen from.disk to) → (IsTrue honest → AreWithin (image from.disk) (image to.disk)) → (IsTrue honest → AllHold (image to.disk) (open_records to.slots))
-    → ((t : TxNo) → (state_of t r.worlds).transaction ≡ t) → q.script ≡ r.script → ((t : TxNo) → state_of t q.worlds ≡ reopened to (state_of t r.worlds))
+    → ((t : TxNo) → (state_of t r.worlds).transaction ≡ t) → q.script ≡ r.script → q.objects ≡ r.objects → ((t : TxNo) → state_of t q.worlds ≡ reopened to (state_of t r.worlds))
     → past_of q.trace ≡ put_at (λ t. Restarted (is_some (record_in to.slots t.value))) (known (at_the_log (LogWord (Opened n)) (past_of r.trace))) (at_the_log (LogWord (Opened n)) (past_of r.trace))
     → ((t : TxNo) → IsRecordKept (state_of t q.worlds)) → (IsTrue honest → (t : TxNo) → is_tied_history (state_of t q.worlds).world.past ≡ true) → Holds honest image from r → Holds honest image to q
-holds_opened {D} honest image seen from to r q n was up life among opened within hold numbered script worlds trace kept sound h =
+holds_opened {D} honest image seen from to r q n was up life among opened within hold numbered script objects worlds trace kept sound h =
     let T : List Placed = (Log, LogWord (Opened n)) ∷ past_of r.trace in
     let found = λ (t : TxNo). Restarted (is_some (record_in to.slots t.value)) in record {
       tied = λ t.
-          tied_move r.script q.script t (put_at found (known T) T) (past_of q.trace) (reopened to (state_of t r.worlds)) (state_of t q.worlds) script trace (worlds t)
-          (reopened_tied r.script to t T (state_of t r.worlds) (numbered t) (tied_at_log r.script t (past_of r.trace) (LogWord (Opened n)) (state_of t r.worlds) (h.tied t)) (stands (state_of t r.worlds) (h.goes t))
+          tied_move r.script q.script r.objects q.objects t (put_at found (known T) T) (past_of q.trace) (reopened to (state_of t r.worlds)) (state_of t q.worlds) script objects trace (worlds t)
+          (reopened_tied r.script r.objects to t T (state_of t r.worlds) (numbered t) (tied_at_log r.script r.objects t (past_of r.trace) (LogWord (Opened n)) (state_of t r.worlds) (h.tied t)) (stands (state_of t r.worlds) (h.goes t))
           (lives (state_of t r.worlds) (h.goes t)));
       kept = kept;
       goes = λ t. subst (GoesWith to) (sym (worlds t)) (goes_reopened to (state_of t r.worlds) (not from.is_up) up (lives (state_of t r.worlds) (h.goes t)) (h.goes t).stopped);
@@ -248,6 +249,7 @@ holds_opened {D} honest image seen from to r q n was up life among opened within
 -- After the call of a restart, and the stop that it brings where the log ran, this holds over the log as long as it is down; the transactions are still those of their numbers.
 pub record IsHalted {D : Type 0} (honest : Bool) (image : D → List ℕ → Type 0) (from : LogState D) (n : ℕ) (a : ActorNo) (x : Answer) (r q : RunState) : Type 0 where
   pub script : q.script ≡ r.script
+  pub objects : q.objects ≡ r.objects
   pub contexts : q.contexts ≡ r.contexts
   pub calls : HaveSameCalls r.worlds q.worlds
   pub trace : past_of q.trace ≡ after_halt n a x (past_of r.trace)
@@ -255,29 +257,31 @@ pub record IsHalted {D : Type 0} (honest : Bool) (image : D → List ℕ → Typ
   pub holds : (to : LogState D) → to.is_up ≡ false → to.life ≡ from.life → (IsTrue honest → AreWithin (image from.disk) (image to.disk)) → Holds honest image to q
 
 -- where the log was down,
-pub halted_down : {D : Type 0} (honest : Bool) (image : D → List ℕ → Type 0) (from : LogState D) (n : ℕ) (a : ActorNo) (x : Answer) (r q : RunState) → from.is_up ≡ false → q.script ≡ r.script → q.contexts ≡ r.contexts → q.worlds ≡ r.worlds
+pub halted_down : {D : Type 0} (honest : Bool) (image : D → List ℕ → Type 0) (from : LogState D) (n : ℕ) (a : ActorNo) (x : Answer) (r q : RunState) → from.is_up ≡ false → q.script ≡ r.script → q.objects ≡ r.objects → q.contexts ≡ r.contexts → q.worlds ≡ r.worlds
     → past_of q.trace ≡ at_the_log (Called n a x) (past_of r.trace) → ((t : TxNo) → (state_of t r.worlds).transaction ≡ t) → Holds honest image from r → IsHalted honest image from n a x r q
-halted_down honest image from n a x r q was script contexts worlds trace numbered h = record {
+halted_down honest image from n a x r q was script objects contexts worlds trace numbered h = record {
   script = script;
+  objects = objects;
   contexts = contexts;
   calls = λ t. ap (λ ws. (state_of t ws).world.calls) worlds;
   trace = trace ∙ ap (λ up. stopped_by_restart up (at_the_log (Called n a x) (past_of r.trace))) (sym was ∙ h.up);
   numbered = λ t. ap (λ ws. (state_of t ws).transaction) worlds ∙ numbered t;
-  holds = λ to down life within. holds_called honest image from to r q n a x was down life within script worlds trace h;
+  holds = λ to down life within. holds_called honest image from to r q n a x was down life within script objects worlds trace h;
 }
 
 -- and where it was up
-pub halted_up : {D : Type 0} (honest : Bool) (image : D → List ℕ → Type 0) (from : LogState D) (n : ℕ) (a : ActorNo) (x : Answer) (r q : RunState) → from.is_up ≡ true → q.script ≡ r.script → q.contexts ≡ r.contexts → HaveSameCalls r.worlds q.worlds
+pub halted_up : {D : Type 0} (honest : Bool) (image : D → List ℕ → Type 0) (from : LogState D) (n : ℕ) (a : ActorNo) (x : Answer) (r q : RunState) → from.is_up ≡ true → q.script ≡ r.script → q.objects ≡ r.objects → q.contexts ≡ r.contexts → HaveSameCalls r.worlds q.worlds
     → ((t : TxNo) → state_of t q.worlds ≡ halted from.life (state_of t r.worlds))
     → past_of q.trace ≡ put_at (λ u. Stopped) (hit (at_the_log Stopped (at_the_log (Called n a x) (past_of r.trace)))) (at_the_log Stopped (at_the_log (Called n a x) (past_of r.trace)))
     → ((t : TxNo) → IsRecordKept (state_of t q.worlds)) → ((t : TxNo) → (state_of t r.worlds).transaction ≡ t) → Holds honest image from r → IsHalted honest image from n a x r q
-halted_up honest image from n a x r q was script contexts calls worlds trace kept numbered h = record {
+halted_up honest image from n a x r q was script objects contexts calls worlds trace kept numbered h = record {
   script = script;
+  objects = objects;
   contexts = contexts;
   calls = calls;
   trace = trace ∙ ap (λ up. stopped_by_restart up (at_the_log (Called n a x) (past_of r.trace))) (sym was ∙ h.up);
   numbered = λ t. ap (λ z. z.transaction) (worlds t) ∙ ((halted_as from.life (state_of t r.worlds)).transaction ∙ numbered t);
-  holds = λ to down life within. holds_halted honest image from to r q n a x down life within script worlds trace kept h;
+  holds = λ to down life within. holds_halted honest image from to r q n a x down life within script objects worlds trace kept h;
 }
 
 -- A restart that doesn't open the log

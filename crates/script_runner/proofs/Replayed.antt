@@ -1,25 +1,21 @@
 -- What a replay gives is a history of its script.
-use Rattle.std.proofs.Common.{◌≡◌, ◌<◌, ◌≤◌, ◌⊎◌, ◌-◌, ℕ, Bool, true, false, ◌&&◌, suc, get_or, Some, List, [], ◌∷◌, ◌++◌, Option, ap, drop, length, refl, arith, sym, subst, take, inl, inr, ◌∙◌, if◌then◌else◌}
+use Rattle.std.proofs.Common.{◌≡◌, ◌<◌, ◌≤◌, ◌⊎◌, ◌-◌, ℕ, Bool, true, false, suc, get_or, Some, List, [], ◌∷◌, ◌++◌, Option, ap, drop, length, refl, arith, sym, subst, take, inl, inr, ◌∙◌, if◌then◌else◌}
 use Rattle.std.specs.Prelude.{nat_lt}
 use Rattle.std.proofs.lemmas.Bool.{cases_Bool}
 use Rattle.std.proofs.lemmas.Bool.Decides.{nat_tests}
 use Rattle.std.proofs.lemmas.List.{take-append-drop}
 use Rattle.std.proofs.lemmas.Option.{slice_get-get_or}
 use Rattle.dtx_values.specs.declared.script.Line.{Line}
-use Rattle.dtx_model.specs.Words.{always, kth, past_of}
-use Rattle.dtx_values.specs.declared.entry.Entry.{Entry}
-use Rattle.dtx_values.specs.declared.entry.Entry.TheVariants.{OwnerAnswered, PromoteReply, Requested, Voted}
-use Rattle.dtx_values.specs.declared.note.Plan.{Plan}
+use Rattle.dtx_model.specs.Words.{kth, past_of}
 use Rattle.dtx_values.specs.declared.number.TxNo.{TxNo}
 use Rattle.dtx_values.specs.declared.trace.Place.{Place}
 use Rattle.dtx_values.specs.Table.{how_many}
-use Rattle.dtx_model.specs.AtLog.{armed, at_log, faults as faults_told, one_if, stop_right}
-use Rattle.dtx_model.specs.Caused.{Settled, has_object, is_as_planned, plans_of}
-use Rattle.dtx_model.specs.History.{is_call_at, nobody}
+use Rattle.dtx_model.specs.AtLog.{armed, at_log, faults as faults_told, one_if}
+use Rattle.dtx_model.specs.Caused.{Settled}
+use Rattle.dtx_model.specs.History.{is_call_at}
 use Rattle.dtx_model.specs.Outcome.{is_empty}
 use Rattle.dtx_model.specs.Traces.{Placed, calls, history}
 use Rattle.dtx_model.specs.Replay.{IsReplayed, due_calls}
-use Rattle.dtx_model.proofs.Bools.{and_both, and_left, and_right, or_right}
 use Rattle.dtx_model.specs.Grammar.{IsScript}
 use Rattle.coordinator_log.specs.declared.stop.ArmedStop.{ArmedStop}
 use Rattle.script_runner.specs.LogRun.{IsCounted, LAST, is_left}
@@ -43,29 +39,14 @@ line_at xs i x less here = slice_get-get_or {X = Line} xs i x less ∙ ap Some (
 pub called_at : (s : List Line) (T : List Placed) → calls T ≡ due_calls s (past_of s) → (p : Place) (n a : ℕ) → how_many (is_call_at p n a) (calls T) ≡ how_many (is_call_at p n a) (due_calls s (past_of s))
 called_at s T same p n a = ap (how_many (is_call_at p n a)) same
 
--- what is as planned is so also where some answer freely
-any_object : (p : ℕ → Plan) (free : ℕ → Bool) (past : List Entry) (x : Entry) → is_as_planned p nobody past x ≡ true → is_as_planned p free past x ≡ true
-any_object p free past (Voted e v) k = or_right _ _ k
-any_object p free past (PromoteReply e ok) k = or_right _ _ k
-any_object p free past (OwnerAnswered e x) k = or_right _ _ k
-any_object p free past (Requested e r) k = or_right _ _ k
-any_object p free past _ k = refl
-
-pub to_any : (s : List Line) (k : ℕ) (h : List Entry) → IsToPlan s h → always (is_as_planned (plans_of s) (has_object s k)) h ≡ true
-to_any s k [] p = refl
-to_any s k (x ∷ h) p =
-    let first : is_as_planned (plans_of s) nobody h x ≡ true = and_left (is_as_planned (plans_of s) nobody h x) (always (is_as_planned (plans_of s) nobody) h) p in
-    and_both (is_as_planned (plans_of s) (has_object s k) h x) (always (is_as_planned (plans_of s) (has_object s k)) h) (any_object (plans_of s) (has_object s k) h x first)
-    (to_any s k h (and_right (is_as_planned (plans_of s) nobody h x) (always (is_as_planned (plans_of s) nobody) h) p))
-
 -- What a run of lines gives is a run of the script that has these lines.
-pub record IsOfScript (s : List Line) (T : List Placed) : Type 0 where
+pub record IsOfScript (s : List Line) (o : ℕ) (T : List Placed) : Type 0 where
   pub replayed : IsReplayed s T
   pub settled : (t : TxNo) → Settled s (history t.value T)
-  pub planned : (t : TxNo) → IsToPlan s (history t.value T)
+  pub planned : (t : TxNo) → IsToPlan s o (history t.value T)
 
-pub of_script : (s r : List Line) (T : List Placed) → r ≡ s → IsReplayed r T → ((t : TxNo) → Settled r (history t.value T)) → ((t : TxNo) → IsToPlan r (history t.value T)) → IsOfScript s T
-of_script s r T same replayed settled planned = subst (λ (x : List Line). IsOfScript x T) same (record { replayed = replayed; settled = settled; planned = planned })
+pub of_script : (s r : List Line) (o : ℕ) (T : List Placed) → r ≡ s → IsReplayed r T → ((t : TxNo) → Settled r (history t.value T)) → ((t : TxNo) → IsToPlan r o (history t.value T)) → IsOfScript s o T
+of_script s r o T same replayed settled planned = subst (λ (x : List Line). IsOfScript x o T) same (record { replayed = replayed; settled = settled; planned = planned })
 
 -- By how much a count of faults rose, where nobody knows it at its last value: as much as the trace tells of, and more.
 abbrev pub rise_of : ℕ → ℕ → ℕ → ℕ

@@ -1,5 +1,5 @@
 -- The steps of one transaction in a row, and the rounds at the end of a replay.
-use Rattle.std.proofs.Common.{◌≡◌, ◌≢◌, ◌⊎◌, ℕ, zero, suc, ◌+◌, ◌<◌, ◌≤◌, ◌==◌, Bool, true, false, List, [], ◌∷◌, Some, None, refl, sym, ◌∙◌, subst, arith, inl, inr}
+use Rattle.std.proofs.Common.{◌≡◌, ◌≢◌, ◌⊎◌, ℕ, suc, ◌+◌, ◌<◌, ◌≤◌, true, List, [], ◌∷◌, Some, None, refl, sym, subst, arith, inl, inr}
 use Rattle.std.proofs.lemmas.Bool.Decides.{eqb_tells, nat_tests}
 use Rattle.dtx_values.specs.declared.number.TxNo.{TxNo}
 use Rattle.dtx_values.specs.declared.entry.Entry.{Entry}
@@ -10,7 +10,6 @@ use Rattle.dtx_model.specs.World.{World}
 use Rattle.dtx_model.specs.Traces.{Placed, history}
 use Rattle.dtx_model.specs.Replay.{is_passed, HasDoneAt, IsReplayed, LinesRan, last_turn, world_at}
 use Rattle.dtx_model.specs.Steps.{Step, pending}
-use Rattle.dtx_model.proofs.SameNumbers.{same_transaction}
 use Rattle.script_runner.specs.RunState.{Advances, AreSettledBelow, IsRoundAt, Settles, StepsDone}
 
 -- one step more

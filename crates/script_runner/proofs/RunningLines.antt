@@ -1,5 +1,5 @@
 -- What a line did, by its own words.
-use Rattle.std.proofs.Common.{◌≡◌, ◌<◌, ◌+◌, ◌-◌, ◌==◌, ℕ, zero, suc, min, Bool, true, false, ◌||◌, List, [], ◌∷◌, length, get_or, take, slice_get, Option, Some, None, refl, sym, ap, subst, ◌∙◌, arith}
+use Rattle.std.proofs.Common.{◌≡◌, ◌<◌, ◌+◌, ℕ, zero, suc, min, Bool, true, false, List, [], ◌∷◌, length, get_or, take, slice_get, Option, Some, None, refl, sym, ap, subst, ◌∙◌, arith}
 use Rattle.std.proofs.lemmas.List.{length-take}
 use Rattle.dtx_values.specs.declared.Image.{Image}
 use Rattle.dtx_values.specs.declared.call.Call.{Call}
@@ -14,7 +14,7 @@ use Rattle.dtx_values.specs.declared.script.Body.TheVariants.{Stop, Restart}
 use Rattle.dtx_values.specs.declared.script.Line.{Line}
 use Rattle.dtx_model.specs.Words.{each, has, past_of}
 use Rattle.dtx_model.specs.Calls.{call_of}
-use Rattle.dtx_model.specs.Contexts.{lines_before, scope_answer, scopes_of}
+use Rattle.dtx_model.specs.Contexts.{scope_answer, scopes_of}
 use Rattle.dtx_model.specs.Replay.{CallRan, LineRan, LinesRan, Reopening, after_restart, after_scope, at_the_log}
 use Rattle.dtx_model.specs.Traces.{Placed}
 use Rattle.dtx_model.proofs.Bools.{and_left, and_right, or_first, or_second}

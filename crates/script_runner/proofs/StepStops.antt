@@ -94,11 +94,11 @@ is_stopping_step {D} faults honest image a mid at up down written_down =
 
 -- The others are tied to that trace, and live in the log's life: so they are told.
 pub stopping_ties : {D : Type 0} (faults : D → ℕ) (honest : Bool) (image : D → List ℕ → Type 0) (a : StepOf D) (mid : List Placed) → IsStep faults honest image a → IsStopping faults honest a mid
-    → (u : TxNo) → IsTied a.run.script u (past_of mid) (state_of u (worlds_after a))
+    → (u : TxNo) → IsTied a.run.script a.run.objects u (past_of mid) (state_of u (worlds_after a))
 stopping_ties faults honest image a mid at d =
     let old = past_of a.run.trace in
-    tied_noted a.run.script a.run.worlds (at_the_log Stopped old) (past_of mid) a.t a.y (Stopped ∷ []) at.made
-    (λ u. tied_same a.run.script u old (at_the_log Stopped old) (state_of u a.run.worlds) refl (at.holds.tied u)) d.noted d.past d.did.given refl
+    tied_noted a.run.script a.run.objects a.run.worlds (at_the_log Stopped old) (past_of mid) a.t a.y (Stopped ∷ []) at.made
+    (λ u. tied_same a.run.script a.run.objects u old (at_the_log Stopped old) (state_of u a.run.worlds) refl (at.holds.tied u)) d.noted d.past d.did.given refl
 
 pub stopping_lives : {D : Type 0} (faults : D → ℕ) (honest : Bool) (image : D → List ℕ → Type 0) (a : StepOf D) (mid : List Placed) → IsStep faults honest image a → IsStopping faults honest a mid
     → (u : TxNo) → has is_begin_sent (state_of u (worlds_after a)).world.past ≡ true → (state_of u (worlds_after a)).life ≡ a.to.life
@@ -157,10 +157,10 @@ halted_here life y stopped = by (is_hit_by life y) (unhit (has is_begin_sent y.w
 
 -- What holds then:
 stopped_holds : {D : Type 0} (faults : D → ℕ) (honest : Bool) (image : D → List ℕ → Type 0) (a : StepOf D) (mid : List Placed) (q : RunState) → IsStep faults honest image a → IsStopping faults honest a mid
-    → IsFalse a.to.is_up → q.script ≡ a.run.script → ((u : TxNo) → state_of u q.worlds ≡ halted a.to.life (state_of u (worlds_after a)))
+    → IsFalse a.to.is_up → q.script ≡ a.run.script → q.objects ≡ a.run.objects → ((u : TxNo) → state_of u q.worlds ≡ halted a.to.life (state_of u (worlds_after a)))
     → past_of q.trace ≡ put_at (λ u. Stopped) (hit (past_of mid)) (past_of mid)
     → (((u : TxNo) → IsRecordKept (state_of u (worlds_after a))) → (u : TxNo) → IsRecordKept (state_of u q.worlds)) → Holds honest image a.to q
-stopped_holds {D} faults honest image a mid q at d down script worlds told kept =
+stopped_holds {D} faults honest image a mid q at d down script objects worlds told kept =
     let ws = worlds_after a in
     let life = a.to.life in
     let lives = stopping_lives faults honest image a mid at d in
@@ -171,10 +171,11 @@ stopped_holds {D} faults honest image a mid q at d down script worlds told kept 
     let had : (u : TxNo) → IsHad (state_of u ws) a.to = had_turn a.run.worlds a.t a.y a.from a.to at.numbered at.made at.slots at.still at.holds.had in
     record {
       tied = λ u.
-          subst (λ (s : List Line). IsTied s u (past_of q.trace) (state_of u q.worlds)) (sym script)
-          (subst (λ (T : List Placed). IsTied a.run.script u T (state_of u q.worlds)) (sym told)
-          (subst (λ (x : TxState). IsTied a.run.script u (put_at (λ v. Stopped) (hit (past_of mid)) (past_of mid)) x) (sym (worlds u))
-          (halted_tied a.run.script life u (past_of mid) (state_of u ws) (ties u) (lives u))));
+          subst (λ (s : List Line). IsTied s q.objects u (past_of q.trace) (state_of u q.worlds)) (sym script)
+          (subst (λ (o : ℕ). IsTied a.run.script o u (past_of q.trace) (state_of u q.worlds)) (sym objects)
+          (subst (λ (T : List Placed). IsTied a.run.script a.run.objects u T (state_of u q.worlds)) (sym told)
+          (subst (λ (x : TxState). IsTied a.run.script a.run.objects u (put_at (λ v. Stopped) (hit (past_of mid)) (past_of mid)) x) (sym (worlds u))
+          (halted_tied a.run.script a.run.objects life u (past_of mid) (state_of u ws) (ties u) (lives u)))));
       kept = kept (each_set IsRecordKept a.run.worlds a.t a.y at.made at.recorded at.holds.kept);
       goes = λ u. subst (GoesWith a.to) (sym (worlds u)) (goes_halted a.to (state_of u ws) (stands u).0 down (lives u) (stands u).1);
       had = λ u. let alike = halted_as life (state_of u ws) in subst (λ (x : TxState). IsHad x a.to) (sym (worlds u)) (had_as a.to (state_of u ws) (halted life (state_of u ws)) alike.transaction alike.ours (had u));
@@ -204,8 +205,8 @@ stopped_advances faults honest a mid new d told =
     record {
       name = d.did.does.name;
       step = m;
-      stands = ap (λ ns. kth ns a.k) (sym (pending_here a.run.script a.t old z d.did.tied d.did.own)) ∙ d.did.does.stands;
-      named = named_here a.run.script a.t old z d.did.does.name m d.did.tied d.did.does.named;
+      stands = ap (λ ns. kth ns a.k) (sym (pending_here a.run.script a.run.objects a.t old z d.did.tied d.did.own)) ∙ d.did.does.stands;
+      named = named_here a.run.script a.run.objects a.t old z d.did.does.name m d.did.tied d.did.does.named;
       in_replay = d.did.in_replay;
       done = told ∙ sym (ap (λ j. after_turn a.run.script a.t j old) d.step);
     }
@@ -221,17 +222,17 @@ stopped_tells faults honest image start a mid at d up tells =
 
 -- So where it stopped the log, after the others were told:
 pub step_stopped : {D : Type 0} (faults : D → ℕ) (honest : Bool) (image : D → List ℕ → Type 0) (a : StepOf D) (mid : List Placed) (q : RunState) → IsStep faults honest image a → IsStopping faults honest a mid
-    → IsTrue a.from.is_up → IsFalse a.to.is_up → q.script ≡ a.run.script → HaveSameCalls (worlds_after a) q.worlds
+    → IsTrue a.from.is_up → IsFalse a.to.is_up → q.script ≡ a.run.script → q.objects ≡ a.run.objects → HaveSameCalls (worlds_after a) q.worlds
     → ((u : TxNo) → state_of u q.worlds ≡ halted a.to.life (state_of u (worlds_after a))) → past_of q.trace ≡ put_at (λ u. Stopped) (hit (past_of mid)) (past_of mid)
     → (((u : TxNo) → IsRecordKept (state_of u (worlds_after a))) → (u : TxNo) → IsRecordKept (state_of u q.worlds)) → IsStepped faults honest image a q
-step_stopped {D} faults honest image a mid q at d up down script calls worlds told kept =
+step_stopped {D} faults honest image a mid q at d up down script objects calls worlds told kept =
     let trace : past_of q.trace ≡ after_stop a.t (past_of a.run.trace) = stopped_trace faults honest a mid (past_of q.trace) d told in
     let here : state_of a.t q.worlds ≡ a.y =
     worlds a.t ∙ (ap (halted a.to.life) (state_here a.t a.run.worlds a.y at.made) ∙ halted_here a.to.life a.y d.stopped) in
     record {
       log = step_log faults honest image a at;
       stays = step_stays faults honest image a at;
-      holds = stopped_holds faults honest image a mid q at d down script worlds told kept;
+      holds = stopped_holds faults honest image a mid q at d down script objects worlds told kept;
       tells = λ start tells. subst (λ (T : List Placed). Tells faults honest image start a.to T) (sym trace) (stopped_tells faults honest image start a mid at d up tells);
       calls = λ u. calls u ∙ step_calls a.run.worlds a.t a.y at.made d.did.calls u;
       stepped = one_more faults honest a (state_of a.t q.worlds) d.did here;

@@ -1,11 +1,13 @@
 -- A step of a run: what the step of one transaction's world, once it is noted, makes of the run, where the log isn't stopped by it.
-use Rattle.std.proofs.Common.{◌≡◌, ◌≢◌, ◌⊎◌, ◌≤◌, ◌<◌, ◌-◌, ℕ, zero, suc, Bool, true, false, ◌&&◌, ◌||◌, not, List, [], ◌∷◌, ◌++◌, length, set, None, inl, inr, refl, ap, sym, subst, ◌∙◌, if◌then◌else◌}
+use Rattle.std.proofs.Common.{◌≡◌, ◌≢◌, ◌⊎◌, ◌≤◌, ◌<◌, ◌-◌, ℕ, zero, suc, Bool, true, false, ◌&&◌, ◌||◌, not, List, [], ◌∷◌, ◌++◌, length, set, Option, None, inl, inr, refl, ap, sym, subst, ◌∙◌, if◌then◌else◌}
 use Rattle.std.specs.Prelude.{IsTrue}
 use Rattle.std.proofs.lemmas.Bool.{cases_Bool}
 use Rattle.dtx_values.specs.declared.call.Call.{Call}
 use Rattle.dtx_values.specs.declared.entry.Entry.{Entry}
 use Rattle.dtx_values.specs.declared.entry.Entry.TheVariants.{Freed, Logged, Stopped}
 use Rattle.dtx_values.specs.declared.number.ActorNo.{ActorNo}
+use Rattle.dtx_values.specs.declared.note.Reply.{Reply}
+use Rattle.dtx_values.specs.declared.number.EnlNo.{EnlNo}
 use Rattle.dtx_values.specs.declared.number.TxNo.{TxNo}
 use Rattle.dtx_values.specs.declared.script.Line.{Line}
 use Rattle.dtx_values.specs.declared.trace.Place.TheVariants.{Transaction}
@@ -20,39 +22,42 @@ use Rattle.dtx_model.specs.Replies.{all_due}
 use Rattle.dtx_model.specs.Tied.{tied as is_tied_history}
 use Rattle.dtx_model.specs.World.{World, core}
 use Rattle.dtx_model.specs.Steps.{Done, Full, StoppedNow, StoppedBefore, Step, Calls, Replies, Acts, Coordinates, Delivers, Stops, Restarts, appended, block_at, entered, freed, local_pending, pending}
-use Rattle.dtx_model.specs.Caused.{HasStepped, IsCallOf, IsIn, IsOwnRun, is_begin_sent, may_coordinate, plans_of, world_of}
+use Rattle.dtx_model.specs.Caused.{HasStepped, IsCallOf, IsIn, IsOwnRun, has_object, is_begin_sent, may_coordinate, plans_of, world_of}
 use Rattle.dtx_model.specs.Traces.{Placed, history, placed}
 use Rattle.dtx_model.specs.Replay.{is_in_replay, world_at}
 use Rattle.dtx_model.specs.declared.waiting.EnteredCall.{EnteredCall}
 use Rattle.dtx_model.proofs.Bools.{and_both, and_left, and_right, not_both}
 use Rattle.outcome_law.proofs.Pending.{is_no_call}
 use Rattle.outcome_law.proofs.ReplayRuns.{named_no_call}
+use Rattle.script_calls.proofs.RightReplies.{is_right}
 use Rattle.coordinator_log.specs.Slots.{open_records}
 use Rattle.coordinator_log.specs.State.{LogState}
 use Rattle.coordinator_log.specs.Stop.{after_calls, stop_in}
 use Rattle.tx_world.specs.AtLog.{Answered, IsHad, IsOurs, KeepsLog, KeepsSlots, act_calls, id_of}
 use Rattle.tx_world.specs.Prepared.{NamesPrepared}
 use Rattle.tx_world.specs.State.{TxState, sends_begin, turned}
-use Rattle.tx_world.specs.Stepping.{DoesKth, IsAnswered}
-use Rattle.tx_world.proofs.StillTied.{kth_tied}
+use Rattle.tx_world.specs.Stepping.{IsAnswered}
+use Rattle.tx_world.proofs.StillTied.{named_elsewhere, turned_tied}
 use Rattle.dtx_model.specs.Log.{first_of}
 use Rattle.world_laws.specs.Left.{steps_left}
 use Rattle.script_runner.specs.LogRun.{LogGoes, LogStays}
+use Rattle.script_runner.specs.Objects.{DoesGiven}
 use Rattle.script_runner.specs.RunState.{Advances, AreNumbered, GoesWith, HaveSameCalls, Holds, IsRecordKept, IsTied, RunState, Tells, state_of, untouched}
-use Rattle.script_runner.proofs.Deeds.{is_done, is_restarts, is_to, untelling_block, untelling_commit}
+use Rattle.script_runner.proofs.Deeds.{is_done, is_restarts, untelling_block, untelling_commit}
 use Rattle.script_runner.proofs.Fitting.{fits_turn, goes_turn, had_turn}
 use Rattle.script_runner.proofs.Goes.{MayTurn, acts_running, answered_down, answered_up, goes_step, named_in_replay, named_turn}
 use Rattle.script_runner.proofs.Noting.{history_there, trace_noted}
 use Rattle.script_runner.proofs.Numbered.{is_it, state_here, state_there, state_unreached}
 use Rattle.script_runner.proofs.Telling.{is_untelling, tells_block, tells_done}
-use Rattle.script_runner.proofs.Turns.{IsOwn, has_stepped, is_stopping, named_here, pending_here, planned_here, turn_here, turned_calls, turned_past, written}
-use Rattle.script_runner.proofs.Tying.{given_same, planned_written, tied_noted}
+use Rattle.script_runner.proofs.Turns.{IsOwn, MayGive, has_stepped, is_stopping, named_here, pending_here, right_here, turn_here, turned_calls, turned_past, written}
+use Rattle.script_runner.proofs.Tying.{given_same, right_written, tied_noted}
 
 -- What a step of a run is about: it is the k-th that was pending in transaction t of the run, whose world is y after it.
 pub record StepOf (D : Type 0) : Type 0 where
   pub run : RunState
   pub t : TxNo
   pub k : ℕ
+  pub given : Option (EnlNo × Reply)
   pub y : TxState
   pub from : LogState D
   pub to : LogState D
@@ -63,7 +68,7 @@ was a = state_of a.t a.run.worlds
 
 -- the run after it, with these transactions and this trace
 abbrev pub run_with : {D : Type 0} → StepOf D → List TxState → List Placed → RunState
-run_with a ws new = record { script = a.run.script; worlds = ws; contexts = a.run.contexts; trace = new }
+run_with a ws new = record { script = a.run.script; objects = a.run.objects; worlds = ws; contexts = a.run.contexts; trace = new }
 
 -- the transactions after it
 abbrev pub worlds_after : {D : Type 0} → StepOf D → List TxState
@@ -76,7 +81,8 @@ pub record IsStepAt {D : Type 0} (faults : D → ℕ) (honest : Bool) (image : D
   pub names : are_named_well a.run.script ≡ true
   pub made : a.t.value ≤ length a.run.worlds
   pub own : IsOwnRun x.transaction.value x.world
-  pub does : DoesKth faults a.k x a.from a.y a.to
+  pub may : MayGive a.run.script a.run.objects x.world a.k a.given
+  pub does : DoesGiven faults a.given a.k x a.from a.y a.to
   pub nearer : steps_left a.y.world < steps_left x.world
   pub kept : IsTrue honest → KeepsLog image x a.from a.y a.to
   pub slots : KeepsSlots x a.from a.y a.to
@@ -99,13 +105,13 @@ none_entered ks _ q = refl
 -- What it does of transaction t itself.
 pub record DidStep {D : Type 0} (faults : D → ℕ) (honest : Bool) (a : StepOf D) : Type 0 where
   pub own : IsOwn a.t (was a)
-  pub does : DoesKth faults a.k (was a) a.from a.y a.to
-  pub tied : IsTied a.run.script a.t (past_of a.run.trace) (was a)
+  pub does : DoesGiven faults a.given a.k (was a) a.from a.y a.to
+  pub tied : IsTied a.run.script a.run.objects a.t (past_of a.run.trace) (was a)
   pub world : a.y.world ≡ turned a.from.is_up a.t.value (was a).world does.step
   pub past : a.y.world.past ≡ onto (was a).world.past (written a.from.is_up a.t.value (was a).world does.step)
   pub calls : a.y.world.calls ≡ (was a).world.calls
   pub given : (n : ℕ) (w : ActorNo) (c : Call) → IsIn a.y.world.calls n w c → IsCallOf a.run.script a.t.value n w c
-  pub planned : each (is_to (plans_of a.run.script)) (written a.from.is_up a.t.value (was a).world does.step) ≡ true
+  pub planned : each (is_right (plans_of a.run.script) (has_object a.run.script a.run.objects)) (written a.from.is_up a.t.value (was a).world does.step) ≡ true
   pub goes : GoesWith a.to a.y
   pub in_replay : is_in_replay does.step ≡ true
   pub sound : IsTrue honest → is_tied_history a.y.world.past ≡ true
@@ -132,10 +138,14 @@ did_step faults honest image a d =
       past = ap (λ (w : World). w.past) world ∙ turned_past a.from.is_up a.t.value z.world m;
       calls = calls;
       given = given_same a.run.script a.t.value z.world a.y.world calls tied.given;
-      planned = planned_written (plans_of a.run.script) a.from.is_up a.t.value z.world m (planned_here a.run.script a.t (past_of a.run.trace) z m d.names tied own d.does.planned);
+      planned =
+          right_written (plans_of a.run.script) (has_object a.run.script a.run.objects) a.from.is_up a.t.value z.world m
+          (right_here faults a.run.script a.run.objects a.t (past_of a.run.trace) z a.given a.k a.from a.y a.to d.names tied own d.may d.does);
       goes = goes_step faults a.t z a.y a.from a.to m own d.does.done d.life (d.holds.goes a.t) (named_turn z.world d.does.name m d.does.named);
       in_replay = named_in_replay faults a.t z a.from a.to d.does.name m own d.does.named d.does.done.answered (d.holds.goes a.t);
-      sound = λ h. kth_tied faults a.k z a.from a.y a.to d.does (d.holds.sound h a.t);
+      sound = λ h.
+          subst (λ (w : World). is_tied_history w.past ≡ true) (sym d.does.done.world)
+          (turned_tied a.from.is_up z.transaction.value z.world m (named_elsewhere z.world d.does.name m d.does.named) (d.holds.sound h a.t));
     }
 
 -- What it leaves of the log.
@@ -213,7 +223,7 @@ step_holds faults honest image a new at d same noted =
     let es = wrote faults honest a d in
     let log : at_log (past_of new) ≡ at_log old = ap at_log noted ∙ log_placed a.t es old in
     record {
-      tied = tied_noted a.run.script a.run.worlds old (past_of new) a.t a.y es at.made at.holds.tied noted d.past d.given d.planned;
+      tied = tied_noted a.run.script a.run.objects a.run.worlds old (past_of new) a.t a.y es at.made at.holds.tied noted d.past d.given d.planned;
       kept = each_set IsRecordKept a.run.worlds a.t a.y at.made at.recorded at.holds.kept;
       goes = each_set (GoesWith a.to) a.run.worlds a.t a.y at.made d.goes (λ u. goes_as a.from a.to (state_of u a.run.worlds) at.life same (at.holds.goes u));
       had = had_turn a.run.worlds a.t a.y a.from a.to at.numbered at.made at.slots at.still at.holds.had;
@@ -237,10 +247,10 @@ step_advances faults honest image a new at d same noted =
     record {
       name = d.does.name;
       step = m;
-      stands = ap (λ ns. kth ns a.k) (sym (pending_here a.run.script a.t old z d.tied d.own)) ∙ d.does.stands;
-      named = named_here a.run.script a.t old z d.does.name m d.tied d.does.named;
+      stands = ap (λ ns. kth ns a.k) (sym (pending_here a.run.script a.run.objects a.t old z d.tied d.own)) ∙ d.does.stands;
+      named = named_here a.run.script a.run.objects a.t old z d.does.name m d.tied d.does.named;
       in_replay = d.in_replay;
-      done = noted ∙ turn_here a.run.script a.t old z m a.from.is_up d.tied d.own at.holds.up (unstopped faults z a.from a.to m same d.does.done.answered);
+      done = noted ∙ turn_here a.run.script a.run.objects a.t old z m a.from.is_up d.tied d.own at.holds.up (unstopped faults z a.from a.to m same d.does.done.answered);
     }
 
 -- and the trace tells as much of the log as before: of an act that was done how many device calls it made,
@@ -332,9 +342,9 @@ step_tells {D} faults honest image start a at d same T tells =
     by (Restarts found) may i q e = absurd may
 
 -- Nothing more is pending in the trace than in the world.
-pub none_pending : (s : List Line) (ws : List TxState) (T : List Placed) (t : TxNo) (k : ℕ) → IsTied s t T (state_of t ws) → IsOwn t (state_of t ws) → kth (pending (state_of t ws).world) k ≡ None
+pub none_pending : (s : List Line) (o : ℕ) (ws : List TxState) (T : List Placed) (t : TxNo) (k : ℕ) → IsTied s o t T (state_of t ws) → IsOwn t (state_of t ws) → kth (pending (state_of t ws).world) k ≡ None
     → kth (pending (world_at s t T)) k ≡ None
-none_pending s ws T t k tied own none = ap (λ ns. kth ns k) (sym (pending_here s t T (state_of t ws) tied own)) ∙ none
+none_pending s o ws T t k tied own none = ap (λ ns. kth ns k) (sym (pending_here s o t T (state_of t ws) tied own)) ∙ none
 
 -- and in one to which nothing came nothing is
 blank_pending : (k : ℕ) → kth (pending (record { calls = []; past = [] })) k ≡ None
@@ -342,18 +352,18 @@ unfolding pending local_pending all_due act_entries observe coordinate may_log m
 blank_pending zero = refl
 blank_pending (suc k) = refl
 
-untouched_pending : (s : List Line) (ws : List TxState) (T : List Placed) (t : TxNo) (k : ℕ) → IsTied s t T (state_of t ws) → state_of t ws ≡ untouched t
+untouched_pending : (s : List Line) (o : ℕ) (ws : List TxState) (T : List Placed) (t : TxNo) (k : ℕ) → IsTied s o t T (state_of t ws) → state_of t ws ≡ untouched t
     → (kth (pending (state_of t ws).world) k ≡ None) × (kth (pending (world_at s t T)) k ≡ None)
-untouched_pending s ws T t k tied blank =
+untouched_pending s o ws T t k tied blank =
     let past : [] ≡ history t.value T = sym (ap (λ (x : TxState). x.world.past) blank) ∙ tied.past in (
       ap (λ (x : TxState). kth (pending x.world) k) blank ∙ blank_pending k,
       ap (λ (h : List Entry). kth (pending (world_of s h)) k) (sym past) ∙ blank_pending k,
     )
 
 -- So beyond the transactions that were called nothing is.
-pub none_beyond : (r : RunState) (t : TxNo) (k : ℕ) → IsTied r.script t (past_of r.trace) (state_of t r.worlds) → length r.worlds < t.value
+pub none_beyond : (r : RunState) (t : TxNo) (k : ℕ) → IsTied r.script r.objects t (past_of r.trace) (state_of t r.worlds) → length r.worlds < t.value
     → (kth (pending (state_of t r.worlds).world) k ≡ None) × (kth (pending (world_at r.script t (past_of r.trace))) k ≡ None)
-none_beyond r t k tied more = untouched_pending r.script r.worlds (past_of r.trace) t k tied (state_unreached t r.worlds more)
+none_beyond r t k tied more = untouched_pending r.script r.objects r.worlds (past_of r.trace) t k tied (state_unreached t r.worlds more)
 
 -- What a step makes of a run.
 pub record IsStepped {D : Type 0} (faults : D → ℕ) (honest : Bool) (image : D → List ℕ → Type 0) (a : StepOf D) (q : RunState) : Type 0 where
@@ -371,7 +381,7 @@ pub record IsStepped {D : Type 0} (faults : D → ℕ) (honest : Bool) (image : 
 pub one_more : {D : Type 0} (faults : D → ℕ) (honest : Bool) (a : StepOf D) (z : TxState) → DidStep faults honest a → z ≡ a.y → (m : ℕ) (start : World)
     → HasStepped a.t.value a.k m start (was a).world → HasStepped a.t.value a.k (suc m) start z.world
 one_more faults honest a z d here m start before =
-    subst (λ (v : TxState). HasStepped a.t.value a.k (suc m) start v.world) (sym here) (has_stepped faults a.t a.k m start (was a) a.y a.from a.to d.own.transaction d.does before)
+    subst (λ (v : TxState). HasStepped a.t.value a.k (suc m) start v.world) (sym here) (has_stepped faults a.t a.k m start a.given (was a) a.y a.from a.to d.own.transaction d.does before)
 
 -- Where it left the log up, if it was:
 pub step_done : {D : Type 0} (faults : D → ℕ) (honest : Bool) (image : D → List ℕ → Type 0) (a : StepOf D) (new : List Placed) → IsStep faults honest image a

@@ -1,9 +1,7 @@
 -- What a trace tells of the log, as entries come to it.
-use Rattle.std.proofs.Common.{◌≡◌, ◌⊎◌, ◌≤◌, ◌<◌, ◌+◌, ◌-◌, ◌^◌, ℕ, suc, Bool, true, false, not, ◌&&◌, ◌||◌, List, [], ◌∷◌, Option, Some, None, refl, sym, ap, subst, ◌∙◌, inl, inr, arith, le_trans}
-use Rattle.std.specs.Prelude.{IsTrue, min}
+use Rattle.std.proofs.Common.{◌≡◌, ◌⊎◌, ◌≤◌, ◌<◌, ◌+◌, ◌-◌, ℕ, suc, Bool, true, false, not, List, [], ◌∷◌, Option, Some, None, refl, sym, ap, subst, ◌∙◌, inl, inr, arith, le_trans}
 use Rattle.outside.specs.Faults.{Rose}
 use Rattle.dtx_values.specs.declared.Image.{Image}
-use Rattle.dtx_values.specs.declared.entry.Answer.{Answer}
 use Rattle.dtx_values.specs.declared.entry.Answer.TheVariants.{Fine}
 use Rattle.dtx_values.specs.declared.entry.Entry.{Entry}
 use Rattle.dtx_values.specs.declared.entry.Entry.TheVariants.{Called, Freed, Logged, LogWord, Restarted, Stopped}
@@ -12,7 +10,7 @@ use Rattle.dtx_values.specs.declared.number.ActorNo.{ActorNo}
 use Rattle.dtx_values.specs.declared.number.TxNo.{TxNo}
 use Rattle.dtx_values.specs.declared.trace.Place.TheVariants.{Context, Log, Transaction}
 use Rattle.dtx_model.specs.Words.{each, has, onto}
-use Rattle.dtx_model.specs.AtLog.{act_calls, armed, at_log, calls_of, faults as faults_told, found_behind, is_called, is_met, is_reached, is_unarmed, made, one_if, open_right, opens_right, stop_right, stops_right}
+use Rattle.dtx_model.specs.AtLog.{act_calls, armed, at_log, calls_of, faults as faults_told, found_behind, is_called, is_met, is_reached, is_unarmed, made, one_if, opens_right, stop_right, stops_right}
 use Rattle.dtx_model.specs.Replay.{at_the_log, put_at}
 use Rattle.dtx_model.specs.Traces.{Placed, noted, placed}
 use Rattle.dtx_model.proofs.Bools.{and_left, and_right, not_false, or_right}

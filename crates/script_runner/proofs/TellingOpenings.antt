@@ -1,20 +1,19 @@
 -- What a trace tells of the log, where it is opened again.
-use Rattle.std.proofs.Common.{◌≡◌, ◌⊎◌, ◌≤◌, ◌<◌, ◌+◌, ◌==◌, ℕ, suc, Bool, true, false, ◌&&◌, List, [], ◌∷◌, ◌++◌, map, Option, Some, None, if◌then◌else◌, refl, sym, ap, subst, ◌∙◌, inl, inr, arith, le_trans}
+use Rattle.std.proofs.Common.{◌≡◌, ◌≤◌, ◌<◌, ◌+◌, ◌==◌, ℕ, suc, Bool, true, false, List, [], ◌∷◌, ◌++◌, map, Option, if◌then◌else◌, refl, sym, ap, subst, ◌∙◌, arith, le_trans}
 use Rattle.std.specs.Prelude.{IsTrue}
 use Rattle.std.proofs.lemmas.Bool.Decides.{Decides-eqb}
 use Rattle.outside.specs.Faults.{Rose}
 use Rattle.dtx_values.specs.Table.{how_many}
 use Rattle.dtx_values.specs.declared.entry.Answer.{Answer}
 use Rattle.dtx_values.specs.declared.entry.Answer.TheVariants.{Fault, Fine, NotALog}
-use Rattle.dtx_values.specs.declared.entry.Entry.{Entry}
 use Rattle.dtx_values.specs.declared.entry.Entry.TheVariants.{Called, LogWord, Restarted, Stopped}
 use Rattle.dtx_values.specs.declared.entry.LogNote.TheVariants.{Opened}
 use Rattle.dtx_values.specs.declared.number.ActorNo.{ActorNo}
 use Rattle.dtx_values.specs.declared.number.TxNo.{TxNo}
 use Rattle.dtx_values.specs.declared.trace.Place.TheVariants.{Log, Transaction}
 use Rattle.dtx_model.specs.Words.{has}
-use Rattle.dtx_model.specs.AtLog.{armed, at_log, faults as faults_told, found_behind, hit, is_called, is_fault_answer, is_log_up, known, made, one_if, open_right, stop_right}
-use Rattle.dtx_model.specs.Replay.{Differs, Faults, Opens, Reopening, after_halt, after_opening, after_restart, at_the_log, put_at, stopped_by_restart}
+use Rattle.dtx_model.specs.AtLog.{armed, at_log, faults as faults_told, found_behind, hit, is_called, is_fault_answer, is_log_up, known, one_if, open_right}
+use Rattle.dtx_model.specs.Replay.{Differs, Faults, Opens, Reopening, after_halt, after_restart, at_the_log, put_at, stopped_by_restart}
 use Rattle.dtx_model.specs.Traces.{Placed}
 use Rattle.dtx_model.proofs.Bools.{and_both, or_false}
 use Rattle.outcome_law.proofs.PutAt.{log-put}
@@ -23,7 +22,7 @@ use Rattle.coordinator_log.specs.State.{LogState}
 use Rattle.coordinator_log.specs.declared.stop.ArmedStop.{ArmedStop}
 use Rattle.script_runner.specs.LogRun.{IsCounted, LAST, LogGoes, is_left, is_no_log_answer}
 use Rattle.script_runner.specs.RunState.{Tells}
-use Rattle.script_runner.proofs.Telling.{counted_at_log, counted_same, tells_put}
+use Rattle.script_runner.proofs.Telling.{counted_same, tells_put}
 use Rattle.script_runner.proofs.TellingStops.{open_on, open_same, or_left, stop_on}
 
 -- The call of a restart, which is answered `fault` only where the count of faults rose

@@ -1,13 +1,12 @@
 -- Where stops and openings stand in a trace, as entries come to it.
-use Rattle.std.proofs.Common.{◌≡◌, ◌≤◌, ◌<◌, ◌+◌, ◌-◌, ℕ, Bool, true, false, ◌&&◌, ◌||◌, nat_lt, nat_le, ◌==◌, List, [], ◌∷◌, Option, Some, None, refl, sym, ap, subst, ◌∙◌, inl, inr, arith}
+use Rattle.std.proofs.Common.{◌≡◌, ◌≤◌, ◌+◌, ℕ, Bool, true, false, ◌&&◌, ◌||◌, nat_lt, ◌==◌, List, [], ◌∷◌, Option, Some, None, refl, ap, ◌∙◌, inl, inr, arith}
 use Rattle.std.specs.Option.{option_map}
 use Rattle.std.proofs.lemmas.Bool.{cases_Bool}
 use Rattle.std.proofs.lemmas.Bool.Decides.{nat_tests}
-use Rattle.dtx_values.specs.declared.entry.Entry.{Entry}
 use Rattle.dtx_values.specs.declared.entry.Entry.TheVariants.{Freed, Logged, LogWord, Restarted, Stopped}
 use Rattle.dtx_values.specs.declared.entry.LogNote.TheVariants.{Opened}
 use Rattle.dtx_values.specs.declared.trace.Place.TheVariants.{Context, Log, Transaction}
-use Rattle.dtx_model.specs.AtLog.{at_log, calls_of, found_behind, is_called, is_met, is_reached, is_stopped_by, made, one_if, open_right, opens_right, stop_right, stops_right}
+use Rattle.dtx_model.specs.AtLog.{at_log, found_behind, is_called, is_reached, is_stopped_by, one_if, open_right, opens_right, stop_right, stops_right}
 use Rattle.dtx_model.specs.Traces.{Placed}
 use Rattle.dtx_model.proofs.Bools.{and_both, and_left, and_right}
 use Rattle.coordinator_log.specs.Stop.{after_calls, stop_in}

@@ -1,5 +1,6 @@
 -- A step of a transaction, as its world does it and as the trace has it: a step that doesn't stop the log is a turn of the trace, whether the log is up or not.
-use Rattle.std.proofs.Common.{◌≡◌, ◌⊎◌, ℕ, suc, Bool, true, false, ◌&&◌, ◌||◌, not, List, [], ◌∷◌, ◌++◌, find, Option, None, Some, inl, inr, refl, ap, sym, subst, ◌∙◌, if◌then◌else◌}
+use Rattle.std.proofs.Common.{◌≡◌, ◌⊎◌, ◌-◌, ◌<◌, ℕ, suc, Bool, true, false, ◌&&◌, ◌||◌, not, List, [], ◌∷◌, ◌++◌, find, Option, None, Some, is_some, inl, inr, refl, ap, sym, subst, ◌∙◌, if◌then◌else◌}
+use Rattle.std.specs.Prelude.{IfSome, slice_index_or}
 use Rattle.dtx_values.specs.declared.call.Call.{Call}
 use Rattle.dtx_values.specs.declared.entry.Entry.{Entry}
 use Rattle.dtx_values.specs.declared.entry.Entry.TheVariants.{Stopped}
@@ -7,22 +8,25 @@ use Rattle.dtx_values.specs.declared.message.Conn.{Conn}
 use Rattle.dtx_values.specs.declared.note.Note.{Note}
 use Rattle.dtx_values.specs.declared.note.Note.TheVariants.{Commit as CommitNote}
 use Rattle.dtx_values.specs.declared.note.Plan.{Plan}
+use Rattle.dtx_values.specs.declared.note.Reply.{Reply}
 use Rattle.dtx_values.specs.declared.number.ActorNo.{ActorNo}
+use Rattle.dtx_values.specs.declared.number.EnlNo.{EnlNo}
+use Rattle.dtx_values.specs.declared.number.RmNo.{RmNo}
 use Rattle.dtx_values.specs.declared.number.TxNo.{TxNo}
 use Rattle.dtx_values.specs.declared.row.Row.{Row}
 use Rattle.dtx_values.specs.declared.script.Line.{Line}
 use Rattle.dtx_values.specs.declared.trace.Place.TheVariants.{Transaction}
 use Rattle.dtx_values.specs.Row.{is_of}
-use Rattle.dtx_model.specs.Words.{has, onto, or_else}
+use Rattle.dtx_model.specs.Words.{has, kth, onto, or_else}
 use Rattle.dtx_model.specs.Coordinated.{coordinate, follow, may_log}
 use Rattle.dtx_model.specs.Grammar.{are_named_well}
 use Rattle.dtx_model.specs.Observed.{Observed, observe}
 use Rattle.dtx_model.specs.Plans.{plan_of, planned as reply_planned}
-use Rattle.dtx_model.specs.Replies.{conn_due, due_of, note_of_conn, note_of_row}
+use Rattle.dtx_model.specs.Replies.{conn_due, due_of, note_of_conn, note_of_row, with_note}
 use Rattle.dtx_model.specs.Half.{is_gone}
 use Rattle.dtx_model.specs.World.{World, core, half}
-use Rattle.dtx_model.specs.Steps.{StoppedNow, StoppedBefore, Step, Replies, Coordinates, Stops, StepName, after, appended, block_at, entered, freed, pending}
-use Rattle.dtx_model.specs.Caused.{HasStepped, IsCallOf, IsIn, IsNamed, IsOwnRun, IsRun, entered_in, is_begin_sent, may_coordinate, may_stop_after, plans_of, stopped_if, world_of}
+use Rattle.dtx_model.specs.Steps.{StoppedNow, StoppedBefore, Step, Replies, Coordinates, Stops, StepName, ReplyOf, LocalAct, CoordinatorAct, Delivery, after, appended, block_at, entered, freed, pending}
+use Rattle.dtx_model.specs.Caused.{HasStepped, IsCallOf, IsIn, IsNamed, IsOwnRun, IsRun, entered_in, has_object, is_begin_sent, is_up_to, may_coordinate, may_stop_after, plans_of, stopped_if, world_of}
 use Rattle.dtx_model.specs.Traces.{Placed, placed}
 use Rattle.dtx_model.specs.AtLog.{is_log_up}
 use Rattle.dtx_model.specs.Replay.{after_turn, block_in, stop_if, world_at}
@@ -37,12 +41,17 @@ use Rattle.outcome_law.proofs.ReplaySame.{block_same, pending_same}
 use Rattle.outcome_law.proofs.Rule.{is_enlisted}
 use Rattle.outcome_law.proofs.ScriptCalls.{plans_same, ran_calls}
 use Rattle.outcome_law.proofs.TableRows.{enlisted_in_rows}
+use Rattle.script_calls.specs.Managers.{AreManagers}
+use Rattle.script_calls.proofs.RightReplies.{IsReplyRight, free_to, reply_to}
+use Rattle.script_calls.proofs.Unsilent.{unsilent}
 use Rattle.coordinator_log.specs.State.{LogState}
 use Rattle.tx_world.specs.State.{TxState, sends_begin, turned}
-use Rattle.tx_world.specs.Stepping.{DoesKth, IsToPlan}
+use Rattle.tx_world.specs.Stepping.{Does, IsToPlan, reply_in}
 use Rattle.tx_world.proofs.Begun.{stopped_begun}
+use Rattle.tx_world.proofs.LeftSteps.{step_nearer}
+use Rattle.world_laws.specs.Left.{steps_left}
+use Rattle.script_runner.specs.Objects.{DoesGiven, MayReply}
 use Rattle.script_runner.specs.RunState.{AreNumbered, IsTied, state_of}
-use Rattle.script_runner.proofs.Deeds.{IsPlannedBy}
 
 -- what holds of each world, of that of transaction t
 pub record IsOwn (t : TxNo) (x : TxState) : Type 0 where
@@ -62,18 +71,18 @@ calls_by_script : (s : List Line) (t : ℕ) (w : World) → ((n : ℕ) (a : Acto
 calls_by_script s t w g r = let run = by_script s t w g r in ran_calls s t run.0 w run.1
 
 -- So what is pending in the world of a transaction that is tied is pending by the trace,
-pub pending_here : (s : List Line) (t : TxNo) (T : List Placed) (x : TxState) → IsTied s t T x → IsOwn t x → pending x.world ≡ pending (world_at s t T)
-pending_here s t T x tied own =
+pub pending_here : (s : List Line) (o : ℕ) (t : TxNo) (T : List Placed) (x : TxState) → IsTied s o t T x → IsOwn t x → pending x.world ≡ pending (world_at s t T)
+pending_here s o t T x tied own =
     pending_same s t.value x.world.calls x.world.past (calls_by_script s t.value x.world tied.given own.run) ∙ ap (λ (h : List Entry). pending (world_of s h)) tied.past
 
 -- a step makes the same block there,
-pub block_here : (s : List Line) (t : TxNo) (T : List Placed) (x : TxState) (m : Step) → IsTied s t T x → IsOwn t x → block_at t.value x.world m ≡ block_in s t m T
-block_here s t T x m tied own =
+pub block_here : (s : List Line) (o : ℕ) (t : TxNo) (T : List Placed) (x : TxState) (m : Step) → IsTied s o t T x → IsOwn t x → block_at t.value x.world m ≡ block_in s t m T
+block_here s o t T x m tied own =
     block_same s t.value x.world.calls x.world.past m (calls_by_script s t.value x.world tied.given own.run) ∙ ap (λ (h : List Entry). block_at t.value (world_of s h) m) tied.past
 
 -- and has the same name.
-pub named_here : (s : List Line) (t : TxNo) (T : List Placed) (x : TxState) (n : StepName) (m : Step) → IsTied s t T x → IsNamed x.world n m → IsNamed (world_at s t T) n m
-named_here s t T x n m tied k =
+pub named_here : (s : List Line) (o : ℕ) (t : TxNo) (T : List Placed) (x : TxState) (n : StepName) (m : Step) → IsTied s o t T x → IsNamed x.world n m → IsNamed (world_at s t T) n m
+named_here s o t T x n m tied k =
     subst (λ (h : List Entry). IsNamed (world_of s h) n m) tied.past (named_same x.world.calls (entered_in s x.world.past) x.world.past n m k)
 
 -- What a step writes: where BEGIN is sent while the log isn't up, a stop behind its block.
@@ -110,11 +119,11 @@ block_turn : (s : List Line) (t : TxNo) (m : Step) (T : List Placed) → is_stop
 block_turn s t (Coordinates StoppedNow) T k = absurd cc
 block_turn s t m T k = refl
 
-pub turn_here : (s : List Line) (t : TxNo) (T : List Placed) (x : TxState) (m : Step) (up : Bool) → IsTied s t T x → IsOwn t x → up ≡ is_log_up T → is_stopping m ≡ false
+pub turn_here : (s : List Line) (o : ℕ) (t : TxNo) (T : List Placed) (x : TxState) (m : Step) (up : Bool) → IsTied s o t T x → IsOwn t x → up ≡ is_log_up T → is_stopping m ≡ false
     → onto T (placed t (written up t.value x.world m)) ≡ after_turn s t m T
-turn_here s t T x m up tied own same k =
+turn_here s o t T x m up tied own same k =
     by (has is_begin_sent (block_at t.value x.world m) && not up) (block_at t.value x.world m)
-    ∙ (ap (λ (es : List Entry). stop_if (has is_begin_sent es && not up) t (onto T (placed t es))) (block_here s t T x m tied own)
+    ∙ (ap (λ (es : List Entry). stop_if (has is_begin_sent es && not up) t (onto T (placed t es))) (block_here s o t T x m tied own)
     ∙ (ap (λ (u : Bool). stop_if (has is_begin_sent (block_in s t m T) && not u) t (onto T (placed t (block_in s t m T)))) same ∙ sym (block_turn s t m T k)))
   where
     by : (b : Bool) (es : List Entry) → onto T (placed t (if b then es ++ Stopped ∷ [] else es)) ≡ stop_if b t (onto T (placed t es))
@@ -131,9 +140,9 @@ stops_behind up t w m = by (sends_begin t w m) up refl
     by true false e = (true, e, refl)
     by false u e = (false, refl, refl)
 
-pub has_stepped : {D : Type 0} (faults : D → ℕ) (t : TxNo) (k m : ℕ) (start : World) (x y : TxState) (from to : LogState D) → x.transaction ≡ t → DoesKth faults k x from y to
+pub has_stepped : {D : Type 0} (faults : D → ℕ) (t : TxNo) (k m : ℕ) (start : World) (given : Option (EnlNo × Reply)) (x y : TxState) (from to : LogState D) → x.transaction ≡ t → DoesGiven faults given k x from y to
     → HasStepped t.value k m start x.world → HasStepped t.value k (suc m) start y.world
-has_stepped faults t k m start x y from to at d h =
+has_stepped faults t k m start given x y from to at d h =
     let s = stops_behind from.is_up t.value x.world d.step in
     let world : y.world ≡ stopped_if s.0 t.value (after t.value x.world d.step) = d.done.world ∙ (ap (λ (u : TxNo). turned from.is_up u.value x.world d.step) at ∙ s.2) in
     (x.world, h, d.name, d.step, d.stands, d.named, s.0, s.1, world)
@@ -178,22 +187,72 @@ due_stands o e n d = by (is_gone o e) (find (is_of e) o.table) refl d
     by false (Some x) f k = inr (found_stands (is_of e) o.table x f)
 
 -- The plan of an enlistment that stands is the script's.
-plan_here : (s : List Line) (t : TxNo) (T : List Placed) (x : TxState) (e : ℕ) → are_named_well s ≡ true → IsTied s t T x → IsOwn t x → has (is_enlisted e) x.world.past ≡ true
+plan_here : (s : List Line) (o : ℕ) (t : TxNo) (T : List Placed) (x : TxState) (e : ℕ) → are_named_well s ≡ true → IsTied s o t T x → IsOwn t x → has (is_enlisted e) x.world.past ≡ true
     → plan_of x.world.calls e ≡ plans_of s e
-plan_here s t T x e named tied own stands =
+plan_here s o t T x e named tied own stands =
     let w = x.world in
     let run = by_script s t.value w tied.given own.run in
     let m = ((ran_made (IsCallOf s t.value) t.value run.0 w run.1).enlisted e stands).0 in
     ap (λ (p : ℕ → Plan). p e) (plans_same s t.value w.calls w.past (calls_by_script s t.value w tied.given own.run))
     ∙ plan_same s t.value e w.past named (record { number = m.number; actor = m.actor; call = m.call; given = m.may; passes = maker_called e m.call m.passes; called = m.called })
 
--- So a reply that its own calls plan is the one that the script plans.
-pub planned_here : (s : List Line) (t : TxNo) (T : List Placed) (x : TxState) (m : Step) → are_named_well s ≡ true → IsTied s t T x → IsOwn t x → IsToPlan x.world m → IsPlannedBy (plans_of s) x.world m
+-- So what its own calls plan to a note that is due is what the script plans.
+planned_here : (s : List Line) (o : ℕ) (t : TxNo) (T : List Placed) (x : TxState) (e : ℕ) (n : Note) → are_named_well s ≡ true → IsTied s o t T x → IsOwn t x → due_of (half x.world).seen e ≡ Some n
+    → reply_planned (plan_of x.world.calls e) n ≡ reply_planned (plans_of s e) n
 unfolding observe
-planned_here s t T x (Replies e r) named tied own (n, due, plan) = elim (due_stands (half x.world).seen e.value n due) [
-  | inl is ↦ (n, subst (λ (o : Note). reply_planned (plans_of s e.value) o ≡ Some r) (sym is) (subst (λ (o : Note). reply_planned (plan_of x.world.calls e.value) o ≡ Some r) is plan))
+planned_here s o t T x e n named tied own due = elim (due_stands (half x.world).seen e n due) [
+  | inl is ↦ subst (λ (m : Note). reply_planned (plan_of x.world.calls e) m ≡ reply_planned (plans_of s e) m) (sym is) refl
   | inr stands ↦
-      let enlisted : has (is_enlisted e.value) x.world.past ≡ true = sym (enlisted_in_rows e.value x.world.past) ∙ stands in
-      (n, subst (λ (p : Plan). reply_planned p n ≡ Some r) (plan_here s t T x e.value named tied own enlisted) plan)
+      let enlisted : has (is_enlisted e) x.world.past ≡ true = sym (enlisted_in_rows e x.world.past) ∙ stands in
+      ap (λ (p : Plan). reply_planned p n) (plan_here s o t T x e named tied own enlisted)
 ]
-planned_here s t T x _ named tied own q = tt
+
+-- What is asked of a reply that is given: it fits the note, and its manager has an object.
+abbrev pub MayGive : List Line → ℕ → World → ℕ → Option (EnlNo × Reply) → Type 0
+MayGive s o w k given = IfSome given (λ x. MayReply w k x.0 x.1 × (has_object s o x.0.value ≡ true))
+
+-- so it is, where the table of the script's managers says so
+pub given_by : (s : List Line) (o : ℕ) (ms : List (Option RmNo)) (w : World) (k : ℕ) (given : Option (EnlNo × Reply)) → AreManagers s s ms → IfSome given (λ x. MayReply w k x.0 x.1)
+    → IfSome given (λ x. is_up_to o (slice_index_or ms (x.0.value - 1) None) ≡ true) → MayGive s o w k given
+given_by s o ms w k (Some x) are may up = (may, ap (is_up_to o) (sym (are x.0)) ∙ up)
+given_by s o ms w k None are may up = tt
+
+-- the step that is pending there is a reply of it
+reply_pending : (w : World) (e : EnlNo) (n : Note) (m : Option StepName) → reply_in w m ≡ Some (e, n) → (m ≡ Some (ReplyOf e)) × (due_of (half w).seen e.value ≡ Some n)
+reply_pending w e n (Some (ReplyOf f)) k = by (due_of (half w).seen f.value) refl k
+  where
+    by : (d : Option Note) → due_of (half w).seen f.value ≡ d → with_note f d ≡ Some (e, n) → (Some (ReplyOf f) ≡ Some (ReplyOf e)) × (due_of (half w).seen e.value ≡ Some n)
+    by (Some m) q k = let pair : (f, m) ≡ (e, n) = cc in
+        let same : f ≡ e = ap (λ (x : EnlNo × Note). x.0) pair in
+        let note : m ≡ n = ap (λ (x : EnlNo × Note). x.1) pair in
+        (ap (λ g. Some (ReplyOf g)) same, subst (λ (g : EnlNo). due_of (half w).seen g.value ≡ Some n) same (q ∙ ap Some note))
+    by None q k = absurd cc
+reply_pending w e n (Some LocalAct) k = absurd cc
+reply_pending w e n (Some CoordinatorAct) k = absurd cc
+reply_pending w e n (Some (Delivery c d)) k = absurd cc
+reply_pending w e n None k = absurd cc
+
+pub given_named : (w : World) (k : ℕ) (e : EnlNo) (r : Reply) → MayReply w k e r → (kth (pending w) k ≡ Some (ReplyOf e)) × IsNamed w (ReplyOf e) (Replies e r)
+given_named w k e r may = let there = reply_pending w e may.note (kth (pending w) k) may.due in (there.0, (r, may.note, there.1, may.fitting, refl))
+
+-- It leaves fewer steps,
+pub reply_nearer : {D : Type 0} (faults : D → ℕ) (k : ℕ) (e : EnlNo) (r : Reply) (x : TxState) (from : LogState D) (y : TxState) (to : LogState D) → IsOwnRun x.transaction.value x.world → MayReply x.world k e r
+    → Does faults (Replies e r) x from y to → steps_left y.world < steps_left x.world
+reply_nearer faults k e r x from y to run may did =
+    let there = given_named x.world k e r may in
+    let P : World → Type 0 = λ w. steps_left w < steps_left x.world in
+    subst P (sym did.world) (step_nearer (IsIn x.world.calls) from.is_up x.transaction.value run.0 x.world (ReplyOf e) (Replies e r) k run.1 there.0 there.1)
+
+-- and a reply that is planned or given is right: it is the one that the script plans, or that of an enlistment whose manager has an object, which isn't silent.
+pub right_here : {D : Type 0} (faults : D → ℕ) (s : List Line) (o : ℕ) (t : TxNo) (T : List Placed) (x : TxState) (given : Option (EnlNo × Reply)) (k : ℕ) (from : LogState D) (y : TxState) (to : LogState D) → are_named_well s ≡ true
+    → IsTied s o t T x → IsOwn t x → MayGive s o x.world k given → (d : DoesGiven faults given k x from y to) → IsReplyRight (plans_of s) (has_object s o) d.step
+right_here faults s o t T x (Some (e, r)) k from y to named tied own (may, object) d =
+    let there = reply_pending x.world e may.note (kth (pending x.world) k) may.due in
+    let spoken : is_some (reply_planned (plans_of s e.value) may.note) ≡ true =
+    ap is_some (sym (planned_here s o t T x e.value may.note named tied own there.1)) ∙ unsilent x.world k e may.note there.0 there.1 in
+    subst (λ (m : Step). IsReplyRight (plans_of s) (has_object s o) m) (sym d.reply) (free_to (plans_of s) (has_object s o) e may.note r object may.fitting spoken)
+right_here faults s o t T x None k from y to named tied own may d = by d.step d.reply
+  where
+    by : (m : Step) → IsToPlan x.world m → IsReplyRight (plans_of s) (has_object s o) m
+    by (Replies e r) (n, due, plan) = reply_to (plans_of s) (has_object s o) e n r (sym (planned_here s o t T x e.value n named tied own due) ∙ plan)
+    by _ q = tt

@@ -1,5 +1,5 @@
 -- What the top call promises.
-use Rattle.std.specs.Prelude.{ℕ, ◌≡◌, Bool, false, List, [], ◌++◌, Option, Some, IsTrue}
+use Rattle.std.specs.Prelude.{ℕ, ◌≡◌, ◌⊎◌, Bool, false, List, [], ◌++◌, Option, Some, IsTrue}
 use Rattle.std.specs.Option.{ForSome}
 use Rattle.dtx_values.specs.declared.script.Line.{Line}
 use Rattle.dtx_model.specs.AtLog.{at_log}
@@ -9,11 +9,14 @@ use Rattle.dtx_model.specs.Traces.{Placed}
 use Rattle.dtx_model.specs.TraceText.{trace_text}
 use Rattle.dtx_model.specs.Words.{has, past_of}
 use Rattle.program_words.specs.Commands.{Asks}
-use Rattle.program_words.specs.declared.command.Command.TheVariants.{Replay}
+use Rattle.program_words.specs.declared.command.Command.{Command}
+use Rattle.program_words.specs.declared.command.Command.TheVariants.{Replay, Threads}
 use Rattle.program_words.specs.declared.command.Form.{Form}
 use Rattle.program_words.specs.declared.command.Form.TheVariants.{Plain, Wire, Json, Summary}
+use Rattle.thread_runs.specs.Run.{EndsOnThreads, IsRunOnThreads}
 use Rattle.trace_text.specs.Forms.{json_text, wire_text}
 use Rattle.trace_text.specs.Summary.{summary_text}
+use Rattle.tx_cells.specs.Cell.{IsThreadable}
 use Rattle.script_runner.specs.Ending.{IsLogOf}
 use Rattle.script_runner.specs.LogRun.{has_log_line, is_no_log_answer}
 use Rattle.script_runner.specs.Run.{AreTied, IsRunOf}
@@ -24,6 +27,14 @@ use Rattle.script_runner.specs.Waits.{AreWaitsAnswered}
 abbrev pub AsksReplay : List (List ℕ) → Type 0
 AsksReplay ws = (f : Form) × Asks ws (Replay f)
 
+-- the words ask for a run on threads
+abbrev pub AsksThreads : List (List ℕ) → Type 0
+AsksThreads ws = (h : ℕ) × (f : Form) × Asks ws (Threads h f)
+
+-- the words ask for a run of a script that is read
+abbrev pub AsksRun : List (List ℕ) → Type 0
+AsksRun ws = AsksReplay ws ⊎ AsksThreads ws
+
 -- the text of a trace in a form
 abbrev pub form_text : Form → List Placed → List ℕ
 form_text Plain T = trace_text T
@@ -31,14 +42,12 @@ form_text Wire T = wire_text T
 form_text Json T = json_text T
 form_text Summary T = summary_text T
 
--- T is a run of the script s that the source gave, in the order of a replay, over a disk that is honest or not, whose count of faults was `from` before and is `to` now. Where each restart found what may be found, as on an honest disk and in each run without a restart, it is a
+-- T is a run of the script s in the order of a replay in which the first k managers have an object, over a disk that is honest or not, whose count of faults was `from` before and is `to` now. Where each restart found what may be found, as on an honest disk and in each run without a restart, it is a
 -- settled history of the script; what is told is just, nobody is told the opposite of what another is told, and who comes back learns the logged outcome; each transaction that can commit is committed; where commit was asked, the client was told an outcome, or
 -- there is something that the transaction waits for (`told`); and each call that was answered `wait` got its answer, or an enlistment that was asked to promote stays silent.
--- Where the source tells its bytes, they are that script; s is a script also where it tells nothing. Where the disk is honest, each restart finds a log, and the log that each image holds has the records that the trace says.
-pub record IsReplayOf (given : Option (List ℕ)) (from to : ℕ) (honest : Bool) (image : List ℕ → Type 0) (s : List Line) (T : List Placed) : Type 0 where
-  pub read : ForSome given (λ b. Reads b s)
-  pub script : IsScript s
-  pub run : IsRunOf s 0 from to honest T
+-- Where the disk is honest, each restart finds a log, and the log that each image holds has the records that the trace says.
+pub record IsReplayOf (k from to : ℕ) (honest : Bool) (image : List ℕ → Type 0) (s : List Line) (T : List Placed) : Type 0 where
+  pub run : IsRunOf s k from to honest T
   pub tied : IsTrue honest → AreTied T
   pub outcome : AreTied T → HasOneOutcome T
   pub complete : AreTied T → IsComplete s T
@@ -46,21 +55,59 @@ pub record IsReplayOf (given : Option (List ℕ)) (from to : ℕ) (honest : Bool
   pub log : IsTrue honest → IsLogOf image T
   pub unlike : IsTrue honest → has is_no_log_answer (at_log (past_of T)) ≡ false
 
--- the headline: there is a trace, a history of the script with one outcome for each transaction, and the sink, where it tells what was
--- written, gained exactly its text in this form
-pub record IsWritten (f : Form) (from to : ℕ) (honest : Bool) (image : List ℕ → Type 0) (given before after : Option (List ℕ)) : Type 0 where
+-- The same of a run on threads: each actor's calls are in the order of its lines, at each place, and those of two actors come in any order; all else is as in a replay. The log that each image holds has, where the trace leaves it up, one record of
+-- each transaction that has one by the trace; and whether it is up or not, the script's transactions alone, each at most once.
+pub record IsThreadsOf (k from to : ℕ) (honest : Bool) (image : List ℕ → Type 0) (s : List Line) (T : List Placed) : Type 0 where
+  pub run : IsRunOnThreads s k from to T
+  pub tied : IsTrue honest → AreTied T
+  pub outcome : AreTied T → HasOneOutcome T
+  pub complete : AreTied T → IsComplete s T
+  pub waited : AreTied T → AreWaitsAnswered s T
+  pub log : IsTrue honest → EndsOnThreads s image T
+  pub unlike : IsTrue honest → has is_no_log_answer (at_log (past_of T)) ≡ false
+
+-- There is a run as P says, of the script that the source gave, where it tells its bytes, and of some script where it tells nothing; and the sink, where it tells what was written, gained exactly the text of its trace in this form.
+pub record IsTextWritten (P : List Line → List Placed → Type 0) (f : Form) (given before after : Option (List ℕ)) : Type 0 where
   pub lines : List Line
   pub trace : List Placed
-  pub replay : IsReplayOf given from to honest image lines trace
+  pub read : ForSome given (λ b. Reads b lines)
+  pub script : IsScript lines
+  pub ran : P lines trace
   pub gained : ForSome before (λ w. after ≡ Some (w ++ form_text f trace))
 
 -- the same, but the sink gained a part of the text and not all of it
-pub record IsCutShort (f : Form) (from to : ℕ) (honest : Bool) (image : List ℕ → Type 0) (given before after : Option (List ℕ)) : Type 0 where
+pub record IsTextCutShort (P : List Line → List Placed → Type 0) (f : Form) (given before after : Option (List ℕ)) : Type 0 where
   pub lines : List Line
   pub trace : List Placed
-  pub replay : IsReplayOf given from to honest image lines trace
+  pub read : ForSome given (λ b. Reads b lines)
+  pub script : IsScript lines
+  pub ran : P lines trace
   pub gained : ForSome before (λ w. IsPartWritten w (form_text f trace) after)
+
+-- the headline: the text of a replay was written; or a part of it
+abbrev pub IsWritten : Form → (k from to : ℕ) (honest : Bool) (image : List ℕ → Type 0) (given before after : Option (List ℕ)) → Type 0
+IsWritten f k from to honest image given before after = IsTextWritten (IsReplayOf k from to honest image) f given before after
+
+abbrev pub IsCutShort : Form → (k from to : ℕ) (honest : Bool) (image : List ℕ → Type 0) (given before after : Option (List ℕ)) → Type 0
+IsCutShort f k from to honest image given before after = IsTextCutShort (IsReplayOf k from to honest image) f given before after
+
+-- the headline for threads: the text of a run on threads was written; or a part of it
+abbrev pub IsWrittenOnThreads : Form → (k from to : ℕ) (honest : Bool) (image : List ℕ → Type 0) (given before after : Option (List ℕ)) → Type 0
+IsWrittenOnThreads f k from to honest image given before after = IsTextWritten (IsThreadsOf k from to honest image) f given before after
+
+abbrev pub IsCutShortOnThreads : Form → (k from to : ℕ) (honest : Bool) (image : List ℕ → Type 0) (given before after : Option (List ℕ)) → Type 0
+IsCutShortOnThreads f k from to honest image given before after = IsTextCutShort (IsThreadsOf k from to honest image) f given before after
 
 -- each script that the input may be has no line that stops the log or opens it again
 abbrev pub HasNoLogLine : Option (List ℕ) → Type 0
 HasNoLogLine given = (s : List Line) → IsScript s → ForSome given (λ b. Reads b s) → has_log_line s ≡ false
+
+-- what the command asks for can be done with this input: a replay and a run on threads need a script, and that on threads one without a `do`; nothing else is read
+abbrev pub IsInputFor : Command → Option (List ℕ) → Type 0
+IsInputFor (Replay f) given = (b : List ℕ) × (s : List Line) × (given ≡ Some b) × Reads b s
+IsInputFor (Threads h f) given = (b : List ℕ) × (s : List Line) × (given ≡ Some b) × Reads b s × IsThreadable s
+IsInputFor _ given = Unit {0}
+
+-- the words ask for something that can be done with this input
+abbrev pub CanBeDone : List (List ℕ) → Option (List ℕ) → Type 0
+CanBeDone ws given = (c : Command) × Asks ws c × IsInputFor c given

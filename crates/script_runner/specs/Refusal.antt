@@ -1,37 +1,55 @@
--- The text of a replay, and why bytes have none.
-use Rattle.std.specs.Prelude.{ℕ, ◌≡◌, Bool, false, ◌&&◌, List, IsTrue}
+-- Why bytes have no run, and what is known of one.
+use Rattle.std.specs.Prelude.{ℕ, ◌≡◌, Bool, List, Option, Some}
+use Rattle.std.specs.Option.{ForSome}
 use Rattle.dtx_values.specs.declared.script.Line.{Line}
 use Rattle.dtx_model.specs.Faults.{Bad}
-use Rattle.dtx_model.specs.History.{HasOneOutcome, IsComplete}
-use Rattle.dtx_model.specs.Outcome.{is_empty}
-use Rattle.dtx_model.specs.AtLog.{at_log, is_log_up}
+use Rattle.dtx_model.specs.Grammar.{IsScript, Reads}
 use Rattle.dtx_model.specs.Traces.{Placed}
-use Rattle.dtx_model.specs.Words.{has, past_of}
 use Rattle.program_words.specs.declared.command.Form.{Form}
-use Rattle.coordinator_log.specs.Slots.{open_records}
-use Rattle.coordinator_log.specs.State.{LogState}
-use Rattle.script_runner.specs.Ending.{EndsAs}
-use Rattle.script_runner.specs.LogRun.{is_no_log_answer}
-use Rattle.script_runner.specs.Program.{form_text}
-use Rattle.script_runner.specs.Run.{AreTied, IsRunOf}
-use Rattle.script_runner.specs.Waits.{AreWaitsAnswered}
-use Rattle.script_runner.specs.declared.program.Refusal.{Refusal}
-use Rattle.script_runner.specs.declared.program.Refusal.TheVariants.{Bad as BadBytes, Memory}
+use Rattle.tx_cells.specs.Cell.{IsThreadable}
+use Rattle.script_runner.specs.Judged.{HasDoAt, first_do}
+use Rattle.script_runner.specs.Program.{IsReplayOf, IsThreadsOf, form_text}
+use Rattle.script_runner.specs.declared.exit.Exit.{Exit}
+use Rattle.script_runner.specs.declared.exit.Exit.TheVariants.{BadScript, NotThreadable, ReadFault, Memory as MemoryExit}
+use Rattle.script_runner.specs.declared.judging.Refusal.{Refusal}
+use Rattle.script_runner.specs.declared.judging.Refusal.TheVariants.{Bad as BadBytes, HasDo, Memory}
+use Rattle.script_runner.specs.declared.way.Way.{Way}
+use Rattle.script_runner.specs.declared.way.Way.TheVariants.{Replay, Threads}
 
--- the bytes have no replay for this cause; nothing is said of want of memory
-abbrev pub HasNoReplay : List ℕ → Refusal → Type 0
-HasNoReplay b (BadBytes n c) = Bad b n c
-HasNoReplay b Memory = Unit {0}
+-- the lines are a script, and one for threads where they are to run on threads
+abbrev pub IsRunnable : Way → List Line → Type 0
+IsRunnable Replay s = IsScript s
+IsRunnable (Threads h) s = IsThreadable s
 
--- the text, in this form, is that of a replay of these lines over a log, whose disk is honest or not
-pub record IsReplayText {D : Type 0} (faults : D → ℕ) (honest : Bool) (image : D → List ℕ → Type 0) (f : Form) (s : List Line) (old new : LogState D) (text : List ℕ) : Type 0 where
+-- the input is a script that can be run this way
+abbrev pub IsGoodFor : Way → Option (List ℕ) → Type 0
+IsGoodFor w given = (b : List ℕ) × (s : List Line) × (given ≡ Some b) × Reads b s × IsRunnable w s
+
+-- the script was to run on threads
+abbrev pub IsOnThreads : Way → Type 0
+IsOnThreads w = (h : ℕ) × (w ≡ Threads h)
+
+-- the bytes have no run of this way for this cause; nothing is said of want of memory
+abbrev pub HasNoRun : Way → List ℕ → Refusal → Type 0
+HasNoRun w b (BadBytes n c) = Bad b n c
+HasNoRun w b (HasDo n) = IsOnThreads w × HasDoAt b n
+HasNoRun w b Memory = Unit {0}
+
+-- no script to be run this way came of the bytes that the source may give, for the cause that the answer says; nothing is said of a fault of the source and of want of memory, and no other answer stands for this
+abbrev pub Refuses : Way → Option (List ℕ) → Exit → Type 0
+Refuses w given (BadScript n c) = ForSome given (λ b. Bad b n c)
+Refuses w given (NotThreadable n) = IsOnThreads w × ForSome given (λ b. HasDoAt b n)
+Refuses w given ReadFault = Unit {0}
+Refuses w given MemoryExit = Unit {0}
+Refuses w given _ = ⊥
+
+-- T is a run of this way: a replay, or one on threads
+abbrev pub IsRunBy : Way → ℕ → ℕ → ℕ → Bool → (List ℕ → Type 0) → List Line → List Placed → Type 0
+IsRunBy Replay = IsReplayOf
+IsRunBy (Threads h) = IsThreadsOf
+
+-- the text, in this form, is that of a run of this way of these lines
+pub record IsTextOf (w : Way) (f : Form) (k from to : ℕ) (honest : Bool) (image : List ℕ → Type 0) (s : List Line) (text : List ℕ) : Type 0 where
   pub trace : List Placed
-  pub run : IsRunOf s 0 (faults old.disk) (faults new.disk) (honest && is_empty (open_records old.slots)) trace
-  pub tied : IsTrue honest → AreTied trace
-  pub outcome : AreTied trace → HasOneOutcome trace
-  pub complete : AreTied trace → IsComplete s trace
-  pub waited : AreTied trace → AreWaitsAnswered s trace
-  pub up : new.is_up ≡ is_log_up (past_of trace)
-  pub ended : IsTrue honest → EndsAs image (open_records old.slots) new (past_of trace)
-  pub unlike : IsTrue honest → has is_no_log_answer (at_log (past_of trace)) ≡ false
+  pub ran : IsRunBy w k from to honest image s trace
   pub spelled : text ≡ form_text f trace

@@ -34,27 +34,34 @@ ghost use Rattle.script_runner.specs.Waits.{AreWaitsAnswered};
 ghost use Rattle.tx_world.specs.AtLog.{Fits};
 ghost use Rattle.world_laws.specs.Left.{steps_left};
 
+use crate::objects::{asked, do_kth};
 use coordinator_log::{Log, LogRefusal};
 use dtx_values::{
-    ActorNo, Answer, Body, Call, Entry, Image, Line, LogNote, Outbox, Place, Resource, Script, TxNo,
+    ActorNo, Answer, Body, Call, Entry, Image, Line, LogNote, Outbox, Place, Resource, RmNo,
+    Script, TxNo,
 };
 use entry_lists::{PlacedEntries, Trace};
 use outcome_law::{appends, completeness, crossings, lifting, one_outcome, replay, stops};
 use outside::Disk;
 use scope_context::Context;
-use script_calls::{Gives, Plans, act, call_of, contexts};
+use script_calls::{Gives, Plans, act, call_of, contexts, managers_of};
 use std::alloc::{AllocError, Global};
 use std::marker::Model;
 use tx_world::{TxWorld, WorldError};
 use world_laws::{rights, untried};
 
-/// A replay under way: its script's names, its transactions and its actors' contexts by number, and its trace. Contracts see the script,
-/// the transactions, the contexts and the trace.
+/// For how many entries of each line the trace has room from the start.
+const ENTRIES_A_LINE: usize = 5;
+
+/// A replay under way: its script's names, the objects of the first managers, its transactions and its actors' contexts by number, and its trace. Contracts see the script,
+/// how many objects there are, the transactions, the contexts and the trace.
 #[derive(Drop)]
 pub struct Run<'a> {
     alloc: Global,
     plans: Plans<'a>,
-    /// Those of the first managers, in order.
+    /// At which manager the script enlists each enlistment, by number.
+    managers: Vec<Option<RmNo>>,
+    /// The objects of the first managers, in order.
     resources: &'a mut [Box<dyn Resource + Send>],
     /// The transactions by number, up to the last that was called.
     worlds: Vec<TxWorld>,
@@ -69,14 +76,16 @@ pub struct Run<'a> {
 impl<'a> Model for Run<'a> {
     ghost use Rattle.std.specs.Prelude.{◌≡◌, length, true};
     ghost use Rattle.dtx_values.specs.declared.number.TheConstants.ActorNo.{MAX};
+    ghost use Rattle.dtx_values.specs.declared.number.TheConstants.EnlNo.{MAX as ENLISTMENTS};
     ghost use Rattle.dtx_model.specs.Grammar.{are_named_well};
+    ghost use Rattle.script_calls.specs.Managers.{AreManagers};
     ghost use Rattle.script_runner.specs.RunState.{AreNumbered, RunState};
 
     ghost Value = { RunState };
 
     ghost view = { λ r. record { script = r.plans; objects = length r.resources.now; worlds = r.worlds.items; contexts = r.contexts.items; trace = r.trace.items } };
 
-    ghost invariant = { λ r. AreNumbered r.worlds.items × (length r.contexts.items ≡ MAX) × (are_named_well r.plans ≡ true) };
+    ghost invariant = { λ r. AreNumbered r.worlds.items × (length r.contexts.items ≡ MAX) × (are_named_well r.plans ≡ true) × (length r.managers.items ≡ ENLISTMENTS) × AreManagers r.plans r.plans r.managers.items };
 }
 
 /// Makes transaction t, to which nothing came yet, after the others. It stands for itself, so that a call of a transaction that is there doesn't clear the
@@ -126,7 +135,7 @@ fn note(trace: &mut PlacedEntries, t: TxNo, world: &TxWorld, from: usize) -> Res
 }
 
 impl<'a> Run<'a> {
-    /// A replay of these lines, before its first step. It has room for every transaction, and for an entry of each line: memory that is never written costs
+    /// A replay of these lines, before its first step. It has room for every transaction, and for a few entries of each line: memory that is never written costs
     /// nothing, and what grows step by step is copied.
     pub fn new(
         alloc: Global,
@@ -139,12 +148,13 @@ impl<'a> Run<'a> {
         Ok(Run {
             alloc,
             plans: Plans::new(alloc, lines)?,
+            managers: managers_of(alloc, lines)?,
             resources,
             worlds: Vec::with_capacity(alloc, TxNo::MAX as usize)?,
             contexts: contexts(alloc)?,
             entries: Vec::new(alloc),
             out: Outbox::with_room(alloc)?,
-            trace: PlacedEntries::with_capacity(alloc, lines.len())?,
+            trace: PlacedEntries::with_capacity(alloc, lines.len().saturating_mul(ENTRIES_A_LINE))?,
         })
     }
 
@@ -259,7 +269,8 @@ impl<'a> Run<'a> {
         let world = &mut self.worlds[t.index()];
         world.is_own_run();
         let from = world.history().len();
-        if !world.step(log, &mut self.out, u32::from(k))? {
+        let reply = asked(&self.managers, self.resources, t, world, u32::from(k));
+        if !do_kth(world, log, &mut self.out, u32::from(k), reply)? {
             return Ok(false);
         }
         // What holds of the world after the step: what it keeps of the log is what its coordinator knows.

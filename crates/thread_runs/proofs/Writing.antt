@@ -1,94 +1,105 @@
--- What a line writes at its actor's context goes after what stands there.
-use Rattle.std.proofs.Common.{◌≡◌, ◌≢◌, ℕ, zero, suc, ◌+◌, ◌-◌, ◌<◌, List, [], ◌∷◌, ◌++◌, length, map, Option, None, get_or, set, replicate, refl, ap, sym, ◌∙◌, subst, arith, inl, inr}
-use Rattle.std.specs.Prelude.{if◌then◌else◌}
-use Rattle.std.proofs.lemmas.Bool.Decides.{eqb_tells}
-use Rattle.std.proofs.lemmas.List.{get_or-set_same, get_or-replicate, length-map, map-set}
-use Rattle.dtx_values.specs.declared.entry.Answer.{Answer}
+-- What is written at the end of a trace, place by place.
+use Rattle.std.proofs.Common.{◌≡◌, ◌≤◌, ◌<◌, ◌+◌, ◌-◌, ℕ, nat_lt, true, false, List, [], ◌∷◌, ◌++◌, map, drop, take, length, append_assoc, append-nil, arith, inl, inr, refl, ap, sym, subst, ◌∙◌, slice_index_or, if◌then◌else◌}
+use Rattle.std.proofs.lemmas.Bool.Decides.{eqb_tells, nat_tests}
+use Rattle.std.proofs.lemmas.List.{take_all, take_more}
+use Rattle.std.proofs.lemmas.List.Elements.{All-push}
+use Rattle.std.specs.List.{All}
 use Rattle.dtx_values.specs.declared.entry.Entry.{Entry}
-use Rattle.dtx_values.specs.declared.entry.Entry.TheVariants.{Called}
 use Rattle.dtx_values.specs.declared.number.ActorNo.{ActorNo}
-use Rattle.dtx_values.specs.declared.scope.OpenScope.{OpenScope}
-use Rattle.dtx_values.specs.declared.script.Line.{Line}
+use Rattle.dtx_values.specs.declared.number.TxNo.{TxNo}
+use Rattle.dtx_values.specs.declared.trace.Place.{Place}
+use Rattle.dtx_values.specs.declared.trace.Place.TheVariants.{Context, Log, Transaction}
+use Rattle.dtx_model.specs.AtLog.{at_log, is_log}
+use Rattle.dtx_model.specs.Traces.{Placed, at_context, history, is_at, is_context, noted, placed}
 use Rattle.dtx_model.specs.Words.{onto, past_of}
-use Rattle.dtx_model.specs.Contexts.{called_with, context, scope_block, scope_answer, scope_entries, scopes_of}
 use Rattle.dtx_model.proofs.Histories.{onto-append}
-use Rattle.entry_lists.specs.Held.{Held}
-use Rattle.scope_context.specs.Standing.{Standing}
-use Rattle.script_calls.specs.Scoped.{AreOpen, DoesScope, scopes_in}
-use Rattle.script_calls.proofs.Openings.{context_here}
-use Rattle.script_calls.specs.declared.scope_lines.Acted.{Acted}
-use Rattle.thread_runs.specs.Contexts.{AreWritten, entries_of}
+use Rattle.tx_cells.specs.Cell.{Cell}
+use Rattle.thread_runs.specs.Contexts.{entries_of}
+use Rattle.thread_runs.specs.Gathering.{IsLaidBelow, with_histories, with_log}
+use Rattle.thread_runs.proofs.Laying.{laid_block}
+use Rattle.thread_runs.proofs.Placing.{entries_here, entries_there}
 
--- a write leaves the other places alone
-other : {X : Type 0} (xs : List X) (i j : ℕ) (x blank : X) → j ≢ i → get_or (set xs i x) j blank ≡ get_or xs j blank
-other [] i j x blank k = refl
-other (y ∷ ys) zero zero x blank k = absurd (k refl)
-other (y ∷ ys) zero (suc j) x blank k = refl
-other (y ∷ ys) (suc i) zero x blank k = refl
-other (y ∷ ys) (suc i) (suc j) x blank k = other ys i j x blank (λ e. k (ap suc e))
+-- A block of entries at the end of a trace is its newest part.
+onto_is : {E : Type 0} (h xs : List E) → onto h xs ≡ past_of xs ++ h
+onto_is h [] = refl
+onto_is h (x ∷ xs) = onto_is (x ∷ h) xs ∙ (sym (append_assoc (past_of xs) (x ∷ []) h) ∙ ap (λ ys. ys ++ h) (sym (onto_is (x ∷ []) xs)))
 
--- before the first line nothing stands there
-pub none_written : AreWritten [] (replicate 16 [])
-none_written a = ap past_of (get_or-replicate {A = List Entry} 16 (a.value - 1) [] [] (omega (arith, a.in_range.1)))
+onto_map : {A B : Type 0} (f : A → B) (h xs : List A) → onto (map f h) (map f xs) ≡ map f (onto h xs)
+onto_map f h [] = refl
+onto_map f h (x ∷ xs) = onto_map f (x ∷ h) xs
 
--- a line's entries go after those that stand at its actor's context
-pub after_line : (ess : List (List Entry)) (before : List Line) (l : Line) (new es : List Entry) → length ess ≡ 16 → new ≡ entries_of l.actor ess ++ es
-    → es ≡ scope_block (suc (length before)) l.actor l.body (scopes_of l.actor.value before) → AreWritten before ess → AreWritten (l ∷ before) (set ess (l.actor.value - 1) new)
-after_line ess before l new es long is block was a =
-    let i = l.actor.value - 1 in
-    let within : i < length ess = rw long (omega (arith, l.actor.in_range.0, l.actor.in_range.1)) in
-    let b = scope_block (suc (length before)) l.actor l.body (scopes_of a.value before) in
-    elim (eqb_tells a.value l.actor.value) [
-      | inl k ↦
-          let there : past_of (entries_of l.actor ess) ≡ context a.value before = ap (λ n. past_of (get_or ess (n - 1) [])) (sym k.1) ∙ was a in
-          ap (λ n. past_of (get_or (set ess i new) (n - 1) [])) k.1
-          ∙ ap past_of (get_or-set_same ess i new [] within ∙ is)
-          ∙ onto-append [] (entries_of l.actor ess) es
-          ∙ ap (λ (h : List Entry). onto h es) there
-          ∙ ap (λ (xs : List Entry). onto (context a.value before) xs) (block ∙ ap (λ n. scope_block (suc (length before)) l.actor l.body (scopes_of n before)) (sym k.1))
-          ∙ sym (ap (λ t. if t then onto (context a.value before) b else context a.value before) k.0)
-      | inr k ↦
-          let apart : a.value - 1 ≢ i = λ d. k.1 (omega (arith, d, a.in_range.0, l.actor.in_range.0)) in
-          ap past_of (other ess i (a.value - 1) new [] apart) ∙ was a
-          ∙ sym (ap (λ t. if t then onto (context a.value before) b else context a.value before) k.0)
+pub past_written : (q : Place) (T : List Placed) (es : List Entry) → past_of (T ++ map (λ e. (q, e)) es) ≡ map (λ e. (q, e)) (past_of es) ++ past_of T
+past_written q T es =
+    onto-append [] T (map (λ e. (q, e)) es) ∙ (onto_is (past_of T) (map (λ e. (q, e)) es) ∙ ap (λ (ys : List Placed). ys ++ past_of T) (onto_map (λ e. (q, e)) [] es))
+
+-- the history of a transaction, whose entries stand in this list
+pub history_written : (T U V : List Placed) (t u : TxNo) (es h : List Entry) → U ≡ T → V ≡ U ++ map (λ e. (Transaction t, e)) (drop 0 es) → t ≡ u → past_of es ≡ h → past_of V ≡ placed u h ++ past_of T
+history_written T U V t u es h same wrote is past =
+    ap past_of wrote
+    ∙ (past_written (Transaction t) U es
+    ∙ (ap (λ (x : List Entry). placed t x ++ past_of U) past
+    ∙ (ap (λ (v : TxNo). placed v h ++ past_of U) is ∙ ap (λ (X : List Placed). placed u h ++ past_of X) same)))
+
+-- The contexts of the actors below n were written: each has what its list has, and nothing stands elsewhere.
+pub record HasUpTo (n : ℕ) (ess : List (List Entry)) (T : List Placed) : Type 0 where
+  pub laid : IsLaidBelow n T
+  pub contexts : (a : ActorNo) → at_context a.value T ≡ (if nat_lt a.value n then past_of (entries_of a ess) else [])
+  pub transactions : (t : ℕ) → history t T ≡ []
+  pub log : at_log T ≡ []
+
+below : (a n : ℕ) → a < n → nat_lt a n ≡ true
+below a n less = grind (arith, nat_tests)
+
+not_below : (a n : ℕ) → n ≤ a → nat_lt a n ≡ false
+not_below a n low = grind (arith, nat_tests)
+
+pub up_to_more : (n m : ℕ) (ess : List (List Entry)) (T U : List Placed) (b : ActorNo) → b.value ≡ n → m ≡ n + 1 → U ≡ T ++ noted b (entries_of b ess) → HasUpTo n ess (past_of T) → HasUpTo m ess (past_of U)
+up_to_more n m ess T U b at next wrote h =
+    subst (λ (V : List Placed). HasUpTo m ess V) (sym (ap past_of wrote ∙ past_written (Context b) T (entries_of b ess)))
+    (record {
+      laid = laid_block (Context b) (past_of (entries_of b ess)) (past_of T) n m (omega (arith, at)) (omega (arith, at, next)) h.laid;
+      contexts = λ a. context a;
+      transactions = λ t. entries_there (is_at t) (Context b) (past_of (entries_of b ess)) (past_of T) refl ∙ h.transactions t;
+      log = entries_there is_log (Context b) (past_of (entries_of b ess)) (past_of T) refl ∙ h.log;
+    })
+  where
+    context : (a : ActorNo) → at_context a.value (noted b (past_of (entries_of b ess)) ++ past_of T) ≡ (if nat_lt a.value m then past_of (entries_of a ess) else [])
+    context a = elim (eqb_tells a.value b.value) [
+      | inl e ↦
+          let same = e.1 in
+          let before : at_context a.value (past_of T) ≡ [] = h.contexts a ∙ rw (not_below a.value n (omega (arith, same, at))) refl in
+          let after : past_of (entries_of a ess) ≡ (if nat_lt a.value m then past_of (entries_of a ess) else []) = rw (below a.value m (omega (arith, same, at, next))) refl in
+          entries_here (is_context a.value) (Context b) (past_of (entries_of b ess)) (past_of T) e.0
+          ∙ (ap (λ (es : List Entry). past_of (entries_of b ess) ++ es) before
+          ∙ (append-nil (past_of (entries_of b ess)) ∙ (ap (λ (k : ℕ). past_of (slice_index_or ess (k - 1) [])) (sym same) ∙ after)))
+      | inr e ↦
+          let other = e.1 in
+          let tests : nat_lt a.value n ≡ nat_lt a.value m = grind (arith, nat_tests) in
+          entries_there (is_context a.value) (Context b) (past_of (entries_of b ess)) (past_of T) e.0 ∙ (h.contexts a ∙ ap (λ c. if c then past_of (entries_of a ess) else []) tests)
     ]
 
--- a line that isn't answered at a context writes nothing there
-pub after_no_line : (ess : List (List Entry)) (before : List Line) (l : Line) → scope_answer l.body (scopes_of l.actor.value before) ≡ None → AreWritten before ess → AreWritten (l ∷ before) ess
-after_no_line ess before l none was a = elim (eqb_tells a.value l.actor.value) [
-  | inl k ↦
-      let unanswered : scope_answer l.body (scopes_of a.value before) ≡ None = ap (λ n. scope_answer l.body (scopes_of n before)) k.1 ∙ none in
-      let b = scope_block (suc (length before)) l.actor l.body (scopes_of a.value before) in
-      let block : b ≡ [] = ap (λ (x : Option Answer). called_with (suc (length before)) l.actor x (scope_entries l.body (scopes_of a.value before))) unanswered in
-      was a ∙ sym (ap (λ (es : List Entry). onto (context a.value before) es) block) ∙ sym (ap (λ t. if t then onto (context a.value before) b else context a.value before) k.0)
-  | inr k ↦
-      was a ∙ sym (ap (λ t. if t then onto (context a.value before) (scope_block (suc (length before)) l.actor l.body (scopes_of a.value before)) else context a.value before) k.0)
-]
+-- One more history is written after the others.
+pub one_history : (cs : List Cell) (c : Cell) (T : List Placed) → with_histories (cs ++ c ∷ []) T ≡ placed c.tx.transaction c.tx.world.past ++ with_histories cs T
+one_history [] c T = refl
+one_history (d ∷ cs) c T = one_history cs c (placed d.tx.transaction d.tx.world.past ++ T)
 
--- the call of a scope line and its notes are its block
-pub block_of : (n : ℕ) (a : ActorNo) (l : Line) (old new : Standing) (notes : List Entry) (x : Acted) → DoesScope l.body old new notes x → Called n a x.answer ∷ notes ≡ scope_block n a l.body old.scopes
-block_of n a l old new notes x did =
-    ap (λ (es : List Entry). Called n a x.answer ∷ es) did.noted ∙ sym (ap (λ (y : Option Answer). called_with n a y (scope_entries l.body old.scopes)) did.answer)
+pub histories_more : (cs : List Cell) (i j : ℕ) (c : Cell) (T U V : List Placed) → i < length cs → c ≡ slice_index_or cs i c → j ≡ i + 1 → past_of U ≡ with_histories (take i cs) T → past_of V ≡ placed c.tx.transaction c.tx.world.past ++ past_of U
+    → past_of V ≡ with_histories (take j cs) T
+histories_more cs i j c T U V less is next before wrote =
+    wrote
+    ∙ (ap (λ (X : List Placed). placed c.tx.transaction c.tx.world.past ++ X) before
+    ∙ (sym (one_history (take i cs) c T)
+    ∙ (ap (λ (d : Cell). with_histories (take i cs ++ d ∷ []) T) is ∙ (ap (λ (ds : List Cell). with_histories ds T) (sym (take_more cs i c less)) ∙ ap (λ (k : ℕ). with_histories (take k cs) T) (sym next)))))
 
--- the list at a place, of its entries alone
-entry_here : (hs : List Held) (i : ℕ) (h : Held) → i < length hs → h ≡ get_or hs i h → get_or (map (λ k. k.items) hs) i [] ≡ h.items
-entry_here [] i h less is = absurd (omega arith)
-entry_here (k ∷ hs) zero h less is = ap (λ (x : Held). x.items) (sym is)
-entry_here (k ∷ hs) (suc i) h less is = entry_here hs i h (omega arith) is
+-- All entries at the log are written.
+pub log_written : (T U V : List Placed) (es : List Entry) (n : ℕ) → length es ≤ n → U ≡ T → V ≡ U ++ map (λ e. (Log, e)) (take n es) → past_of V ≡ with_log (past_of es) (past_of T)
+log_written T U V es n all same wrote =
+    ap past_of wrote
+    ∙ (ap (λ (xs : List Entry). past_of (U ++ map (λ e. (Log, e)) xs)) (take_all n es all) ∙ (past_written Log U es ∙ ap (λ (X : List Placed). with_log (past_of es) (past_of X)) same))
 
--- So after a scope line was done at its actor's context, and its call and notes were put there, there stands what the lines write.
-pub scope_line : (hs : List Held) (cs : List Standing) (before : List Line) (l : Line) (n i : ℕ) (h new : Held) (old after : Standing) (notes : List Entry) (x : Acted) → length hs ≡ 16 → length cs ≡ 16
-    → i + 1 ≡ l.actor.value → h ≡ get_or hs i h → old ≡ get_or cs i old → DoesScope l.body old after notes x → new.items ≡ h.items ++ Called n l.actor x.answer ∷ notes → length before + 1 ≡ n
-    → AreOpen cs before → AreWritten before (map (λ k. k.items) hs) → AreWritten (l ∷ before) (map (λ k. k.items) (set hs i new))
-scope_line hs cs before l n i h new old after notes x long many place here stands did put number open_at was =
-    let ess = map (λ k. k.items) hs in
-    let scopes : old.scopes ≡ scopes_of l.actor.value before = ap scopes_in (sym (context_here cs l.actor i old many place stands)) ∙ open_at l.actor in
-    let next : n ≡ suc (length before) = omega (arith, number) in
-    let block : Called n l.actor x.answer ∷ notes ≡ scope_block (suc (length before)) l.actor l.body (scopes_of l.actor.value before) =
-    block_of n l.actor l old after notes x did ∙ ap (λ (xs : List OpenScope). scope_block n l.actor l.body xs) scopes ∙ ap (λ m. scope_block m l.actor l.body (scopes_of l.actor.value before)) next in
-    let within : i < length hs = rw long (omega (arith, place, l.actor.in_range.1)) in
-    let same : l.actor.value - 1 ≡ i = omega (arith, place) in
-    let there : entries_of l.actor ess ≡ h.items = ap (λ k. get_or ess k []) same ∙ entry_here hs i h within here in
-    let written_to : set ess (l.actor.value - 1) new.items ≡ map (λ k. k.items) (set hs i new) = ap (λ k. set ess k new.items) same ∙ sym (map-set (λ (k : Held). k.items) hs i new) in
-    subst (λ (xs : List (List Entry)). AreWritten (l ∷ before) xs) written_to
-    (after_line ess before l new.items (Called n l.actor x.answer ∷ notes) (length-map hs (λ (k : Held). k.items) ∙ long) (put ∙ ap (λ (es : List Entry). es ++ Called n l.actor x.answer ∷ notes) (sym there)) block was)
+-- What is so of the first cells, and of the next, is so of one more; and of all at the end.
+pub all_more : {X : Type 0} (P : X → Type 0) (xs : List X) (i : ℕ) (x : X) → i < length xs → x ≡ slice_index_or xs i x → All P (take i xs) → P x → All P (take (i + 1) xs)
+all_more P xs i x less is all here = subst (All P) (sym (take_more xs i x less)) (All-push P (take i xs) (slice_index_or xs i x) all (subst P is here))
+
+pub all_taken : {X : Type 0} (P : X → Type 0) (xs : List X) (n : ℕ) → length xs ≤ n → All P (take n xs) → All P xs
+all_taken P xs n all so = subst (All P) (take_all n xs all) so

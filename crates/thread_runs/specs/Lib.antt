@@ -1,4 +1,4 @@
 pub mod Contexts
-pub mod Finished
+pub mod Gathering
 pub mod Run
 pub mod Threads

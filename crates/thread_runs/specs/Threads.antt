@@ -3,8 +3,8 @@ use Rattle.std.specs.Prelude.{Bool, true, false, List, Result, Ok, Err, if◌the
 use Rattle.dtx_model.specs.Words.{has}
 use Rattle.tx_cells.specs.declared.error.TurnError.{TurnError}
 use Rattle.tx_cells.specs.declared.error.TurnError.TheVariants.{Memory, Differs as TheyDiffer}
-use Rattle.thread_runs.specs.declared.stop.RunStop.{RunStop}
-use Rattle.thread_runs.specs.declared.stop.RunStop.TheVariants as Stop
+use Rattle.run_endings.specs.declared.stop.RunStop.{RunStop}
+use Rattle.run_endings.specs.declared.stop.RunStop.TheVariants as Stop
 
 -- the thread found two kept values that differ
 abbrev pub found_differing : Result (Unit {0}) TurnError → Bool

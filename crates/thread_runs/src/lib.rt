@@ -2,10 +2,8 @@
 #![tactic(auto)]
 
 mod contexts;
-mod finishing;
 mod gathering;
 mod running;
-mod stop;
 
+pub use run_endings::RunStop;
 pub use running::run_on_threads;
-pub use stop::RunStop;

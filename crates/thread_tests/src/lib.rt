@@ -5,6 +5,10 @@
 #[cfg(test)]
 mod boards;
 #[cfg(test)]
+mod calls;
+#[cfg(test)]
+mod flags;
+#[cfg(test)]
 mod gates;
 #[cfg(test)]
 mod objects;
@@ -12,5 +16,7 @@ mod objects;
 mod runs;
 #[cfg(test)]
 mod scripts;
+#[cfg(test)]
+mod slow_disk;
 #[cfg(test)]
 mod turns;

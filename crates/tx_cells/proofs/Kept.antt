@@ -32,7 +32,7 @@ use Rattle.tx_world.proofs.StillTied.{is_restarting, turned_tied}
 use Rattle.tx_cells.specs.Cell.{IsKept, IsThreadable, is_do_line, untouched}
 use Rattle.tx_cells.specs.Entering.{is_promoting, is_promoting_line, later_if, may_promote_at, must_wait, put_off}
 use Rattle.tx_cells.specs.declared.turns.Turned.TheVariants.{NotNext}
-use Rattle.tx_cells.proofs.Replies.{IsReplyRight, right_step, right_stop}
+use Rattle.script_calls.proofs.RightReplies.{IsReplyRight, right_step, right_stop}
 
 -- at the start: no call was entered, and no entry is there
 none_in : (n : ℕ) (a : ActorNo) (c : Call) → IsIn [] n a c → ⊥

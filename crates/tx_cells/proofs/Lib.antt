@@ -1,5 +1,4 @@
 pub mod Asked
-pub mod Blocks
 pub mod EitherWay
 pub mod Following
 pub mod Entered
@@ -11,6 +10,5 @@ pub mod LogStep
 pub mod MayPromote
 pub mod Nearer
 pub mod Numbers
-pub mod Replies
 pub mod Stepped
 pub mod Turning

@@ -37,7 +37,7 @@ use Rattle.tx_world.specs.Stepping.{DoesKth, IsToPlan, is_to_promote}
 use Rattle.tx_cells.specs.Cell.{IsKept, MayReply}
 use Rattle.tx_cells.proofs.Asked.{IsOwed}
 use Rattle.tx_cells.proofs.Kept.{kept_step, turned_silent}
-use Rattle.tx_cells.proofs.Replies.{IsReplyRight, free_to, reply_to}
+use Rattle.script_calls.proofs.RightReplies.{IsReplyRight, free_to, reply_to}
 use Rattle.turn_parts.specs.Marks.{same_note}
 
 -- A reply other than an acknowledgement is due of an enlistment that stands.

@@ -1,5 +1,5 @@
 //! What is told on the board of a transaction, which is seen without a lock.
-ghost use Rattle.std.specs.Prelude.{◌≡◌, ◌≤◌, ◌+◌, Some, None, IfOk, OnOk, length};
+ghost use Rattle.std.specs.Prelude.{◌≡◌, Some, IfOk};
 ghost use Rattle.dtx_model.specs.Words.{latest, past_of};
 ghost use Rattle.dtx_model.specs.Entries.{client_told_of};
 ghost use Rattle.dtx_model.specs.Caused.{Caused};

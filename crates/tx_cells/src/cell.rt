@@ -1,6 +1,7 @@
 //! What lies under a transaction's lock.
-ghost use Rattle.std.specs.Prelude.{◌≡◌, [], true, IfErr, IfOk, IsTrue, Some};
+ghost use Rattle.std.specs.Prelude.{◌≡◌, [], None, true, IfErr, IfOk, IsTrue, Some};
 ghost use Rattle.dtx_values.specs.declared.call.Call.{Call};
+ghost use Rattle.dtx_values.specs.declared.number.ActorNo.{ActorNo};
 ghost use Rattle.dtx_model.specs.Caused.{Caused, IsCallOf};
 ghost use Rattle.dtx_model.specs.Grammar.{OfTransaction, is_made};
 ghost use Rattle.dtx_model.specs.Learned.{Learned};
@@ -29,6 +30,7 @@ use tx_world::TxWorld;
 mod asking;
 mod entering;
 mod following;
+mod kept;
 mod stepping;
 mod tying;
 
@@ -125,7 +127,8 @@ impl<N: Run> CellState<N> {
 
     /// Whether each call here was entered.
     pub fn are_entered(&self) -> bool
-        ensures { result ≡ are_entered self.now.rows }
+        ensures value { result ≡ are_entered self.now.rows }
+        ensures none { ((a : ActorNo) → next_of a self.now ≡ None) → are_entered self.now.rows ≡ true }
     {
         self.rows.are_all_entered()
     }

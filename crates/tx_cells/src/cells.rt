@@ -271,7 +271,7 @@ fn cells_of<N: Run>(
 }
 
 /// Whether a line makes this transaction.
-fn is_made(s: &[Line], t: TxNo) -> bool
+pub fn is_made(s: &[Line], t: TxNo) -> bool
     ensures { result ≡ is_made s.now (OfTransaction t.value) }
 {
     s.iter().any(|l| makes(&l.body, t))

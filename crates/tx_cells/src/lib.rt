@@ -15,7 +15,7 @@ mod turns;
 
 pub use board::{BoardNote, Posted};
 pub use cell::CellState;
-pub use cells::{Cells, TxCell, peek_outcome};
+pub use cells::{Cells, TxCell, is_made, peek_outcome};
 pub use error::TurnError;
 pub use run::Run;
 pub use shared_log::{LogState, SharedLog};

@@ -1,11 +1,11 @@
 //! What lies under the log's lock.
-ghost use Rattle.std.specs.Prelude.{ℕ, ◌≡◌, ◌≢◌, ◌≤◌, ◌<◌, ◌+◌, ◌-◌, ◌^◌, ◌⊎◌, List, [], None, Some, Ok, IfErr, IfOk, IsTrue, OnErr, false, true, vec_capacity, vec_len};
-ghost use Rattle.outside.specs.Disk.{AreWithin};
+ghost use Rattle.std.specs.Prelude.{ℕ, ◌≡◌, ◌≤◌, ◌<◌, ◌-◌, ◌^◌, ◌⊎◌, List, [], None, Some, Ok, IfErr, IfOk, IsTrue, OnErr, false, true};
 ghost use Rattle.dtx_model.specs.Steps.{pending};
 ghost use Rattle.dtx_model.specs.Words.{kth, past_of};
 ghost use Rattle.coordinator_log.specs.Slots.{open_records};
 ghost use Rattle.script_calls.specs.Rows.{are_entered};
 ghost use Rattle.script_calls.specs.SeenRow.{SeenRow};
+ghost use Rattle.dtx_values.specs.declared.number.ActorNo.{ActorNo};
 ghost use Rattle.script_calls.specs.declared.calls.LogCall.{LogCall};
 ghost use Rattle.tx_cells.specs.Cell.{IsThreadable};
 ghost use Rattle.tx_cells.specs.LogAnswers.{put_off_at_log};
@@ -17,7 +17,7 @@ ghost use Rattle.tx_cells.specs.declared.turns.Turned.{Turned};
 ghost use Rattle.tx_world.specs.AtLog.{AtMostOne};
 ghost use Rattle.tx_world.specs.Stepping.{DoesKth};
 ghost use Rattle.world_laws.specs.Left.{steps_left};
-ghost use Rattle.turn_parts.specs.Reopening.{IsReopened, opened_where, restart_answer, restarted, stop_noted, stopped_where};
+ghost use Rattle.turn_parts.specs.Reopening.{restart_answer, stop_noted};
 
 use crate::cell::CellState;
 use crate::error::TurnError;
@@ -104,7 +104,8 @@ impl<D: Disk, N: Run> LogState<D, N> {
 
     /// Whether each call at the log was entered.
     pub fn are_entered(&self) -> bool
-        ensures { result ≡ are_entered self.now.rows }
+        ensures value { result ≡ are_entered self.now.rows }
+        ensures none { ((a : ActorNo) → next_at_log a self.now ≡ None) → are_entered self.now.rows ≡ true }
     {
         self.rows.are_all_entered()
     }

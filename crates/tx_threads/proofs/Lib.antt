@@ -1,0 +1,3 @@
+pub mod AwaitAnswers
+pub mod Causes
+pub mod Standing

@@ -1,33 +1,44 @@
 //! A call that waits for the outcome.
-ghost use Rattle.std.specs.Prelude.{◌≡◌, ◌&&◌, IsSome, None, Ok, Some, length, true};
+ghost use Rattle.std.specs.Prelude.{◌≡◌, ◌&&◌, IfErr, IsSome, None, Ok, Some, false, is_some, length, not, true};
 ghost use Rattle.dtx_values.specs.declared.entry.Answer.{Answer};
 ghost use Rattle.dtx_values.specs.declared.words.Outcome.{Outcome};
 ghost use Rattle.dtx_model.specs.Entries.{client_told_of};
-ghost use Rattle.dtx_model.specs.Outcome.{is_empty};
-ghost use Rattle.dtx_model.specs.Steps.{pending};
 ghost use Rattle.dtx_model.specs.Words.{latest};
 ghost use Rattle.tx_cells.specs.Board.{Post, board_of};
-ghost use Rattle.tx_threads.specs.Turning.{is_await_at};
+ghost use Rattle.tx_cells.specs.Entering.{Enters};
 ghost use Rattle.tx_cells.specs.declared.turns.Turned.{Turned};
+ghost use Rattle.tx_threads.specs.Turning.{is_await_at, is_of_line, is_quiet};
+ghost use Rattle.tx_world.specs.OwnCalls.{DoesAlone};
 
 use crate::holds::{is_of, tell};
 use crate::turning::{begin_turn, end_turn};
-use dtx_values::{ActorNo, Resource, TxNo};
+use dtx_values::{ActorNo, Call, Resource, TxNo};
 use outside::{Disk, Gate};
+use script_calls::Due;
 use std::alloc::Global;
 use std::sync::{Mutex, Wait};
 use std::thread;
 use tx_cells::{BoardNote, CellState, Cells, Run, SharedLog, TurnError, Turned, peek_outcome};
 
-/// Whether the actor's next call here, where it is of this line, is to wait: the client wasn't told, and a step is pending or a reply is out.
-fn waits<N: Run>(state: &CellState<N>, a: ActorNo, line: u32) -> bool {
-    if state.told().is_some() || state.is_quiet() {
-        return false;
-    }
-    state.next(a).is_some_and(|due| due.line == line)
+/// Whether the transaction goes on: the client wasn't told, and a step is pending or a reply is out.
+#[tactic(auto, unfolding(dtx_model::specs::Observed::observe))]
+fn goes_on<N: Run>(state: &CellState<N>) -> bool
+    ensures { result ≡ (not (is_some (latest client_told_of state.now.tx.world.past)) && not (is_quiet state.now)) }
+{
+    state.told().is_none() && !state.is_quiet()
 }
 
-/// Enters the actor's await inside the lock of its transaction, unless it waits: the client wasn't told, and a step is pending or a reply is out. Where the client was told, the board has that then, and the note knows it.
+/// Whether the next call is that of this line.
+fn is_of_line(next: &Option<Due<Call>>, line: u32) -> bool
+    ensures { result ≡ is_of_line line next.now }
+{
+    match next {
+        Some(due) => due.line == line,
+        None => false,
+    }
+}
+
+/// Enters the actor's await inside the lock of its transaction, unless that goes on: the client wasn't told, and a step is pending or a reply is out. Where the client was told, the board has that then, and the note knows it.
 fn enter_await<N: Run>(
     alloc: Global,
     cells: &Cells<N>,
@@ -42,10 +53,14 @@ fn enter_await<N: Run>(
     ensures cell { note.new.cell ≡ note.old.cell }
     ensures known { (o : Outcome) → result ≡ Ok (Turned.Did (Answer.OutcomeIs o)) → (x : Post) × (note.new.known ≡ Some x) }
     ensures kept { (x : Post) → note.old.known ≡ Some x → note.new.known ≡ Some x }
-    ensures open { result ≡ Ok (Turned.Did Answer.StillOpen) → (latest client_told_of state.old.tx.world.past ≡ None) × ((is_empty (pending state.old.tx.world) && is_empty state.old.out) ≡ true) }
+    ensures entered { (x : Answer) → result ≡ Ok (Turned.Did x) → Enters DoesAlone a line (Turned.Did x) state.old state.new }
+    ensures open { result ≡ Ok (Turned.Did Answer.StillOpen) → (latest client_told_of state.old.tx.world.past ≡ None) × (is_quiet state.old ≡ true) }
+    ensures later { result ≡ Ok Turned.Later → (latest client_told_of state.old.tx.world.past ≡ None) × (is_quiet state.old ≡ false) × (state.new ≡ state.old) }
+    ensures memory { IfErr result (λ e. (e ≡ TurnError.Memory) × (state.new ≡ state.old)) }
 {
     tell(alloc, cells, t, state, note)?;
-    if waits(state, a, line) {
+    let next = state.next(a);
+    if goes_on(state) && is_of_line(&next, line) {
         return Ok(Turned::Later);
     }
     state.enter_alone(a, line)

@@ -1,8 +1,12 @@
 //! A call of an actor at a transaction, and at the log.
-ghost use Rattle.std.specs.Prelude.{◌≡◌, ◌&&◌, ◌==◌, not, IfOk, IsSome, None, OnErr, Ok, Some, length};
+ghost use Rattle.std.specs.Prelude.{◌≡◌, IfErr, IfOk, IsSome, None, Some, length};
+ghost use Rattle.dtx_model.specs.Words.{has};
 ghost use Rattle.tx_cells.specs.Board.{board_of};
 ghost use Rattle.tx_cells.specs.Entering.{Enters, IsDone, next_of, put_off};
+ghost use Rattle.tx_cells.specs.LogAnswers.{put_off_at_log};
+ghost use Rattle.tx_cells.specs.LogEntering.{EntersLog, next_at_log};
 ghost use Rattle.tx_cells.specs.declared.turns.Turned.{Turned};
+ghost use Rattle.tx_threads.specs.Turning.{MayFail, is_answer_to, is_moved, is_other};
 
 use crate::hearing::go_round;
 use crate::holds::{Came, is_of, tell};
@@ -16,6 +20,7 @@ use std::thread;
 use tx_cells::{CellState, Cells, LogState, Run, SharedLog, TurnError, Turned};
 
 /// Enters the actor's next call inside the lock of its transaction, where it is of this line. Where it isn't, or waits, nothing is done. A line that may begin a promotion takes the lock of the log for as long.
+#[tactic(auto, using(tx_cells::proofs::EitherWay::enters_alone, tx_cells::proofs::EitherWay::enters_over))]
 fn enter<D: Disk, N: Run, R: Wait>(
     rt: &R,
     cells: &Cells<N>,
@@ -26,7 +31,7 @@ fn enter<D: Disk, N: Run, R: Wait>(
 ) -> Result<Turned, TurnError>
     ensures entered { put_off state.old.tx.world line (next_of a state.old) ≡ None → IfOk result (λ r. Enters IsDone a line r state.old state.new) }
     ensures put_off { (x : Turned) → put_off state.old.tx.world line (next_of a state.old) ≡ Some x → IfOk result (λ r. (r ≡ x) × (state.new ≡ state.old)) }
-    ensures failed { OnErr result (state.new ≡ state.old) }
+    ensures cause { IfErr result (λ e. MayFail D state.old.tx e × (state.new ≡ state.old)) }
 {
     if !cells.needs_log(line) {
         return state.enter_alone(a, line);
@@ -39,7 +44,10 @@ fn enter<D: Disk, N: Run, R: Wait>(
 fn is_answer_to(e: &Entry, line: u32) -> bool
     ensures { result ≡ is_answer_to line e.now }
 {
-    matches!(e, Entry::Answered(n, _) if *n == line)
+    match e {
+        Entry::Answered(n, _) => *n == line,
+        _ => false,
+    }
 }
 
 /// Whether the history answers the call of this line.
@@ -115,17 +123,29 @@ pub fn call_as<D: Disk, G: Gate, N: Run, R: Wait>(
     Ok(turned)
 }
 
-/// Enters the actor's next call at the log, inside its lock, where it is of this line; and whether the log was stopped or opened by that.
+/// Enters the actor's next call at the log inside its lock, where it is of this line; and whether that stopped or opened the log.
 fn enter_at_log<D: Disk, N: Run>(
     log: &mut LogState<D, N>,
     a: ActorNo,
     line: u32,
-) -> Result<(Turned, bool), TurnError> {
+) -> Result<(Turned, bool), TurnError>
+    ensures entered { put_off_at_log line (next_at_log a log.old) ≡ None → IfOk result (λ r. EntersLog D.faults D.honest D.seen a line r.0 log.old log.new) }
+    ensures put_off { (x : Turned) → put_off_at_log line (next_at_log a log.old) ≡ Some x → IfOk result (λ r. (r.0 ≡ x) × (log.new ≡ log.old)) }
+    ensures moved { IfOk result (λ r. r.1 ≡ is_moved log.old.log log.new.log) }
+    ensures memory { IfErr result (λ e. (e ≡ TurnError.Memory) × (log.new ≡ log.old)) }
+{
     let was_up = log.is_up();
     let life = log.log().life();
     let turned = log.enter(a, line)?;
-    let is_same = log.is_up() == was_up && log.log().life() == life;
-    Ok((turned, !is_same))
+    let is_moved = is_other(was_up, log.is_up()) || life != log.log().life();
+    Ok((turned, is_moved))
+}
+
+/// Whether the two aren't the same.
+fn is_other(a: bool, b: bool) -> bool
+    ensures { result ≡ is_other a b }
+{
+    if a { !b } else { b }
 }
 
 /// Enters the actor's next call at the log, where it is of this line. Where that stopped or opened the log, each transaction hears of it behind the lock, before anything else is done.

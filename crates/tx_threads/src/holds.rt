@@ -1,19 +1,19 @@
 //! What a thread does with the state of a transaction that it is lent, inside its lock.
-ghost use Rattle.std.specs.Prelude.{◌≡◌, ◌≢◌, ◌++◌, ◌∷◌, [], IfErr, IfSome, IsSome, IsTrue, None, Ok, OnOk, Some, false, true};
+ghost use Rattle.std.specs.Prelude.{◌≡◌, ◌≢◌, ◌⊎◌, IfErr, IsSome, IsTrue, None, Ok, OnOk, Some, false, true};
 ghost use Rattle.dtx_model.specs.Entries.{client_told_of};
 ghost use Rattle.dtx_model.specs.Steps.{pending};
 ghost use Rattle.dtx_model.specs.Words.{kth, latest};
 ghost use Rattle.tx_cells.specs.Board.{Post, board_of};
-ghost use Rattle.tx_cells.specs.Cell.{MayReply};
 ghost use Rattle.tx_cells.specs.Entering.{IsKthDone};
-ghost use Rattle.tx_cells.specs.Turns.{turn_of, with_tx};
-ghost use Rattle.tx_cells.specs.declared.turns.Turn.{Turn};
+ghost use Rattle.tx_cells.specs.Ties.{IsCause};
+ghost use Rattle.tx_cells.specs.Turns.{with_tx};
+ghost use Rattle.tx_threads.specs.Turning.{MayFail};
 
-use dtx_values::{Differs, EnlNo, Note, Reply, TxNo};
+use dtx_values::{Differs, EnlNo, Note, TxNo};
 use outside::Disk;
 use std::alloc::Global;
 use std::sync::Wait;
-use tx_cells::{BoardNote, CellState, Cells, LogState, Run, SharedLog, Turn, TurnError, peek_outcome};
+use tx_cells::{BoardNote, CellState, Cells, LogState, Run, SharedLog, TurnError, peek_outcome};
 
 /// What came of a turn inside the lock, and so what is to be done behind it.
 #[derive(Clone, Copy, PartialEq, Eq, Debug)]
@@ -50,10 +50,11 @@ pub(crate) fn tell<N: Run>(
 ) -> Result<(), TurnError>
     requires { board_of cells.now t.value ≡ Some note.old.cell }
     ensures cell { note.new.cell ≡ note.old.cell }
+    ensures memory { IfErr result (λ e. e ≡ TurnError.Memory) }
     ensures known { OnOk result (IsSome (latest client_told_of state.now.tx.world.past) → (x : Post) × (note.new.known ≡ Some x)) }
     ensures kept { (x : Post) → note.old.known ≡ Some x → note.new.known ≡ Some x }
 {
-    if peek_outcome(cells, t, note).is_some() {
+    if let Some(_) = peek_outcome(cells, t, note) {
         return Ok(());
     }
     if let Some(posted) = state.post(alloc)? {
@@ -74,6 +75,8 @@ fn do_over<D: Disk, N: Run>(
     ensures stopped { result ≡ Ok Came.Stopped → IsKthDone k state.old.tx state.new.tx × IsTrue log.old.log.is_up × (log.new.log.is_up ≡ false) }
     ensures never { (e : EnlNo) (n : Note) → result ≢ Ok (Came.Out e n) }
     ensures same { state.new ≡ with_tx state.new.tx state.old }
+    ensures life { log.new.log.life ≡ log.old.log.life }
+    ensures cause { IfErr result (λ e. ((e ≡ TurnError.Memory) ⊎ IsCause state.old.tx log.old.log e) × (state.new ≡ state.old) × (log.new ≡ log.old)) }
 {
     let was_up = log.is_up();
     if !state.do_step_with(log, k)? {
@@ -99,6 +102,7 @@ pub(crate) fn do_turn<D: Disk, N: Run, R: Wait>(
     ensures stopped { result ≡ Ok Came.Stopped → IsKthDone k state.old.tx state.new.tx }
     ensures never { (e : EnlNo) (n : Note) → result ≢ Ok (Came.Out e n) }
     ensures same { state.new ≡ with_tx state.new.tx state.old }
+    ensures cause { IfErr result (λ e. MayFail D state.old.tx e × (state.new ≡ state.old)) }
 {
     if !state.needs_log(k) {
         let is_done = state.do_step_alone(k)?;

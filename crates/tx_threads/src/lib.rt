@@ -3,15 +3,15 @@
 
 mod awaiting;
 mod calling;
-mod holds;
 mod hearing;
+mod holds;
 mod replying;
 mod turning;
 
 pub use awaiting::await_as;
 pub use calling::{call_as, call_at_log};
+pub use turning::help_one;
 pub use tx_cells::{
     BoardNote, CellState, Cells, LogState, Posted, Run, SharedLog, Turn, TurnError, Turned, TxCell,
     peek_outcome,
 };
-pub use turning::help_one;

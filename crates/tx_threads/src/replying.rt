@@ -1,11 +1,12 @@
 //! A reply that is asked for while no lock is held, and brought back.
-ghost use Rattle.std.specs.Prelude.{◌≡◌, ◌≢◌, ◌⊎◌, ℕ, IfOk, IfSome, IsSome, None, Ok, OnErr, Some, false, length, true};
+ghost use Rattle.std.specs.Prelude.{◌≡◌, ◌≢◌, ◌⊎◌, ℕ, IfErr, IfOk, IfSome, IsSome, None, Ok, Some, false, length, true};
 ghost use Rattle.dtx_model.specs.Steps.{Replies, pending};
 ghost use Rattle.dtx_model.specs.Words.{kth};
 ghost use Rattle.tx_cells.specs.Board.{board_of};
 ghost use Rattle.tx_cells.specs.Cell.{MayReply};
 ghost use Rattle.tx_cells.specs.Entering.{IsDone, IsKthDone};
 ghost use Rattle.tx_cells.specs.Turns.{is_due, is_that, unmarked, with_tx};
+ghost use Rattle.tx_threads.specs.Turning.{MayFail};
 ghost use Rattle.tx_world.specs.Stepping.{reply_in};
 
 use crate::hearing::go_round;
@@ -36,6 +37,29 @@ fn ask<N: Run, R: Wait>(
     if fits(r, n) { Some(r) } else { None }
 }
 
+/// Takes back this reply of the enlistment to the note, inside the lock of its transaction. False where it isn't pending any more, and then only the mark goes. A reply to Promote takes the lock of the log for as long.
+fn take_given<D: Disk, N: Run, R: Wait>(
+    rt: &R,
+    state: &mut CellState<N>,
+    log: &SharedLog<D, N>,
+    e: EnlNo,
+    n: Note,
+    r: Reply,
+) -> Result<bool, TurnError>
+    requires { MayReply N.script N.objects e n r }
+    ensures due { IfOk result (λ b. b ≡ is_due state.old.tx.world (e, n)) }
+    ensures done { result ≡ Ok true → IsDone (Replies e r) state.old.tx state.new.tx }
+    ensures late { result ≡ Ok false → state.new.tx ≡ state.old.tx }
+    ensures unmarked { state.new ≡ with_tx state.new.tx (unmarked (e, n) state.old) }
+    ensures cause { IfErr result (λ x. MayFail D state.old.tx x × (state.new.tx ≡ state.old.tx)) }
+{
+    if n != Note::Promote {
+        return state.take_back_alone(e, n, r);
+    }
+    let held = log.state().lock(rt);
+    state.take_back_with(&held, e, n, r)
+}
+
 /// Takes back the reply of the enlistment to this note, inside the lock of its transaction: this one, or else the planned one. Nothing is done where it isn't pending any more, and then only the mark goes. A reply to
 /// Promote takes the lock of the log for as long.
 fn take_reply<D: Disk, N: Run, R: Wait>(
@@ -53,7 +77,7 @@ fn take_reply<D: Disk, N: Run, R: Wait>(
     ensures planned { reply ≡ None → IfOk result (λ c. (c ≡ Came.Nothing) ⊎ (k : ℕ) × (is_that (e, n) (reply_in state.old.tx.world (kth (pending state.old.tx.world) k)) ≡ true) × IsKthDone k state.old.tx state.new.tx) }
     ensures never { (f : EnlNo) (m : Note) → result ≢ Ok (Came.Out f m) }
     ensures unmarked { state.new ≡ with_tx state.new.tx (unmarked (e, n) state.old) }
-    ensures failed { OnErr result (state.new.tx ≡ state.old.tx) }
+    ensures cause { IfErr result (λ x. MayFail D state.old.tx x × (state.new.tx ≡ state.old.tx)) }
 {
     let Some(r) = reply else {
         let Some(k) = state.unmark(e, n) else {
@@ -61,12 +85,7 @@ fn take_reply<D: Disk, N: Run, R: Wait>(
         };
         return do_turn(rt, state, log, k);
     };
-    let is_done = if n == Note::Promote {
-        let held = log.state().lock(rt);
-        state.take_back_with(&held, e, n, r)?
-    } else {
-        state.take_back_alone(e, n, r)?
-    };
+    let is_done = take_given(rt, state, log, e, n, r)?;
     Ok(if is_done { Came::Done } else { Came::Nothing })
 }
 

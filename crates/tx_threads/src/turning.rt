@@ -1,11 +1,11 @@
 //! One turn of a thread: what is to be done next in a transaction.
-ghost use Rattle.std.specs.Prelude.{◌≡◌, ◌++◌, ◌∷◌, ℕ, [], IsSome, Ok, OnOk, Some, length};
+ghost use Rattle.std.specs.Prelude.{◌≡◌, IfErr, IfOk, IsSome, Ok, OnOk, Some, length};
 ghost use Rattle.dtx_model.specs.Entries.{client_told_of};
 ghost use Rattle.dtx_model.specs.Words.{latest};
 ghost use Rattle.tx_cells.specs.Board.{Post, board_of};
-ghost use Rattle.tx_cells.specs.Entering.{IsKthDone};
-ghost use Rattle.tx_cells.specs.Turns.{turn_of, with_tx};
+ghost use Rattle.tx_cells.specs.Turns.{turn_of};
 ghost use Rattle.tx_cells.specs.declared.turns.Turn.{Turn};
+ghost use Rattle.tx_threads.specs.Turning.{HasStepped, MayFail, is_turned, marked};
 
 use crate::hearing::go_round;
 use crate::holds::{Came, do_turn, is_of, tell};
@@ -16,7 +16,30 @@ use std::alloc::Global;
 use std::sync::{Mutex, Wait};
 use tx_cells::{BoardNote, CellState, Cells, Run, SharedLog, Turn, TurnError};
 
-/// Begins what is to be done next in the transaction, inside its lock: does the step, or marks the reply as out that is to be asked for. What its client was told then is put on the board.
+/// Does what is to be done next in the transaction, inside its lock: the step, or marks the reply as out that is to be asked for.
+fn do_next<D: Disk, N: Run, R: Wait>(
+    rt: &R,
+    log: &SharedLog<D, N>,
+    state: &mut CellState<N>,
+) -> Result<Came, TurnError>
+    ensures nothing { result ≡ Ok Came.Nothing → (turn_of state.old ≡ Turn.Nothing) × (state.new ≡ state.old) }
+    ensures exactly { turn_of state.old ≡ Turn.Nothing → result ≡ Ok Came.Nothing }
+    ensures done { result ≡ Ok Came.Done → HasStepped state.old state.new }
+    ensures stopped { result ≡ Ok Came.Stopped → HasStepped state.old state.new }
+    ensures out { (e : EnlNo) (n : Note) → result ≡ Ok (Came.Out e n) → (turn_of state.old ≡ Turn.Ask e n) × (state.new ≡ marked (e, n) state.old) }
+    ensures cause { IfErr result (λ e. MayFail D state.old.tx e × (state.new ≡ state.old)) }
+{
+    match state.next_turn() {
+        Turn::Nothing => Ok(Came::Nothing),
+        Turn::Step(k) => do_turn(rt, state, log, k),
+        Turn::Ask(e, n) => {
+            state.mark_out(e, n)?;
+            Ok(Came::Out(e, n))
+        }
+    }
+}
+
+/// Begins a turn inside the lock of the transaction: does what is to be done next there, and puts on the board what its client was told, unless a value is there.
 pub(crate) fn begin_turn<D: Disk, N: Run, R: Wait>(
     rt: &R,
     alloc: Global,
@@ -28,26 +51,18 @@ pub(crate) fn begin_turn<D: Disk, N: Run, R: Wait>(
 ) -> Result<Came, TurnError>
     requires { board_of cells.now t.value ≡ Some note.old.cell }
     ensures nothing { result ≡ Ok Came.Nothing → (turn_of state.old ≡ Turn.Nothing) × (state.new ≡ state.old) }
-    ensures exactly { turn_of state.old ≡ Turn.Nothing → result ≡ Ok Came.Nothing }
-    ensures done { result ≡ Ok Came.Done → (k : ℕ) × (turn_of state.old ≡ Turn.Step k) × IsKthDone k state.old.tx state.new.tx × (state.new ≡ with_tx state.new.tx state.old) }
-    ensures stopped { result ≡ Ok Came.Stopped → (k : ℕ) × (turn_of state.old ≡ Turn.Step k) × IsKthDone k state.old.tx state.new.tx × (state.new ≡ with_tx state.new.tx state.old) }
-    ensures out { (e : EnlNo) (n : Note) → result ≡ Ok (Came.Out e n) → (turn_of state.old ≡ Turn.Ask e n) × (state.new ≡ record { tx = state.old.tx; rows = state.old.rows; out = state.old.out ++ (e, n) ∷ [] }) }
+    ensures exactly { turn_of state.old ≡ Turn.Nothing → IfOk result (λ c. c ≡ Came.Nothing) }
+    ensures done { result ≡ Ok Came.Done → HasStepped state.old state.new }
+    ensures stopped { result ≡ Ok Came.Stopped → HasStepped state.old state.new }
+    ensures out { (e : EnlNo) (n : Note) → result ≡ Ok (Came.Out e n) → (turn_of state.old ≡ Turn.Ask e n) × (state.new ≡ marked (e, n) state.old) }
     ensures cell { note.new.cell ≡ note.old.cell }
-    ensures known { result ≡ Ok Came.Done → IsSome (latest client_told_of state.new.tx.world.past) → (x : Post) × (note.new.known ≡ Some x) }
+    ensures known { OnOk result (IsSome (latest client_told_of state.new.tx.world.past) → (x : Post) × (note.new.known ≡ Some x)) }
     ensures kept { (x : Post) → note.old.known ≡ Some x → note.new.known ≡ Some x }
+    ensures cause { IfErr result (MayFail D state.old.tx) }
 {
-    match state.next_turn() {
-        Turn::Nothing => Ok(Came::Nothing),
-        Turn::Ask(e, n) => {
-            state.mark_out(e, n)?;
-            Ok(Came::Out(e, n))
-        }
-        Turn::Step(k) => {
-            let came = do_turn(rt, state, log, k)?;
-            tell(alloc, cells, t, state, note)?;
-            Ok(came)
-        }
-    }
+    let came = do_next(rt, log, state)?;
+    tell(alloc, cells, t, state, note)?;
+    Ok(came)
 }
 
 /// Goes on behind the lock in which a turn was begun, while none is held: where the turn stopped the log each transaction hears that, and a reply that is out is asked for and brought back. False where the turn did nothing.

@@ -6,9 +6,9 @@ ghost use Rattle.thread_runs.specs.Threads.{come_to, found_differing, lacked_mem
 
 use crate::contexts::ToDo;
 use crate::running::turns::{Shared, act, call, help};
-use crate::stop::RunStop;
 use dtx_values::{ActorNo, Body, Line};
 use outside::{Disk, Gate};
+use run_endings::RunStop;
 use std::alloc::{AllocError, Global};
 use std::cmp::max;
 use std::sync::Wait;

@@ -8,9 +8,9 @@ ghost use Rattle.tx_cells.specs.Cell.{MayReply};
 ghost use Rattle.tx_cells.specs.Ties.{IsCause, TiesWith};
 ghost use Rattle.tx_cells.specs.Turns.{turn_of, unmarked, with_tx};
 ghost use Rattle.tx_world.specs.OwnCalls.{DoesAlone};
-ghost use Rattle.tx_world.specs.Stepping.{Does, is_to_promote, reply_in};
+ghost use Rattle.tx_world.specs.Stepping.{Does, reply_in};
 ghost use Rattle.world_laws.specs.Left.{steps_left};
-ghost use Rattle.turn_parts.specs.Marks.{is_due, is_out, is_that, is_to, same_note, taken_off};
+ghost use Rattle.turn_parts.specs.Marks.{is_due, is_out, is_that, same_note};
 
 use super::CellState;
 use crate::error::TurnError;

@@ -1,5 +1,5 @@
 //! Whether a transaction's state ties with the log's.
-ghost use Rattle.std.specs.Prelude.{◌≡◌, ◌↔◌, IfErr, IsOk};
+ghost use Rattle.std.specs.Prelude.{◌↔◌, IfErr, IsOk};
 ghost use Rattle.tx_cells.specs.Ties.{DiffersFrom, TiesWith};
 
 use super::CellState;

@@ -1,10 +1,13 @@
-use Rattle.std.proofs.Common.{Some, ap, ◌∙◌}
+use Rattle.std.proofs.Common.{Some, ap, arith, ◌∙◌}
+use Rattle.std.proofs.lemmas.Grind.{common_steps}
 use Rattle.script_maker.specs.Gen.{gen}
-use Rattle.script_runner.proofs.Programs.{never_judged}
+use Rattle.script_runner.proofs.Refusals.{not_on_threads, sure_answer}
 use Rattle.script_runner.proofs.program.demo_in.Goals as goal
 
-pub returns-clause-good : goal.returns-clause-good
-returns-clause-good g c =
+pub returns-clause-answers : goal.returns-clause-answers
+returns-clause-answers g c =
     let script = c.make_script.ensures.script in
-    never_judged c.replay_in.result.0
-    (λ n cause e. c.reads_exactly.ensures.either (gen c.args.n) script.0 n cause script.1 (c.replay_in.ensures.bad n cause e (gen c.args.n) (ap Some (c.new-source.ensures ∙ c.in-Ok.ensures.text))))
+    sure_answer c.run_in.result.0 c.run_in.ensures.accepted
+    (λ n cause e. c.reads_exactly.ensures.either (gen c.args.n) script.0 n cause script.1 (c.run_in.ensures.bad n cause e (gen c.args.n) (ap Some (c.new-source.ensures ∙ c.in-Ok.ensures.text))))
+    (λ n e. not_on_threads (c.run_in.ensures.not_threadable n e).0)
+    (λ e. let r = c.run_in.ensures.read_fault e in omega (arith, r))

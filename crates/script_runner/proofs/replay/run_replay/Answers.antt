@@ -1,5 +1,4 @@
-use Rattle.std.proofs.Common.{◌≡◌, true, false, List, [], subst, ◌&&◌, ℕ}
-use Rattle.std.specs.Prelude.{IsTrue}
+use Rattle.std.proofs.Common.{◌≡◌, true, List, length, subst, ℕ}
 use Rattle.dtx_values.specs.declared.entry.Entry.{Entry}
 use Rattle.dtx_values.specs.declared.number.TxNo.{TxNo}
 use Rattle.dtx_model.specs.AtLog.{at_log, faults as faults_told}
@@ -9,21 +8,22 @@ use Rattle.dtx_model.specs.Tied.{tied}
 use Rattle.dtx_model.proofs.Bools.{and_left, and_right, or_false}
 use Rattle.outcome_law.specs.Appended.{has_append, stopped_at_append}
 use Rattle.dtx_model.specs.Traces.{history}
-use Rattle.dtx_model.specs.Words.{has, past_of}
+use Rattle.dtx_model.specs.Words.{past_of}
 use Rattle.coordinator_log.specs.Slots.{open_records}
-use Rattle.script_runner.proofs.Replayed.{IsOfScript, called_at, empty_is, of_script, rise_known, rise_none, rise_of, rise_told, to_any}
+use Rattle.script_runner.proofs.Replayed.{IsOfScript, called_at, empty_is, of_script, rise_known, rise_none, rise_of, rise_told}
 use Rattle.script_runner.proofs.replay.run_replay.Goals as goal
 
 pub returns-in-Ok-clause-replay : goal.returns-in-Ok-clause-replay
 returns-in-Ok-clause-replay g c =
     let s = c.args.s.now in
     let T = past_of c.in-Ok.trace in
-    let e : IsOfScript s T = of_script s _ T c.lines.ensures c.in-Ok.ensures.replayed c.in-Ok.ensures.settled c.in-Ok.ensures.planned in
+    let o = length c.args.resources.now in
+    let e : IsOfScript s o T = of_script s _ o T c.lines.ensures c.in-Ok.ensures.replayed c.in-Ok.ensures.settled c.in-Ok.ensures.planned in
     let named = c.requires.script.named in
     let before : ℕ = g.D.Disk.faults c.args.log.now.disk in
     let now : ℕ = g.D.Disk.faults c.trace_of.new.log.disk in
     let told : ℕ = faults_told (at_log T) in
-    let caused : (t : TxNo) → Caused s 0 t.value (history t.value T) = c.replay.ensures.caused s T e.replayed 0 (λ t. to_any s 0 (history t.value T) (e.planned t)) in
+    let caused : (t : TxNo) → Caused s o t.value (history t.value T) = c.replay.ensures.caused s T e.replayed o e.planned in
     record {
       rise = rise_of before now told;
       risen = rise_known before now told;
@@ -52,9 +52,10 @@ pub returns-in-Ok-clause-outcome : goal.returns-in-Ok-clause-outcome
 returns-in-Ok-clause-outcome g c sound =
     let s = c.args.s.now in
     let T = past_of c.in-Ok.trace in
-    let e : IsOfScript s T = of_script s _ T c.lines.ensures c.in-Ok.ensures.replayed c.in-Ok.ensures.settled c.in-Ok.ensures.planned in
+    let o = length c.args.resources.now in
+    let e : IsOfScript s o T = of_script s _ o T c.lines.ensures c.in-Ok.ensures.replayed c.in-Ok.ensures.settled c.in-Ok.ensures.planned in
     let named = c.requires.script.named in
-    let caused : (t : TxNo) → Caused s 0 t.value (history t.value T) = c.replay.ensures.caused s T e.replayed 0 (λ t. to_any s 0 (history t.value T) (e.planned t)) in
+    let caused : (t : TxNo) → Caused s o t.value (history t.value T) = c.replay.ensures.caused s T e.replayed o e.planned in
     record {
       just = λ t. c.one_outcome.ensures.just s t.value (history t.value T) named (caused t).freely (sound t);
       agrees = λ t. c.one_outcome.ensures.agrees s t.value (history t.value T) named (caused t).freely (sound t);
@@ -65,31 +66,34 @@ pub returns-in-Ok-clause-complete : goal.returns-in-Ok-clause-complete
 returns-in-Ok-clause-complete g c sound =
     let s = c.args.s.now in
     let T = past_of c.in-Ok.trace in
-    let e : IsOfScript s T = of_script s _ T c.lines.ensures c.in-Ok.ensures.replayed c.in-Ok.ensures.settled c.in-Ok.ensures.planned in
+    let o = length c.args.resources.now in
+    let e : IsOfScript s o T = of_script s _ o T c.lines.ensures c.in-Ok.ensures.replayed c.in-Ok.ensures.settled c.in-Ok.ensures.planned in
     let named = c.requires.script.named in
-    let caused : (t : TxNo) → Caused s 0 t.value (history t.value T) = c.replay.ensures.caused s T e.replayed 0 (λ t. to_any s 0 (history t.value T) (e.planned t)) in
+    let caused : (t : TxNo) → Caused s o t.value (history t.value T) = c.replay.ensures.caused s T e.replayed o e.planned in
     record {
-      told = λ t. c.completeness.ensures.told s 0 t.value (history t.value T) named (caused t) (sound t);
-      committed = λ t asked. c.completeness.ensures.committed s 0 t.value (history t.value T) named (caused t) (e.settled t) asked;
-      answered = λ t. c.completeness.ensures.answered s 0 t.value (history t.value T) named (caused t) (sound t);
+      told = λ t. c.completeness.ensures.told s o t.value (history t.value T) named (caused t) (sound t);
+      committed = λ t asked. c.completeness.ensures.committed s o t.value (history t.value T) named (caused t) (e.settled t) asked;
+      answered = λ t. c.completeness.ensures.answered s o t.value (history t.value T) named (caused t) (sound t);
     }
 
 pub returns-in-Ok-clause-waited : goal.returns-in-Ok-clause-waited
 returns-in-Ok-clause-waited g c sound t =
     let s = c.args.s.now in
     let T = past_of c.in-Ok.trace in
-    let e : IsOfScript s T = of_script s _ T c.lines.ensures c.in-Ok.ensures.replayed c.in-Ok.ensures.settled c.in-Ok.ensures.planned in
+    let o = length c.args.resources.now in
+    let e : IsOfScript s o T = of_script s _ o T c.lines.ensures c.in-Ok.ensures.replayed c.in-Ok.ensures.settled c.in-Ok.ensures.planned in
     let named = c.requires.script.named in
-    let caused : Caused s 0 t.value (history t.value T) = c.replay.ensures.caused s T e.replayed 0 (λ u. to_any s 0 (history u.value T) (e.planned u)) t in
-    c.completeness.ensures.waited s 0 t.value (history t.value T) named caused (sound t)
+    let caused : Caused s o t.value (history t.value T) = c.replay.ensures.caused s T e.replayed o e.planned t in
+    c.completeness.ensures.waited s o t.value (history t.value T) named caused (sound t)
 
 pub returns-in-Ok-clause-rights : goal.returns-in-Ok-clause-rights
 returns-in-Ok-clause-rights g c sound =
     let s = c.args.s.now in
     let T = past_of c.in-Ok.trace in
-    let e : IsOfScript s T = of_script s _ T c.lines.ensures c.in-Ok.ensures.replayed c.in-Ok.ensures.settled c.in-Ok.ensures.planned in
+    let o = length c.args.resources.now in
+    let e : IsOfScript s o T = of_script s _ o T c.lines.ensures c.in-Ok.ensures.replayed c.in-Ok.ensures.settled c.in-Ok.ensures.planned in
     let named = c.requires.script.named in
-    let caused : (t : TxNo) → Caused s 0 t.value (history t.value T) = c.replay.ensures.caused s T e.replayed 0 (λ t. to_any s 0 (history t.value T) (e.planned t)) in
+    let caused : (t : TxNo) → Caused s o t.value (history t.value T) = c.replay.ensures.caused s T e.replayed o e.planned in
     record {
       one = λ t. c.rights.ensures.one s t.value (history t.value T) named (caused t).freely (sound t);
       seen = λ t. c.rights.ensures.placed s t (history t.value T) named (caused t).freely;
@@ -101,9 +105,10 @@ pub returns-in-Ok-clause-appends : goal.returns-in-Ok-clause-appends
 returns-in-Ok-clause-appends g c sound =
     let s = c.args.s.now in
     let T = past_of c.in-Ok.trace in
-    let e : IsOfScript s T = of_script s _ T c.lines.ensures c.in-Ok.ensures.replayed c.in-Ok.ensures.settled c.in-Ok.ensures.planned in
+    let o = length c.args.resources.now in
+    let e : IsOfScript s o T = of_script s _ o T c.lines.ensures c.in-Ok.ensures.replayed c.in-Ok.ensures.settled c.in-Ok.ensures.planned in
     let named = c.requires.script.named in
-    let caused : (t : TxNo) → Caused s 0 t.value (history t.value T) = c.replay.ensures.caused s T e.replayed 0 (λ t. to_any s 0 (history t.value T) (e.planned t)) in
+    let caused : (t : TxNo) → Caused s o t.value (history t.value T) = c.replay.ensures.caused s T e.replayed o e.planned in
     record {
       untried = λ t aborted.
           or_false (has_append (history t.value T)) (stopped_at_append (history t.value T)) (c.appends.ensures.unlogged s t.value (history t.value T) named (caused t).freely (sound t) aborted)
@@ -116,9 +121,10 @@ pub returns-in-Ok-clause-stops : goal.returns-in-Ok-clause-stops
 returns-in-Ok-clause-stops g c sound =
     let s = c.args.s.now in
     let T = past_of c.in-Ok.trace in
-    let e : IsOfScript s T = of_script s _ T c.lines.ensures c.in-Ok.ensures.replayed c.in-Ok.ensures.settled c.in-Ok.ensures.planned in
+    let o = length c.args.resources.now in
+    let e : IsOfScript s o T = of_script s _ o T c.lines.ensures c.in-Ok.ensures.replayed c.in-Ok.ensures.settled c.in-Ok.ensures.planned in
     let named = c.requires.script.named in
-    let caused : (t : TxNo) → Caused s 0 t.value (history t.value T) = c.replay.ensures.caused s T e.replayed 0 (λ t. to_any s 0 (history t.value T) (e.planned t)) in
+    let caused : (t : TxNo) → Caused s o t.value (history t.value T) = c.replay.ensures.caused s T e.replayed o e.planned in
     record {
       withheld = λ t. c.stops.ensures.withheld s t.value (history t.value T) named (caused t).freely (sound t);
       never = λ t. c.stops.ensures.never s t.value (history t.value T) named (caused t).freely (sound t);

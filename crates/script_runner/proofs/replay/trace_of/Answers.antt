@@ -1,4 +1,4 @@
-use Rattle.std.proofs.Common.{◌≡◌, ℕ, Bool, List, [], None, ap, arith, refl, subst, sym, ◌∙◌}
+use Rattle.std.proofs.Common.{◌≡◌, ℕ, Bool, List, [], None, ap, arith, length, refl, subst, sym, ◌∙◌}
 use Rattle.std.specs.Prelude.{IsTrue}
 use Rattle.dtx_values.specs.declared.entry.Entry.{Entry}
 use Rattle.dtx_values.specs.declared.script.Line.{Line}
@@ -23,15 +23,15 @@ use Rattle.script_runner.proofs.Rounds.{is_replayed, turn-first}
 use Rattle.script_runner.proofs.replay.trace_of.Goals as goal
 
 -- before the first step the trace tells of the log
-told_first : {D : Type 0} (faults : D → ℕ) (honest : Bool) (image : D → List ℕ → Type 0) (log : LogState D) (lines : List Line) (contexts : List Standing) (run : RunState)
-    → run ≡ record { script = lines; worlds = []; contexts = contexts; trace = [] } → log.armed ≡ None → (IsTrue honest → AllHold (image log.disk) (open_records log.slots)) → Tells faults honest image log log (past_of run.trace)
-told_first faults honest image log lines contexts run is unarmed held =
+told_first : {D : Type 0} (faults : D → ℕ) (honest : Bool) (image : D → List ℕ → Type 0) (log : LogState D) (lines : List Line) (objects : ℕ) (contexts : List Standing) (run : RunState)
+    → run ≡ record { script = lines; objects = objects; worlds = []; contexts = contexts; trace = [] } → log.armed ≡ None → (IsTrue honest → AllHold (image log.disk) (open_records log.slots)) → Tells faults honest image log log (past_of run.trace)
+told_first faults honest image log lines objects contexts run is unarmed held =
     subst (λ (r : RunState). Tells faults honest image log log (past_of r.trace)) (sym is) (tells_at_start faults honest image log unarmed held)
 
 pub lines-requires-clause-holds : goal.lines-requires-clause-holds
 lines-requires-clause-holds g c =
     subst (λ (r : RunState). Holds g.D.Disk.honest g.D.Disk.image c.args.log.now r) (sym c.in_ok-run.ensures)
-    (holds_at_start g.D.Disk.honest g.D.Disk.image c.args.log.now c.args.lines.now _ c.requires.up c.requires.none (λ h. c.is_up.ensures.images h c.requires.up))
+    (holds_at_start g.D.Disk.honest g.D.Disk.image c.args.log.now c.args.lines.now _ _ c.requires.up c.requires.none (λ h. c.is_up.ensures.images h c.requires.up))
 
 pub lines-requires-clause-contexts : goal.lines-requires-clause-contexts
 lines-requires-clause-contexts g c = subst (λ (r : RunState). AreOpen r.contexts []) (sym c.in_ok-run.ensures) open_none
@@ -83,30 +83,34 @@ returns-clause-settled g c t =
 pub returns-clause-planned : goal.returns-clause-planned
 returns-clause-planned g c t =
     let s = c.args.lines.now in
-    let first : c.in_ok-run.run'.script ≡ s = ap (λ (r : RunState). r.script) c.in_ok-run.ensures in
+    let o = length c.args.resources.now in
+    let script : c.in_ok-run.run'.script ≡ s = ap (λ (r : RunState). r.script) c.in_ok-run.ensures in
+    let objects : c.in_ok-run.run'.objects ≡ o = ap (λ (r : RunState). r.objects) c.in_ok-run.ensures in
+    let end = c.settle_all.new.self in
     let tied = c.in_ok-settle_all.ensures.holds.tied t in
-    subst (λ (T : List Placed). IsToPlan s (history t.value (past_of T))) (sym c.into_trace.ensures.trace)
-    (subst (λ (r : List Line). IsToPlan r (history t.value (past_of c.settle_all.new.self.trace))) (c.settle_all.ensures.script ∙ (c.lines.ensures.script ∙ first))
-    (subst (λ (h : List Entry). IsToPlan c.settle_all.new.self.script h) tied.past tied.planned))
+    subst (λ (T : List Placed). IsToPlan s o (history t.value (past_of T))) (sym c.into_trace.ensures.trace)
+    (subst (λ (r : List Line). IsToPlan r o (history t.value (past_of end.trace))) (c.settle_all.ensures.script ∙ (c.lines.ensures.script ∙ script))
+    (subst (λ (k : ℕ). IsToPlan end.script k (history t.value (past_of end.trace))) (c.settle_all.ensures.objects ∙ (c.lines.ensures.objects ∙ objects))
+    (subst (λ (h : List Entry). IsToPlan end.script end.objects h) tied.past tied.planned)))
 
 pub returns-clause-counted : goal.returns-clause-counted
 returns-clause-counted g c =
     let log = c.args.log.now in
-    let told = told_first g.D.Disk.faults g.D.Disk.honest g.D.Disk.image log c.args.lines.now _ c.in_ok-run.run' c.in_ok-run.ensures c.requires.unarmed (λ k. c.is_up.ensures.images k c.requires.up) in
+    let told = told_first g.D.Disk.faults g.D.Disk.honest g.D.Disk.image log c.args.lines.now _ _ c.in_ok-run.run' c.in_ok-run.ensures c.requires.unarmed (λ k. c.is_up.ensures.images k c.requires.up) in
     let end = c.in_ok-settle_all.ensures.tells log (c.in_ok-lines.ensures.tells log told) in
     subst (λ (T : List Placed). IsCounted (g.D.Disk.faults log.disk) (g.D.Disk.faults c.settle_all.new.log.disk) c.settle_all.new.log.armed (past_of T)) (sym c.into_trace.ensures.trace) end.counted
 
 pub returns-clause-opens : goal.returns-clause-opens
 returns-clause-opens g c h empty =
     let log = c.args.log.now in
-    let told = told_first g.D.Disk.faults g.D.Disk.honest g.D.Disk.image log c.args.lines.now _ c.in_ok-run.run' c.in_ok-run.ensures c.requires.unarmed (λ k. c.is_up.ensures.images k c.requires.up) in
+    let told = told_first g.D.Disk.faults g.D.Disk.honest g.D.Disk.image log c.args.lines.now _ _ c.in_ok-run.run' c.in_ok-run.ensures c.requires.unarmed (λ k. c.is_up.ensures.images k c.requires.up) in
     let end = c.in_ok-settle_all.ensures.tells log (c.in_ok-lines.ensures.tells log told) in
     ap (λ (T : List Placed). open_right [] (past_of T)) c.into_trace.ensures.trace ∙ end.opens h empty
 
 pub returns-clause-unlike : goal.returns-clause-unlike
 returns-clause-unlike g c h =
     let log = c.args.log.now in
-    let told = told_first g.D.Disk.faults g.D.Disk.honest g.D.Disk.image log c.args.lines.now _ c.in_ok-run.run' c.in_ok-run.ensures c.requires.unarmed (λ k. c.is_up.ensures.images k c.requires.up) in
+    let told = told_first g.D.Disk.faults g.D.Disk.honest g.D.Disk.image log c.args.lines.now _ _ c.in_ok-run.run' c.in_ok-run.ensures c.requires.unarmed (λ k. c.is_up.ensures.images k c.requires.up) in
     let end = c.in_ok-settle_all.ensures.tells log (c.in_ok-lines.ensures.tells log told) in
     ap (λ (T : List Placed). has is_no_log_answer (at_log (past_of T))) c.into_trace.ensures.trace ∙ end.unlike h
 
@@ -123,7 +127,7 @@ returns-clause-ends g c h =
     let image = g.D.Disk.image in
     let log = c.args.log.now in
     let last = c.settle_all.new.log in
-    let told = told_first g.D.Disk.faults g.D.Disk.honest image log c.args.lines.now _ c.in_ok-run.run' c.in_ok-run.ensures c.requires.unarmed (λ k. c.is_up.ensures.images k c.requires.up) in
+    let told = told_first g.D.Disk.faults g.D.Disk.honest image log c.args.lines.now _ _ c.in_ok-run.run' c.in_ok-run.ensures c.requires.unarmed (λ k. c.is_up.ensures.images k c.requires.up) in
     let end = c.in_ok-settle_all.ensures.tells log (c.in_ok-lines.ensures.tells log told) in
     let went = goes_then g.D.Disk.faults g.D.Disk.honest image log c.lines.new.log last c.lines.ensures.log c.settle_all.ensures.log in
     ends_as g.D.Disk.faults image log last c.settle_all.new.self c.into_trace.result c.into_trace.ensures.trace c.into_trace.ensures.numbered

@@ -9,7 +9,7 @@ use Rattle.entry_lists.specs.Held.{Held}
 use Rattle.scope_context.specs.Standing.{Standing}
 use Rattle.script_calls.specs.Scoped.{AreOpen, DoesScope, scopes_at, scopes_in}
 use Rattle.script_calls.proofs.Openings.{context_here, open_after}
-use Rattle.thread_runs.proofs.Writing.{scope_line}
+use Rattle.thread_runs.proofs.AtContexts.{scope_line}
 use Rattle.thread_runs.proofs.contexts.at_context.Goals as goal
 
 pub returns-clause-written : goal.returns-clause-written

@@ -1,4 +1,4 @@
-use Rattle.std.proofs.Common.{◌≡◌, ◌∷◌, List, ap, subst, sym, ◌∙◌}
+use Rattle.std.proofs.Common.{◌≡◌, List, ap, subst, sym, ◌∙◌}
 use Rattle.dtx_values.specs.declared.entry.Answer.TheVariants.{Fine}
 use Rattle.dtx_values.specs.declared.entry.Entry.TheVariants.{Called, LogWord}
 use Rattle.dtx_values.specs.declared.entry.LogNote.TheVariants.{Armed}
@@ -23,6 +23,7 @@ written g c =
 pub returns-clause-holds : goal.returns-clause-holds
 returns-clause-holds g c =
     holds_armed g.D.Disk.honest g.D.Disk.image c.args.log.now c.arm.new.self c.args.self.now _ c.args.n c.args.actor c.args.k c.args.image c.arm.ensures (ap (λ (r : RunState). r.script) c.self.view_is)
+    (ap (λ (r : RunState). r.objects) c.self.view_is)
     (ap (λ (r : RunState). r.worlds) c.self.view_is) (written g (goal.at.returns-clause-holds g c).After-arm) c.requires.holds
 
 pub returns-clause-tells : goal.returns-clause-tells

@@ -17,7 +17,7 @@ pub enter-requires-clause-enters : goal.enter-requires-clause-enters
 enter-requires-clause-enters g c =
     let s = c.args.self.now.script in
     let place : c.index.result ≡ c.args.t.value - 1 = omega (arith, c.index.ensures.place) in
-    may_enter_here s (past_of c.args.self.now.trace) c.args.self.now.worlds c.reach.new.worlds.items c.args.t c.args.n c.args.actor c.args.c.now c.index_mut-world.result.now c.in_ok-reach.ensures.reached
+    may_enter_here s c.args.self.now.objects (past_of c.args.self.now.trace) c.args.self.now.worlds c.reach.new.worlds.items c.args.t c.args.n c.args.actor c.args.c.now c.index_mut-world.result.now c.in_ok-reach.ensures.reached
     (rw place at c.index_mut-world.ensures.value) (λ u. c.reach.ensures.same u ∙ ap (λ (r : RunState). state_of u r.worlds) c.self.view_is)
     (c.lifting.ensures.once s c.args.t.value (ap (λ (r : RunState). are_named_well r.script) (sym c.self.view_is) ∙ c.self.invariant.2)) (c.requires.holds.tied c.args.t) c.requires.given c.requires.below
 
@@ -52,15 +52,17 @@ returns g c =
     let past = past_after g.D.Disk.faults log ws t step x y numbered made here c.in_ok-enter.ensures.done in
     let many : length x.world.past ≡ c.len-from.result = sym (ap length c.history.ensures) ∙ length-past h ∙ sym c.len-from.ensures in
     let noted = c.in_ok-note.ensures x.world.past (written log.is_up t.value x.world step) many past in
-    let new : RunState = record { script = c.self.inside.plans; worlds = set ws c.index.result y; contexts = c.self.inside.contexts.items; trace = c.note.new.trace.items } in
+    let new : RunState = record { script = c.self.inside.plans; objects = length c.self.inside.resources.now; worlds = set ws c.index.result y; contexts = c.self.inside.contexts.items; trace = c.note.new.trace.items } in
     let did : Entered g.D.Disk.faults log t c.args.n c.args.actor c.args.c.now c.args.done x y old new =
     entered_at_place g.D.Disk.faults log t c.args.n c.args.actor c.args.c.now c.args.done x y old new ws numbered made here same (ap (λ (r : RunState). r.script) c.self.view_is)
+    (ap (λ (r : RunState). r.objects) c.self.view_is)
     (ap (λ k. set ws k y) place) c.is_own_run.ensures.run c.in_ok-enter.ensures.done c.in_ok-enter.ensures.ours
     (record { own = c.is_own_run-2.ensures.run; once = c.is_own_run-2.ensures.once; ours = c.is_own_run-2.ensures.ours; tried = c.is_own_run-2.ensures.tried })
     (noted ∙ ap (λ (r : RunState). r.trace ++ placed t (written log.is_up t.value x.world step)) c.self.view_is) in
     record {
       contexts = ap (λ (r : RunState). r.contexts) c.self.view_is;
       script = did.script;
+      objects = did.objects;
       tells = λ start. entered_tells g.D.Disk.faults g.D.Disk.honest g.D.Disk.image start log t c.args.n c.args.actor c.args.c.now c.args.done x y old new did;
       holds = entered_holds g.D.Disk.faults g.D.Disk.honest g.D.Disk.image log t c.args.n c.args.actor c.args.c.now c.args.done x y old new did c.requires.given c.requires.holds;
       others = did.others;

@@ -1,17 +1,12 @@
-use Rattle.std.proofs.Common.{◌≡◌, ◌≤◌, ◌+◌, ◌∷◌, None, Option, Some, List, arith, ap, refl, sym, subst, ◌∙◌, length}
+use Rattle.std.proofs.Common.{◌≡◌, ◌+◌, ◌∷◌, None, Some, List, arith, ap, sym, subst, ◌∙◌}
 use Rattle.std.proofs.lemmas.Result.{on_ok_weaker}
-use Rattle.dtx_values.specs.declared.call.Call.{Call}
-use Rattle.dtx_values.specs.declared.number.TxNo.{TxNo}
-use Rattle.dtx_values.specs.declared.script.Body.{Body}
 use Rattle.dtx_model.specs.Calls.{call_of}
-use Rattle.dtx_model.specs.Contexts.{scope_answer}
-use Rattle.dtx_model.specs.Traces.{Placed}
 use Rattle.dtx_model.specs.Words.{past_of}
 use Rattle.outcome_law.proofs.Replays.{own_call_of}
 use Rattle.scope_context.specs.Standing.{Standing}
 use Rattle.script_runner.specs.LogRun.{is_log_line}
 use Rattle.script_runner.specs.RunState.{IsBelow, RunState, state_of}
-use Rattle.script_calls.specs.Scoped.{AreOpen, scopes_at}
+use Rattle.script_calls.specs.Scoped.{AreOpen}
 use Rattle.script_runner.proofs.Entering.{below_next}
 use Rattle.script_runner.proofs.Going.{below_same, goes_same, stays_same}
 use Rattle.script_calls.proofs.Openings.{no_scope_call, open_same}

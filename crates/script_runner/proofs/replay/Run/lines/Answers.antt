@@ -1,4 +1,4 @@
-use Rattle.std.proofs.Common.{◌≡◌, ◌≤◌, ◌^◌, ◌+◌, ◌-◌, ◌∷◌, ◌++◌, suc, Some, List, ap, arith, drop, false, get_or, length, ℕ, ◌<◌, refl, subst, sym, take, ◌∙◌}
+use Rattle.std.proofs.Common.{◌≡◌, ◌+◌, ◌-◌, ◌∷◌, ◌++◌, suc, Some, List, ap, arith, drop, get_or, length, ℕ, ◌<◌, refl, subst, sym, take, ◌∙◌}
 use Rattle.std.proofs.lemmas.List.{drop_more}
 use Rattle.dtx_values.specs.declared.script.Line.{Line}
 use Rattle.dtx_model.specs.Contexts.{lines_before}
@@ -36,6 +36,7 @@ loop-l-init g c = record {
   stays = λ off. stays_same g.D.Disk.faults c.args.log.now;
   life = omega arith;
   script = refl;
+  objects = refl;
   holds = c.requires.holds;
   tells = λ start told. told;
   below = c.requires.below;
@@ -106,6 +107,7 @@ loop-l-preserved g c =
       stays = λ off. stays_then faults c.args.log.now c.loop-l.log c.line.new.log was.log.grows c.line.ensures.log.grows (was.stays off) (c.line.ensures.stays (none_there (λ (m : Line). is_log_line m.body) s i l off stands));
       life = let so_far = was.life in let next = c.line.ensures.life in omega (arith, so_far, next);
       script = c.line.ensures.script ∙ was.script;
+      objects = c.line.ensures.objects ∙ was.objects;
       holds = did.holds;
       tells = λ start told. did.tells start (was.tells start told);
       below = did.entered;

@@ -14,6 +14,7 @@ invariant-loop-l g l = record {
   stays : has_log_line l.initial.self.script ≡ false → LogStays g.D.Disk.faults l.initial.log l.log;
   life : l.log.life ≤ l.initial.log.life + l.l-index;
   script : l.self.script ≡ l.initial.self.script;
+  objects : l.self.objects ≡ l.initial.self.objects;
   holds : Holds g.D.Disk.honest g.D.Disk.image l.log l.self;
   tells : (start : LogState g.row.D.Denot) → Tells g.D.Disk.faults g.D.Disk.honest g.D.Disk.image start l.initial.log (past_of l.initial.self.trace)
       → Tells g.D.Disk.faults g.D.Disk.honest g.D.Disk.image start l.log (past_of l.self.trace);

@@ -1,6 +1,6 @@
-use Rattle.std.proofs.Common.{◌≡◌, ◌≤◌, ◌<◌, ◌+◌, ◌∷◌, ℕ, Bool, true, false, List, [], Option, Some, None, Ok, Err, is_some, ap, arith, subst, refl, sym, ◌∙◌, if◌then◌else◌}
+use Rattle.std.proofs.Common.{◌≡◌, ◌<◌, ◌+◌, ℕ, true, false, List, [], Err, is_some, ap, arith, length, subst, sym, ◌∙◌, if◌then◌else◌}
 use Rattle.std.proofs.lemmas.Result.{IfErr-at_err, IfOk-at_ok, on_ok_weaker}
-use Rattle.std.specs.Prelude.{IsTrue, OnOk, is_ok}
+use Rattle.std.specs.Prelude.{IsTrue, is_ok}
 use Rattle.outside.specs.Disk.{AreWithin}
 use Rattle.outside.specs.Faults.{Rose}
 use Rattle.dtx_values.specs.declared.entry.Answer.{Answer}
@@ -17,11 +17,10 @@ use Rattle.dtx_model.specs.Traces.{Placed}
 use Rattle.dtx_model.specs.World.{core}
 use Rattle.coordinator_log.specs.Slots.{open_records}
 use Rattle.coordinator_log.specs.State.{LogState}
-use Rattle.coordinator_log.specs.declared.refusal.LogRefusal.{LogRefusal}
 use Rattle.coordinator_log.specs.declared.refusal.LogRefusal.TheVariants as Refusal
 use Rattle.tx_world.specs.AtLog.{Fits}
 use Rattle.script_runner.specs.LogRun.{LogGoes, restart_answer}
-use Rattle.script_runner.specs.RunState.{Holds, IsRecordKept, IsTied, RunState, Tells, halted, record_in, reopened, state_of}
+use Rattle.script_runner.specs.RunState.{Holds, IsRecordKept, RunState, Tells, halted, record_in, reopened, state_of}
 use Rattle.script_runner.proofs.Fitting.{fits_opened}
 use Rattle.script_runner.proofs.Reopening.{IsHalted, after_unopened, both_ok, down_err, goes_restart, halted_down, halted_up, halts_at, holds_opened, one_written, opened_just, opened_trace, tied_at_log, tied_move, two_written, unopened_by, unopened_just}
 use Rattle.script_runner.proofs.TellingOpenings.{tells_restart}
@@ -33,12 +32,12 @@ pub stop_all-requires-clause-tied : goal.stop_all-requires-clause-tied
 stop_all-requires-clause-tied g c = λ t.
     let r = c.args.self.now in
     let a = Called c.args.n c.args.actor c.restart_answer.result in
-    tied_move r.script c.self.inside.plans t (at_the_log Stopped (at_the_log a (past_of r.trace))) (past_of c.push_reserved-then-was_up.new.self.items) (state_of t r.worlds) (state_of t c.self.inside.worlds.items)
-    (ap (λ (q : RunState). q.script) c.self.view_is)
+    tied_move r.script c.self.inside.plans r.objects (length c.self.inside.resources.now) t (at_the_log Stopped (at_the_log a (past_of r.trace))) (past_of c.push_reserved-then-was_up.new.self.items) (state_of t r.worlds) (state_of t c.self.inside.worlds.items)
+    (ap (λ (q : RunState). q.script) c.self.view_is) (ap (λ (q : RunState). q.objects) c.self.view_is)
     (two_written r.trace c.reserve.new.self.items c.push_reserved.new.self.items c.push_reserved-then-was_up.new.self.items a Stopped (c.in_ok-reserve.ensures.items ∙ ap (λ (q : RunState). q.trace) c.self.view_is)
     c.push_reserved.ensures.items c.push_reserved-then-was_up.ensures.items)
     (ap (λ (q : RunState). state_of t q.worlds) c.self.view_is)
-    (tied_at_log r.script t (at_the_log a (past_of r.trace)) Stopped (state_of t r.worlds) (tied_at_log r.script t (past_of r.trace) a (state_of t r.worlds) (c.requires.holds.tied t)))
+    (tied_at_log r.script r.objects t (at_the_log a (past_of r.trace)) Stopped (state_of t r.worlds) (tied_at_log r.script r.objects t (past_of r.trace) a (state_of t r.worlds) (c.requires.holds.tied t)))
 
 -- Where the log wasn't opened, it is down.
 unopened : (g : Over) (c : In_default g) → IsHalted g.D.Disk.honest g.D.Disk.image c.args.log.now c.args.n c.args.actor c.restart_answer.result c.args.self.now c.if-was_up.self
@@ -47,7 +46,7 @@ unopened g c =
       | then-was_up+in_ok-stop_all w ↦
           subst (λ (q : RunState). IsHalted g.D.Disk.honest g.D.Disk.image c.args.log.now c.args.n c.args.actor c.restart_answer.result c.args.self.now q) (sym w.self-is)
           (halted_up g.D.Disk.honest g.D.Disk.image c.args.log.now c.args.n c.args.actor c.restart_answer.result c.args.self.now w.stop_all.new.self (sym c.is_up-was_up.ensures.up ∙ w.if-was_up.true)
-          (w.stop_all.ensures.script ∙ ap (λ (r : RunState). r.script) c.self.view_is) (w.stop_all.ensures.contexts ∙ ap (λ (r : RunState). r.contexts) c.self.view_is)
+          (w.stop_all.ensures.script ∙ ap (λ (r : RunState). r.script) c.self.view_is) (w.stop_all.ensures.objects ∙ ap (λ (r : RunState). r.objects) c.self.view_is) (w.stop_all.ensures.contexts ∙ ap (λ (r : RunState). r.contexts) c.self.view_is)
           (λ t. w.stop_all.ensures.calls t ∙ ap (λ (r : RunState). (state_of t r.worlds).world.calls) c.self.view_is)
           (λ t.
           w.in_ok-stop_all.ensures.worlds t
@@ -60,7 +59,7 @@ unopened g c =
           (λ t. ap (λ (r : RunState). (state_of t r.worlds).transaction) (sym c.self.view_is) ∙ c.self.invariant.0.numbered t) c.requires.holds)
       | else-was_up w ↦
           halted_down g.D.Disk.honest g.D.Disk.image c.args.log.now c.args.n c.args.actor c.restart_answer.result c.args.self.now c.if-was_up.self (sym c.is_up-was_up.ensures.up ∙ w.if-was_up.false)
-          (ap (λ (r : RunState). r.script) w.self-is ∙ ap (λ (r : RunState). r.script) c.self.view_is) (ap (λ (r : RunState). r.contexts) w.self-is ∙ ap (λ (r : RunState). r.contexts) c.self.view_is)
+          (ap (λ (r : RunState). r.script) w.self-is ∙ ap (λ (r : RunState). r.script) c.self.view_is) (ap (λ (r : RunState). r.objects) w.self-is ∙ ap (λ (r : RunState). r.objects) c.self.view_is) (ap (λ (r : RunState). r.contexts) w.self-is ∙ ap (λ (r : RunState). r.contexts) c.self.view_is)
           (ap (λ (r : RunState). r.worlds) w.self-is ∙ ap (λ (r : RunState). r.worlds) c.self.view_is)
           (ap (λ (r : RunState). past_of r.trace) w.self-is
           ∙ one_written c.args.self.now.trace c.reserve.new.self.items c.push_reserved.new.self.items (Called c.args.n c.args.actor c.restart_answer.result)
@@ -123,7 +122,7 @@ opened g c =
       | then-was_up+in_ok-stop_all w ↦
           subst (λ (q : RunState). IsHalted g.D.Disk.honest g.D.Disk.image c.args.log.now c.args.n c.args.actor c.restart_answer.result c.args.self.now q) (sym w.self-is)
           (halted_up g.D.Disk.honest g.D.Disk.image c.args.log.now c.args.n c.args.actor c.restart_answer.result c.args.self.now w.stop_all.new.self (sym c.is_up-was_up.ensures.up ∙ w.if-was_up.true)
-          (w.stop_all.ensures.script ∙ ap (λ (r : RunState). r.script) c.self.view_is) (w.stop_all.ensures.contexts ∙ ap (λ (r : RunState). r.contexts) c.self.view_is)
+          (w.stop_all.ensures.script ∙ ap (λ (r : RunState). r.script) c.self.view_is) (w.stop_all.ensures.objects ∙ ap (λ (r : RunState). r.objects) c.self.view_is) (w.stop_all.ensures.contexts ∙ ap (λ (r : RunState). r.contexts) c.self.view_is)
           (λ t. w.stop_all.ensures.calls t ∙ ap (λ (r : RunState). (state_of t r.worlds).world.calls) c.self.view_is)
           (λ t.
           w.in_ok-stop_all.ensures.worlds t
@@ -136,7 +135,7 @@ opened g c =
           (λ t. ap (λ (r : RunState). (state_of t r.worlds).transaction) (sym c.self.view_is) ∙ c.self.invariant.0.numbered t) c.requires.holds)
       | else-was_up w ↦
           halted_down g.D.Disk.honest g.D.Disk.image c.args.log.now c.args.n c.args.actor c.restart_answer.result c.args.self.now c.if-was_up.self (sym c.is_up-was_up.ensures.up ∙ w.if-was_up.false)
-          (ap (λ (r : RunState). r.script) w.self-is ∙ ap (λ (r : RunState). r.script) c.self.view_is) (ap (λ (r : RunState). r.contexts) w.self-is ∙ ap (λ (r : RunState). r.contexts) c.self.view_is)
+          (ap (λ (r : RunState). r.script) w.self-is ∙ ap (λ (r : RunState). r.script) c.self.view_is) (ap (λ (r : RunState). r.objects) w.self-is ∙ ap (λ (r : RunState). r.objects) c.self.view_is) (ap (λ (r : RunState). r.contexts) w.self-is ∙ ap (λ (r : RunState). r.contexts) c.self.view_is)
           (ap (λ (r : RunState). r.worlds) w.self-is ∙ ap (λ (r : RunState). r.worlds) c.self.view_is)
           (ap (λ (r : RunState). past_of r.trace) w.self-is
           ∙ one_written c.args.self.now.trace c.reserve.new.self.items c.push_reserved.new.self.items (Called c.args.n c.args.actor c.restart_answer.result)
@@ -172,9 +171,9 @@ pushed g c =
 pub restart_all-requires-clause-tied : goal.restart_all-requires-clause-tied
 restart_all-requires-clause-tied g c = λ t.
     let q = c.if-was_up.self in
-    tied_move q.script c.self-2.inside.plans t (at_the_log (LogWord (Opened c.in-Ok.records)) (past_of q.trace)) (past_of c.push_reserved-2.new.self.items) (state_of t q.worlds) (state_of t c.self-2.inside.worlds.items)
-    (ap (λ (r : RunState). r.script) c.self-2.view_is) (pushed g c) (ap (λ (r : RunState). state_of t r.worlds) c.self-2.view_is)
-    (tied_at_log q.script t (past_of q.trace) (LogWord (Opened c.in-Ok.records)) (state_of t q.worlds) ((held g c).tied t))
+    tied_move q.script c.self-2.inside.plans q.objects (length c.self-2.inside.resources.now) t (at_the_log (LogWord (Opened c.in-Ok.records)) (past_of q.trace)) (past_of c.push_reserved-2.new.self.items) (state_of t q.worlds) (state_of t c.self-2.inside.worlds.items)
+    (ap (λ (r : RunState). r.script) c.self-2.view_is) (ap (λ (r : RunState). r.objects) c.self-2.view_is) (pushed g c) (ap (λ (r : RunState). state_of t r.worlds) c.self-2.view_is)
+    (tied_at_log q.script q.objects t (past_of q.trace) (LogWord (Opened c.in-Ok.records)) (state_of t q.worlds) ((held g c).tied t))
 
 pub restart_all-requires-clause-fits : goal.restart_all-requires-clause-fits
 restart_all-requires-clause-fits g c = λ is t.
@@ -213,7 +212,7 @@ returns-clause-holds g c =
     (λ done.
     holds_opened g.D.Disk.honest g.D.Disk.image g.D.Disk.seen c.halt.new.self to q c.restart_all.new.self c.in-Ok.records (halted_down_there g b) (is_there g b) (life_there g b) (among g b)
     (λ is. IfOk-at_ok _ c.in-Ok.is (c.reopen-reopened.ensures.records is)) c.reopen-reopened.ensures.within (λ is. IfOk-at_ok _ c.in-Ok.is (c.reopen-reopened.ensures.images is)) (opened g b).numbered
-    (c.restart_all.ensures.script ∙ ap (λ (r : RunState). r.script) c.self-2.view_is) (λ t. done.0.0 t ∙ ap (λ (r : RunState). reopened to (state_of t r.worlds)) c.self-2.view_is)
+    (c.restart_all.ensures.script ∙ ap (λ (r : RunState). r.script) c.self-2.view_is) (c.restart_all.ensures.objects ∙ ap (λ (r : RunState). r.objects) c.self-2.view_is) (λ t. done.0.0 t ∙ ap (λ (r : RunState). reopened to (state_of t r.worlds)) c.self-2.view_is)
     (done.0.1 ∙ ap (λ (T : List Placed). put_at found (known T) T) (pushed g b))
     (done.1.0 (λ t. subst (λ (r : RunState). IsRecordKept (state_of t r.worlds)) (sym c.self-2.view_is) ((held g b).kept t)))
     (λ is. done.1.1 is (λ t. subst (λ (r : RunState). tied (state_of t r.worlds).world.past ≡ true) (sym c.self-2.view_is) ((held g b).sound is t))) (held g b))

@@ -25,6 +25,8 @@ loop-place-init g c =
     let log = c.args.log.now in
     record {
       plans = refl;
+      managers = refl;
+      objects = refl;
       contexts = refl;
       through = through_none (reopened log) (is_reached_by log.life) (λ t. Restarted (is_some (record_in log.slots t.value))) c.self.inside.worlds.items (past_of c.self.inside.trace.items) c.self.invariant.0;
       kept = λ kept. kept;
@@ -126,6 +128,8 @@ loop-place-preserved g c =
     let record_kept : IsRecordKept y = record { own = c.is_own_run.ensures.run; once = c.is_own_run.ensures.once; ours = c.is_own_run.ensures.ours; tried = c.is_own_run.ensures.tried } in
     record {
       plans = c.loop-place.invariant.plans;
+      managers = c.loop-place.invariant.managers;
+      objects = c.loop-place.invariant.objects;
       contexts = c.loop-place.invariant.contexts;
       through =
           subst (λ (i : ℕ). IsThrough (reopened log) (is_reached_by log.life) (λ t. Restarted (is_some (record_in log.slots t.value))) ws start (c.loop-place.place + 1) (set vs i y) (past_of c.note.new.trace.items)) (place g b)
@@ -158,7 +162,7 @@ returns-clause-trace g c =
     let through =
     subst (λ (q : RunState). IsThrough (reopened log) (is_reached_by log.life) (λ t. Restarted (is_some (record_in log.slots t.value))) q.worlds (past_of q.trace) n vs new) c.self.view_is c.loop-place.invariant.through in
     let all = subst (λ (q : RunState). length q.worlds ≤ n) c.self.view_is (omega (arith, c.loop-place-test.false, c.len-place-end.ensures)) in
-    reopened_trace r.script log r.worlds vs (past_of r.trace) new n through all c.requires.tied c.requires.lives
+    reopened_trace r.script r.objects log r.worlds vs (past_of r.trace) new n through all c.requires.tied c.requires.lives
 
 pub returns-clause-kept : goal.returns-clause-kept
 returns-clause-kept g c =

@@ -19,6 +19,7 @@ pub loop-i-init : goal.loop-i-init
 loop-i-init g c = record {
   contexts = refl;
   script = refl;
+  objects = refl;
   holds = c.requires.holds;
   tells = λ start k. k;
   entered = all_below_next c.args.n c.args.self.now.worlds c.requires.below;
@@ -63,6 +64,7 @@ loop-i-preserved g c =
     record {
       contexts = c.call.ensures.contexts ∙ was.contexts;
       script = c.call.ensures.script ∙ was.script;
+      objects = c.call.ensures.objects ∙ was.objects;
       holds = did.holds;
       tells = λ start k. did.tells start (was.tells start k);
       entered = all_below (c.args.n + 1) t c.loop-i.self.worlds c.call.new.self.worlds c.call.ensures.others did.entered was.entered;

@@ -11,6 +11,7 @@ abbrev pub invariant-loop-i : goal.invariant-loop-i
 invariant-loop-i g l = record {
   contexts : l.self.contexts ≡ l.initial.self.contexts;
   script : l.self.script ≡ l.initial.self.script;
+  objects : l.self.objects ≡ l.initial.self.objects;
   holds : Holds g.D.Disk.honest g.D.Disk.image l.log l.self;
   tells : (start : LogState g.row.D.Denot) → Tells g.D.Disk.faults g.D.Disk.honest g.D.Disk.image start l.log (past_of l.initial.self.trace) → Tells g.D.Disk.faults g.D.Disk.honest g.D.Disk.image start l.log (past_of l.self.trace);
   entered : AreBelow (l.n + 1) l.self.worlds;

@@ -27,7 +27,7 @@ held g c =
     let l = c.args.l.now in
     let es = scope_block c.args.n l.actor l.body (scopes_at l.actor c.args.self.now.contexts) in
     noted_holds g.D.Disk.honest g.D.Disk.image c.args.log.now l.actor es c.args.self.now c.at_context.new.self
-    (record { script = c.at_context.ensures.script; worlds = c.at_context.ensures.worlds; block = c.in_ok-at_context.ensures.block }) c.requires.holds
+    (record { script = c.at_context.ensures.script; objects = c.at_context.ensures.objects; worlds = c.at_context.ensures.worlds; block = c.in_ok-at_context.ensures.block }) c.requires.holds
 
 -- and the trace tells the same of the log;
 told : (g : Over) (c : In_ok-at_context g) (start : LogState g.row.D.Denot) → Tells g.D.Disk.faults g.D.Disk.honest g.D.Disk.image start c.args.log.now (past_of c.args.self.now.trace)
@@ -36,7 +36,7 @@ told g c start k =
     let l = c.args.l.now in
     let es = scope_block c.args.n l.actor l.body (scopes_at l.actor c.args.self.now.contexts) in
     noted_tells g.D.Disk.faults g.D.Disk.honest g.D.Disk.image start c.args.log.now l.actor es c.args.self.now c.at_context.new.self
-    (record { script = c.at_context.ensures.script; worlds = c.at_context.ensures.worlds; block = c.in_ok-at_context.ensures.block }) k
+    (record { script = c.at_context.ensures.script; objects = c.at_context.ensures.objects; worlds = c.at_context.ensures.worlds; block = c.in_ok-at_context.ensures.block }) k
 
 -- it entered no call,
 below : (g : Over) (c : In_ok-at_context g) → AreBelow c.args.n c.at_context.new.self.worlds

@@ -16,6 +16,7 @@ loop-init g c =
     record {
       contexts = refl;
       script = refl;
+      objects = refl;
       log = goes_same g.D.Disk.faults g.D.Disk.honest g.D.Disk.image c.args.log.now;
       stays = stays_same g.D.Disk.faults c.args.log.now;
       holds = c.requires.holds;
@@ -37,6 +38,7 @@ loop-preserved g c =
     record {
       contexts = c.step.ensures.contexts ∙ was.contexts;
       script = c.step.ensures.script ∙ was.script;
+      objects = c.step.ensures.objects ∙ was.objects;
       log = goes_then g.D.Disk.faults g.D.Disk.honest g.D.Disk.image c.args.log.now c.loop.log c.step.new.log was.log c.step.ensures.log;
       stays = stays_then g.D.Disk.faults c.args.log.now c.loop.log c.step.new.log was.log.grows c.step.ensures.log.grows was.stays c.step.ensures.stays;
       holds = c.in_ok-step.ensures.holds;

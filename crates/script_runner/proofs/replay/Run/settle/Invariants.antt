@@ -11,6 +11,7 @@ abbrev pub invariant-loop : goal.invariant-loop
 invariant-loop g l = record {
   contexts : l.self.contexts ≡ l.initial.self.contexts;
   script : l.self.script ≡ l.initial.self.script;
+  objects : l.self.objects ≡ l.initial.self.objects;
   log : LogGoes g.D.Disk.faults g.D.Disk.honest g.D.Disk.image l.initial.log l.log;
   stays : LogStays g.D.Disk.faults l.initial.log l.log;
   holds : Holds g.D.Disk.honest g.D.Disk.image l.log l.self;

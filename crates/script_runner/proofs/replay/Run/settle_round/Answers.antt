@@ -13,6 +13,7 @@ pub loop-n-init : goal.loop-n-init
 loop-n-init g c =
     record {
       script = refl;
+      objects = refl;
       log = goes_same g.D.Disk.faults g.D.Disk.honest g.D.Disk.image c.args.log.now;
       stays = stays_same g.D.Disk.faults c.args.log.now;
       holds = c.requires.holds;
@@ -31,6 +32,7 @@ loop-n-preserved g c =
     let n : t.value ≡ c.loop-n.n = subst (λ (o : Option TxNo). IfSome o (λ x. x.value ≡ c.loop-n.n)) c.unwrap-t.ensures c.new.ensures.value in
     record {
       script = c.settle.ensures.script ∙ was.script;
+      objects = c.settle.ensures.objects ∙ was.objects;
       log = goes_then g.D.Disk.faults g.D.Disk.honest g.D.Disk.image c.args.log.now old new was.log c.settle.ensures.log;
       stays = stays_then g.D.Disk.faults c.args.log.now old new was.log.grows c.settle.ensures.log.grows was.stays c.settle.ensures.stays;
       holds = c.in_ok-settle.ensures.holds;

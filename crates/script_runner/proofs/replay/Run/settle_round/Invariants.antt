@@ -9,6 +9,7 @@ use Rattle.script_runner.proofs.replay.Run.settle_round.Given as goal
 abbrev pub invariant-loop-n : goal.invariant-loop-n
 invariant-loop-n g l = record {
   script : l.self.script ≡ l.initial.self.script;
+  objects : l.self.objects ≡ l.initial.self.objects;
   log : LogGoes g.D.Disk.faults g.D.Disk.honest g.D.Disk.image l.initial.log l.log;
   stays : LogStays g.D.Disk.faults l.initial.log l.log;
   holds : Holds g.D.Disk.honest g.D.Disk.image l.log l.self;

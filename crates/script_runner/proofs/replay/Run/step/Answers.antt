@@ -1,10 +1,11 @@
-use Rattle.std.proofs.Common.{◌≡◌, ◌≤◌, ◌<◌, ◌-◌, ◌++◌, ◌∷◌, [], ◌∙◌, ℕ, Bool, true, false, List, None, Ok, Result, ap, arith, length, set, subst, sym}
-use Rattle.std.specs.Prelude.{IsTrue, IsFalse}
+use Rattle.std.proofs.Common.{◌≡◌, ◌≤◌, ◌<◌, ◌-◌, ◌++◌, ◌∷◌, [], ◌∙◌, ℕ, Bool, true, false, List, Option, None, Ok, Result, ap, arith, length, set, subst, sym}
+use Rattle.std.specs.Prelude.{IfSome, IsTrue, IsFalse, slice_index_or}
 use Rattle.dtx_values.specs.declared.entry.Entry.{Entry}
 use Rattle.dtx_values.specs.declared.entry.Entry.TheVariants.{Stopped}
+use Rattle.dtx_values.specs.declared.number.RmNo.{RmNo}
 use Rattle.dtx_values.specs.declared.number.TxNo.{TxNo}
 use Rattle.dtx_values.specs.declared.trace.Place.TheVariants.{Log}
-use Rattle.dtx_model.specs.Caused.{is_begin_sent}
+use Rattle.dtx_model.specs.Caused.{is_begin_sent, is_up_to}
 use Rattle.dtx_model.specs.Grammar.{are_named_well}
 use Rattle.dtx_model.specs.Words.{has, kth, onto, past_of}
 use Rattle.dtx_model.specs.Steps.{pending}
@@ -14,14 +15,14 @@ use Rattle.coordinator_log.specs.Slots.{open_records}
 use Rattle.tx_world.specs.AtLog.{Fits}
 use Rattle.tx_world.specs.State.{TxState}
 use Rattle.tx_world.specs.declared.refusal.WorldError.{WorldError}
-use Rattle.tx_world.specs.Stepping.{DoesKth}
 use Rattle.script_runner.specs.LogRun.{LogGoes}
+use Rattle.script_runner.specs.Objects.{DoesGiven, MayReply}
 use Rattle.script_runner.specs.RunState.{AreNumbered, HaveSameCalls, IsRecordKept, IsTied, RunState, halted, state_of}
 use Rattle.script_runner.proofs.Noting.{as_long, grown}
 use Rattle.script_runner.proofs.Numbered.{state_indexed}
 use Rattle.script_runner.proofs.StepStops.{is_stopping_step, step_stopped, stopping_lives, stopping_ties}
 use Rattle.script_runner.proofs.Steps.{IsStep, IsStepAt, IsStepped, StepOf, calls_same, none_beyond, none_pending, run_with, step_done, step_log, step_past, was, worlds_after}
-use Rattle.script_runner.proofs.Turns.{own_at}
+use Rattle.script_runner.proofs.Turns.{MayGive, given_by, own_at}
 use Rattle.script_runner.proofs.replay.Run.step.Given.{Over}
 use Rattle.script_runner.proofs.replay.Run.step.Goals.{After-is_own_run, After-is_own_run-2, else-was_up-via-then-was_up+else-not-is_up, else-was_up-via-else-was_up}
 use Rattle.script_runner.proofs.replay.Run.step.Goals as goal
@@ -42,7 +43,7 @@ reached g c =
 
 -- what the step is about
 abbrev about : (g : Over) → After-is_own_run-2 g → StepOf g.row.D.Denot
-about g c = record { run = c.args.self.now; t = c.args.t; k = c.args.k; y = c.step.new.self; from = c.args.log.now; to = c.step.new.log }
+about g c = record { run = c.args.self.now; t = c.args.t; k = c.args.k; given = c.asked-reply.result; y = c.do_kth.new.world; from = c.args.log.now; to = c.do_kth.new.log }
 
 -- the world was the transaction's
 was_reached : (g : Over) (c : After-is_own_run-2 g) → was (about g c) ≡ c.index_mut-world.result.now
@@ -51,11 +52,26 @@ was_reached g c =
     (state_indexed c.args.t c.self.inside.worlds.items c.index_mut-world.result.now c.index-2.result (omega (arith, c.index-2.ensures.place))
     (omega (arith, c.index.ensures.place, c.if-len-index.false, c.len.ensures)) c.index_mut-world.ensures.value)
 
+-- a reply that is given is one that an object may give
+may_give : (g : Over) (c : After-is_own_run-2 g) → MayGive c.args.self.now.script c.args.self.now.objects c.index_mut-world.result.now.world c.args.k c.asked-reply.result
+may_give g c =
+    let inside = c.self.inside in
+    let w = c.index_mut-world.result.now.world in
+    let due = subst (λ (j : ℕ). IfSome c.asked-reply.result (λ x. MayReply w j x.0 x.1)) c.from.ensures c.asked-reply.ensures.due in
+    let object =
+    subst (λ (ms : List (Option RmNo)). IfSome c.asked-reply.result (λ x. is_up_to (length inside.resources.now) (slice_index_or ms (x.0.value - 1) None) ≡ true)) c.deref.ensures.value c.asked-reply.ensures.object in
+    subst (λ (r : RunState). MayGive r.script r.objects w c.args.k c.asked-reply.result) c.self.view_is
+    (given_by inside.plans (length inside.resources.now) inside.managers.items w c.args.k c.asked-reply.result c.self.invariant.4 due object)
+
+-- and none is lost
+objects : (g : Over) (c : After-is_own_run-2 g) → length c.asked-reply.new.resources ≡ c.args.self.now.objects
+objects g c = c.asked-reply.ensures.same ∙ ap (λ (r : RunState). r.objects) c.self.view_is
+
 -- it was done
 done : (g : Over) (c : After-is_own_run-2 g) → IsStep g.D.Disk.faults g.D.Disk.honest g.D.Disk.image (about g c)
 done g c =
     let x = c.index_mut-world.result.now in
-    let y = c.step.new.self in
+    let y = c.do_kth.new.world in
     let made : c.args.t.value ≤ length c.self.inside.worlds.items = omega (arith, c.index.ensures.place, c.if-len-index.false, c.len.ensures) in
     let did = ap (λ (b : Bool). Ok b) c.if-not-branch.false in
     subst (λ (z : TxState). IsStepAt g.D.Disk.faults g.D.Disk.honest g.D.Disk.image (about g c) z) (sym (was_reached g c))
@@ -65,33 +81,35 @@ done g c =
       names = subst (λ (r : RunState). are_named_well r.script ≡ true) c.self.view_is c.self.invariant.2;
       made = subst (λ (r : RunState). c.args.t.value ≤ length r.worlds) c.self.view_is made;
       own = c.is_own_run.ensures.run;
-      does = subst (λ (j : ℕ). DoesKth g.D.Disk.faults j x c.args.log.now y c.step.new.log) c.from.ensures (c.in_ok-step.ensures.some did);
-      nearer = c.in_ok-step.ensures.nearer did;
-      kept = c.step.ensures.kept;
-      slots = c.step.ensures.slots;
-      life = c.step.ensures.life;
-      grows = c.step.ensures.grows;
-      unarmed = c.step.ensures.unarmed;
-      still = c.step.ensures.still;
+      may = may_give g c;
+      does = subst (λ (j : ℕ). DoesGiven g.D.Disk.faults c.asked-reply.result j x c.args.log.now y c.do_kth.new.log) c.from-2.ensures (c.in_ok-do_kth.ensures.some did);
+      nearer = c.in_ok-do_kth.ensures.nearer did;
+      kept = c.do_kth.ensures.kept;
+      slots = c.do_kth.ensures.slots;
+      life = c.do_kth.ensures.life;
+      grows = c.do_kth.ensures.grows;
+      unarmed = c.do_kth.ensures.unarmed;
+      still = c.do_kth.ensures.still;
       recorded = record { own = c.is_own_run-2.ensures.run; once = c.is_own_run-2.ensures.once; ours = c.is_own_run-2.ensures.ours; tried = c.is_own_run-2.ensures.tried };
-      named = c.step.ensures.named;
+      named = c.do_kth.ensures.named;
     })
 
 -- what it left of the log
-log_goes : (g : Over) (c : After-is_own_run-2 g) → LogGoes g.D.Disk.faults g.D.Disk.honest g.D.Disk.image c.args.log.now c.step.new.log
+log_goes : (g : Over) (c : After-is_own_run-2 g) → LogGoes g.D.Disk.faults g.D.Disk.honest g.D.Disk.image c.args.log.now c.do_kth.new.log
 log_goes g c = step_log g.D.Disk.faults g.D.Disk.honest g.D.Disk.image (about g c) (done g c)
 
 -- the run after it, as its parts stand then
 parts : (g : Over) (c : After-is_own_run-2 g) (T : List Placed)
-    → record { script = c.self.inside.plans; worlds = set c.self.inside.worlds.items c.index-2.result c.step.new.self; contexts = c.self.inside.contexts.items; trace = T }
+    → record { script = c.self.inside.plans; objects = length c.asked-reply.new.resources; worlds = set c.self.inside.worlds.items c.index-2.result c.do_kth.new.world; contexts = c.self.inside.contexts.items; trace = T }
     ≡ run_with (about g c) (worlds_after (about g c)) T
 parts g c T =
     let place : c.index-2.result ≡ c.args.t.value - 1 = omega (arith, c.index-2.ensures.place) in
-    ap (λ (r : RunState). record { script = r.script; worlds = set r.worlds c.index-2.result c.step.new.self; contexts = r.contexts; trace = T }) c.self.view_is
-    ∙ ap (λ (i : ℕ). run_with (about g c) (set c.args.self.now.worlds i c.step.new.self) T) place
+    ap (λ (o : ℕ). record { script = c.self.inside.plans; objects = o; worlds = set c.self.inside.worlds.items c.index-2.result c.do_kth.new.world; contexts = c.self.inside.contexts.items; trace = T }) c.asked-reply.ensures.same
+    ∙ ap (λ (r : RunState). record { script = r.script; objects = r.objects; worlds = set r.worlds c.index-2.result c.do_kth.new.world; contexts = r.contexts; trace = T }) c.self.view_is
+    ∙ ap (λ (i : ℕ). run_with (about g c) (set c.args.self.now.worlds i c.do_kth.new.world) T) place
 
 -- no call was entered
-calls : (g : Over) (c : After-is_own_run-2 g) → HaveSameCalls c.args.self.now.worlds (set c.self.inside.worlds.items c.index-2.result c.step.new.self)
+calls : (g : Over) (c : After-is_own_run-2 g) → HaveSameCalls c.args.self.now.worlds (set c.self.inside.worlds.items c.index-2.result c.do_kth.new.world)
 calls g c = subst (λ (r : RunState). HaveSameCalls c.args.self.now.worlds r.worlds) (sym (parts g c [])) (calls_same g.D.Disk.faults g.D.Disk.honest g.D.Disk.image (about g c) (done g c))
 
 -- its history was as long as was asked before
@@ -102,11 +120,11 @@ long : (g : Over) (c : After-is_own_run-2 g) → length (was (about g c)).world.
 long g c = sym (as_long c.history.result.now.items (was (about g c)).world.past (past g c)) ∙ sym c.len-from.ensures
 
 -- and didn't get shorter
-longer : (g : Over) (c : After-is_own_run-2 g) → c.len-from.result ≤ length c.step.new.self.world.past
+longer : (g : Over) (c : After-is_own_run-2 g) → c.len-from.result ≤ length c.do_kth.new.world.world.past
 longer g c =
     let wrote = step_past g.D.Disk.faults g.D.Disk.honest g.D.Disk.image (about g c) (done g c) in
-    subst (λ (n : ℕ). n ≤ length c.step.new.self.world.past) (sym c.len-from.ensures)
-    (grown c.history.result.now.items (was (about g c)).world.past c.step.new.self.world.past wrote.0 (past g c) wrote.1)
+    subst (λ (n : ℕ). n ≤ length c.do_kth.new.world.world.past) (sym c.len-from.ensures)
+    (grown c.history.result.now.items (was (about g c)).world.past c.do_kth.new.world.world.past wrote.0 (past g c) wrote.1)
 
 pub returns-then-len-index-clause-none : goal.returns-then-len-index-clause-none
 returns-then-len-index-clause-none g c = λ e.
@@ -118,10 +136,12 @@ returns-then-len-index-clause-none_here g c = λ e.
     let more : length c.self.inside.worlds.items < c.args.t.value = omega (arith, c.index.ensures.place, c.if-len-index.true, c.len.ensures) in
     (none_beyond c.args.self.now c.args.t c.args.k (c.requires.holds.tied c.args.t) (subst (λ (r : RunState). length r.worlds < c.args.t.value) c.self.view_is more)).1
 
-pub step-requires : goal.step-requires
-step-requires g c = record {
+pub do_kth-requires : goal.do_kth-requires
+do_kth-requires g c = record {
   fits = λ h up.
-      subst (λ (z : TxState). Fits z (open_records c.args.log.now.slots)) (reached g (goal.at.step-requires g c).After-is_own_run) ((c.requires.holds.fits h c.args.t).fits up);
+      subst (λ (z : TxState). Fits z (open_records c.args.log.now.slots)) (reached g (goal.at.do_kth-requires g c).After-is_own_run) ((c.requires.holds.fits h c.args.t).fits up);
+  due =
+      subst (λ (j : ℕ). IfSome c.asked-reply.result (λ x. MayReply c.index_mut-world.result.now.world j x.0 x.1)) (c.from.ensures ∙ sym c.from-2.ensures) c.asked-reply.ensures.due;
 }
 
 pub returns-then-not-branch-clause-none_here : goal.returns-then-not-branch-clause-none_here
@@ -131,8 +151,8 @@ returns-then-not-branch-clause-none_here g c = λ e.
     let x = c.index_mut-world.result.now in
     let numbered = subst (λ (r : RunState). AreNumbered r.worlds) c.self.view_is c.self.invariant.0 in
     let none : kth (pending x.world) c.args.k ≡ None =
-    subst (λ (j : ℕ). kth (pending x.world) j ≡ None) c.from.ensures (c.in_ok-step.ensures.none (ap (λ (b : Bool). Ok b) c.if-not-branch.true)).0 in
-    none_pending r.script r.worlds (past_of r.trace) c.args.t c.args.k (c.requires.holds.tied c.args.t) (own_at c.args.t r.worlds x numbered at c.is_own_run.ensures.run)
+    subst (λ (j : ℕ). kth (pending x.world) j ≡ None) c.from-2.ensures (c.in_ok-do_kth.ensures.none (ap (λ (b : Bool). Ok b) c.if-not-branch.true)).0 in
+    none_pending r.script r.objects r.worlds (past_of r.trace) c.args.t c.args.k (c.requires.holds.tied c.args.t) (own_at c.args.t r.worlds x numbered at c.is_own_run.ensures.run)
     (ap (λ (z : TxState). kth (pending z.world) c.args.k) at ∙ none)
 
 pub returns-in_err-reserve-clause-calls : goal.returns-in_err-reserve-clause-calls
@@ -180,9 +200,9 @@ stop_all-requires g c =
     let stops = is_stopping_step g.D.Disk.faults g.D.Disk.honest g.D.Disk.image a mid (done g b) up down noted in
     let now = sym (parts g b mid) in
     record {
-      tied = subst (λ (r : RunState). (u : TxNo) → IsTied r.script u (past_of r.trace) (state_of u r.worlds)) now (stopping_ties g.D.Disk.faults g.D.Disk.honest g.D.Disk.image a mid (done g b) stops);
+      tied = subst (λ (r : RunState). (u : TxNo) → IsTied r.script r.objects u (past_of r.trace) (state_of u r.worlds)) now (stopping_ties g.D.Disk.faults g.D.Disk.honest g.D.Disk.image a mid (done g b) stops);
       lives = λ u begun.
-          subst (λ (r : RunState). has is_begin_sent (state_of u r.worlds).world.past ≡ true → (state_of u r.worlds).life ≡ c.step.new.log.life) now
+          subst (λ (r : RunState). has is_begin_sent (state_of u r.worlds).world.past ≡ true → (state_of u r.worlds).life ≡ c.do_kth.new.log.life) now
           (stopping_lives g.D.Disk.faults g.D.Disk.honest g.D.Disk.image a mid (done g b) stops u) begun ∙ sym c.life.ensures;
     }
 
@@ -203,6 +223,7 @@ returns-then-not-is_up g c =
     let stops = is_stopping_step g.D.Disk.faults g.D.Disk.honest g.D.Disk.image a mid (done g b) up down noted in
     let d : IsStepped g.D.Disk.faults g.D.Disk.honest g.D.Disk.image a q =
     step_stopped g.D.Disk.faults g.D.Disk.honest g.D.Disk.image a mid q (done g b) stops up down (c.stop_all.ensures.script ∙ ap (λ (r : RunState). r.script) c.self.view_is)
+    (c.stop_all.ensures.objects ∙ objects g b)
     (subst (λ (r : RunState). HaveSameCalls r.worlds q.worlds) now c.stop_all.ensures.calls)
     (λ u.
     subst (λ (r : RunState). state_of u q.worlds ≡ halted c.life.result (state_of u r.worlds)) now (c.in_ok-stop_all.ensures.worlds u)
@@ -214,6 +235,7 @@ returns-then-not-is_up g c =
       log = d.log;
       stays = d.stays;
       script = c.stop_all.ensures.script ∙ ap (λ (r : RunState). r.script) c.self.view_is;
+      objects = c.stop_all.ensures.objects ∙ objects g b;
       holds = d.holds;
       tells = d.tells;
       calls = d.calls;
@@ -245,6 +267,7 @@ returns g c =
       log = d.log;
       stays = d.stays;
       script = ap (λ (r : RunState). r.script) c.self.view_is;
+      objects = objects g b;
       holds = d.holds;
       tells = d.tells;
       calls = d.calls;

@@ -14,6 +14,7 @@ loop-m-init g c =
     record {
       contexts = refl;
       script = refl;
+      objects = refl;
       log = goes_same g.D.Disk.faults g.D.Disk.honest g.D.Disk.image c.args.log.now;
       stays = stays_same g.D.Disk.faults c.args.log.now;
       holds = c.requires.holds;
@@ -34,6 +35,7 @@ loop-m-preserved g c =
     record {
       contexts = c.step.ensures.contexts ∙ was.contexts;
       script = c.step.ensures.script ∙ was.script;
+      objects = c.step.ensures.objects ∙ was.objects;
       log = goes_then g.D.Disk.faults g.D.Disk.honest g.D.Disk.image c.args.log.now c.loop-m.log c.step.new.log was.log c.step.ensures.log;
       stays = stays_then g.D.Disk.faults c.args.log.now c.loop-m.log c.step.new.log was.log.grows c.step.ensures.log.grows was.stays c.step.ensures.stays;
       holds = c.in_ok-step.ensures.holds;

@@ -1,7 +1,6 @@
-use Rattle.std.proofs.Common.{◌≡◌, Some, sym, subst, ◌∙◌}
+use Rattle.std.proofs.Common.{sym, subst, ◌∙◌}
 use Rattle.dtx_model.specs.Caused.{IsCallOf}
 use Rattle.script_calls.proofs.Entered.{next_given}
-use Rattle.script_calls.specs.declared.rows.Due.{Due}
 use Rattle.tx_cells.specs.Cell.{Cell}
 use Rattle.tx_cells.proofs.cell.CellState.next.Goals as goal
 

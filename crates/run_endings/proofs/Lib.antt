@@ -1,0 +1,3 @@
+pub mod ByNumber
+pub mod Left
+pub mod Settling

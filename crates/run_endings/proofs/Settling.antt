@@ -1,0 +1,54 @@
+-- What a round of the caller leaves settled.
+use Rattle.std.proofs.Common.{◌≡◌, ℕ, ◌+◌, ◌<◌, Bool, true, false, ◌&&◌, ◌||◌, IsTrue, List, [], ◌∷◌, ◌++◌, Option, Some, None, length, set, take, refl, ap, subst, sym, ◌∙◌}
+use Rattle.std.proofs.lemmas.List.{take_more_set}
+use Rattle.dtx_values.specs.declared.note.Note.{Note}
+use Rattle.dtx_values.specs.declared.note.Note.TheVariants.{Init, Prepare, Promote, Hand, Single, Commit, Rollback, InDoubt}
+use Rattle.dtx_values.specs.declared.number.EnlNo.{EnlNo}
+use Rattle.dtx_model.specs.Words.{each, has, kth}
+use Rattle.dtx_model.specs.Steps.{StepName, pending}
+use Rattle.dtx_model.specs.World.{World}
+use Rattle.dtx_model.proofs.Bools.{and_left, and_right}
+use Rattle.outcome_law.proofs.Tests.{eq_self}
+use Rattle.tx_world.specs.Stepping.{reply_in}
+use Rattle.tx_cells.specs.Turns.{is_due, is_that, is_to, same_note}
+
+-- where no step is the first, none is pending
+pub none_first : {A : Type 0} (xs : List A) → kth xs 1 ≡ None → xs ≡ []
+none_first [] e = refl
+none_first (x ∷ xs) e = absurd (cc)
+
+note_self : (n : Note) → same_note n n ≡ true
+note_self Init = refl
+note_self Prepare = refl
+note_self Promote = refl
+note_self Hand = refl
+note_self Single = refl
+note_self Commit = refl
+note_self Rollback = refl
+note_self InDoubt = refl
+
+-- the first pending step is due
+due_first : (w : World) (ms : List StepName) (x : EnlNo × Note) → reply_in w (kth ms 1) ≡ Some x → has (λ m. is_that x (reply_in w (Some m))) ms ≡ true
+due_first w [] x e = absurd (cc)
+due_first w (m ∷ ms) x e =
+    let here : is_that x (reply_in w (Some m)) ≡ true = ap (is_that x) e ∙ (ap (λ b. b && same_note x.1 x.1) (eq_self x.0.value) ∙ note_self x.1) in
+    ap (λ b. b || has (λ m. is_that x (reply_in w (Some m))) ms) here
+
+pub is_due_first : (w : World) (x : EnlNo × Note) → reply_in w (kth (pending w) 1) ≡ Some x → is_due w x ≡ true
+is_due_first w x e = due_first w (pending w) x e
+
+-- one more at the end passes too
+each_push : {A : Type 0} (p : A → Bool) (xs : List A) (y : A) → each p xs ≡ true → p y ≡ true → each p (xs ++ y ∷ []) ≡ true
+each_push p [] y all here = ap (λ b. b && true) here
+each_push p (x ∷ xs) y all here =
+    ap (λ b. b && each p (xs ++ y ∷ [])) (and_left (p x) (each p xs) all) ∙ each_push p xs y (and_right (p x) (each p xs) all) here
+
+pub each_more_set : {A : Type 0} (p : A → Bool) (xs : List A) (i : ℕ) (y : A) → i < length xs → each p (take i xs) ≡ true → p y ≡ true → each p (take (i + 1) (set xs i y)) ≡ true
+each_more_set p xs i y less all here = subst (λ (ys : List _). each p ys ≡ true) (sym (take_more_set xs i y less)) (each_push p (take i xs) y all here)
+
+-- the log is as it was between two moments at which it is alike
+pub up_between : (a b c : Bool) → (IsTrue b → IsTrue a) → (IsTrue c → IsTrue b) → c ≡ a → b ≡ a
+up_between true true c h k e = refl
+up_between true false c h k e = k e
+up_between false true c h k e = sym (h refl)
+up_between false false c h k e = refl

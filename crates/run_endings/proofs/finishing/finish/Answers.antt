@@ -1,0 +1,31 @@
+use Rattle.std.proofs.Common.{◌≡◌, ◌∙◌, List, ap, map, subst, true}
+use Rattle.std.specs.List.{All}
+use Rattle.dtx_values.specs.declared.script.Line.{Line}
+use Rattle.dtx_model.specs.Words.{each}
+use Rattle.script_calls.specs.Rows.{are_entered}
+use Rattle.tx_cells.specs.Board.{transactions_of}
+use Rattle.tx_cells.specs.Cell.{Cell}
+use Rattle.tx_cells.specs.Ties.{TiesWith}
+use Rattle.run_endings.specs.Finished.{AreFinished, follows}
+use Rattle.run_endings.proofs.Left.{all_ok, still_entered}
+use Rattle.run_endings.proofs.finishing.finish.Goals as goal
+
+pub returns-clause-finished : goal.returns-clause-finished
+returns-clause-finished g c =
+    let states = c.settle_all.new.states in
+    let log = c.settle_all.new.log in
+    let s = c.args.s.now in
+    let entered = c.in_ok-enter_all.ensures in
+    let settled = c.in_ok-settle_all.ensures in
+    let tested = c.test_all.ensures in
+    all_ok {P = map (λ (x : Cell). x.tx.transaction.value) states ≡ transactions_of s} {Q = All (λ (x : Cell). TiesWith x.tx log.log) states} {R = each (λ (x : Cell). follows log.past x.tx.world.past) states ≡ true}
+    {S = AreFinished g.N.Run.script states log} c.test_all.result
+    (λ named tied followed. record {
+      named = subst (λ (l : List Line). map (λ (x : Cell). x.tx.transaction.value) states ≡ transactions_of l) c.requires.named named;
+      entered = still_entered c.enter_all.new.states states settled.calls entered.entered;
+      entered_at_log = ap are_entered settled.log_rows ∙ entered.at_log;
+      settled = settled.settled;
+      tied = tied;
+      followed = followed;
+    })
+    tested.named tested.tied tested.followed

@@ -1,0 +1,14 @@
+use Rattle.std.proofs.Common.{◌≡◌, IsTrue, length}
+use Rattle.world_laws.specs.Left.{steps_left}
+use Rattle.run_endings.proofs.finishing.settling.settle.Given as goal
+
+abbrev pub invariant-loop : goal.invariant-loop
+invariant-loop g l = record {
+  rows : l.state.rows ≡ l.initial.state.rows;
+  log_rows : l.log.rows ≡ l.initial.log.rows;
+  still : IsTrue l.log.log.is_up → IsTrue l.initial.log.log.is_up;
+  objects : length l.resources ≡ length l.initial.resources;
+}
+
+abbrev pub decreases-loop : goal.decreases-loop
+decreases-loop g l = steps_left l.state.tx.world

@@ -1,0 +1,28 @@
+use Rattle.std.proofs.Common.{◌≡◌, ◌+◌, true, List, ap, sym, subst, ◌∙◌, take, arith}
+use Rattle.std.proofs.Math.Seq.{map-set_same}
+use Rattle.dtx_model.specs.Outcome.{is_empty}
+use Rattle.dtx_model.specs.Steps.{pending}
+use Rattle.dtx_model.specs.Words.{each}
+use Rattle.tx_cells.specs.Cell.{Cell}
+use Rattle.run_endings.proofs.Settling.{each_more_set, up_between}
+use Rattle.run_endings.proofs.finishing.settling.settle_round.Goals as goal
+
+pub loop-i-preserved : goal.loop-i-preserved
+loop-i-preserved g c =
+    let was = c.loop-i.invariant in
+    let x = c.index-states-i.result in
+    let y = c.settle.new.state in
+    let i = c.loop-i.i in
+    let did = c.in_ok-settle.ensures in
+    record {
+      settled = λ up.
+          let mid = up_between c.args.log.now.log.is_up c.loop-i.log.log.is_up c.settle.new.log.log.is_up was.still did.still up in
+          let same = c.follow_stop.ensures.same (up ∙ (sym mid ∙ sym c.is_up-was_up.ensures)) in
+          subst (λ (cells : List Cell). each (λ (z : Cell). is_empty (pending z.tx.world)) (take (i + 1) cells) ≡ true) (sym same)
+          (each_more_set (λ (z : Cell). is_empty (pending z.tx.world)) c.loop-i.states i y (omega arith) (was.settled mid) (ap is_empty did.settled));
+      calls = c.in_ok-follow_stop.ensures.calls
+          ∙ (map-set_same (λ (z : Cell). z.rows) c.loop-i.states i y x did.rows ∙ was.calls);
+      log_rows = did.log_rows ∙ was.log_rows;
+      still = λ up. was.still (did.still up);
+      objects = c.settle.ensures.objects ∙ was.objects;
+    }

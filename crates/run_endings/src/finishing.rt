@@ -1,0 +1,45 @@
+//! What the caller does after the threads of a run ended.
+ghost use Rattle.std.specs.Prelude.{◌≡◌, OnOk, length};
+ghost use Rattle.script_calls.specs.Managers.{AreManagers};
+ghost use Rattle.run_endings.specs.Finished.{AreFinished};
+
+use crate::stop::RunStop;
+use dtx_values::{Resource, RmNo, Script};
+use outside::Disk;
+use tx_cells::{CellState, LogState, Run};
+
+mod entering;
+mod following;
+mod settling;
+mod testing;
+
+use entering::enter_all;
+use following::follow_all;
+use settling::settle_all;
+use testing::test_all;
+
+/// Does the rest of a run after its threads ended, alone: each transaction hears of the log's state, each call that isn't entered yet is entered, each transaction is settled, and then each is tested.
+///
+/// `managers` has the manager of each enlistment, and `resources` the objects of the first managers: each is asked for the replies of its enlistments. The states are those of the script's transactions, by number.
+///
+/// # Errors
+///
+/// [`RunStop::Memory`] where memory ran out, and [`RunStop::Differs`] where another transaction's state stands at a number, or what a transaction keeps doesn't tie with the log, or doesn't follow it.
+pub fn finish<D: Disk, N: Run>(
+    s: &Script,
+    managers: &[Option<RmNo>],
+    resources: &mut [Box<dyn Resource + Send>],
+    states: &mut [CellState<N>],
+    log: &mut LogState<D, N>,
+) -> Result<(), RunStop>
+    requires named { s.now ≡ N.script }
+    requires objects { length resources.old ≡ N.objects }
+    requires managers { AreManagers N.script N.script managers.now }
+    ensures finished { OnOk result (AreFinished N.script states.new log.new) }
+    ensures objects { length resources.new ≡ length resources.old }
+{
+    follow_all(states, log)?;
+    enter_all(managers, resources, states, log)?;
+    settle_all(managers, resources, states, log)?;
+    test_all(s, states, log)
+}

@@ -1,0 +1,35 @@
+//! What each transaction hears of the log's state.
+ghost use Rattle.std.specs.Prelude.{◌≡◌, OnOk};
+ghost use Rattle.run_endings.specs.Finishing.{HaveSameCalls};
+
+use crate::stop::RunStop;
+use outside::Disk;
+use tx_cells::{CellState, LogState, Run};
+
+/// Each transaction, by number, hears what the log's state gives it.
+pub(super) fn follow_all<D: Disk, N: Run>(
+    states: &mut [CellState<N>],
+    log: &LogState<D, N>,
+) -> Result<(), RunStop>
+    ensures { OnOk result (HaveSameCalls states.old states.new) }
+{
+    for i in 0..states.len() {
+        states[i].follow_log(log)?;
+    }
+    Ok(())
+}
+
+/// The same, where the log was up and isn't any more.
+pub(super) fn follow_stop<D: Disk, N: Run>(
+    states: &mut [CellState<N>],
+    log: &LogState<D, N>,
+    was_up: bool,
+) -> Result<(), RunStop>
+    ensures calls { OnOk result (HaveSameCalls states.old states.new) }
+    ensures same { log.now.log.is_up ≡ was_up → states.new ≡ states.old }
+{
+    if was_up && !log.is_up() {
+        follow_all(states, log)?;
+    }
+    Ok(())
+}

@@ -1,0 +1,108 @@
+//! Runs a script over a disk that is made an empty log first.
+ghost use Rattle.std.specs.Prelude.{◌≡◌, ◌⊎◌, ◌≤◌, ◌^◌, ℕ, [], None, false, length, vec_len, IfErr, IfOk, IsErrOf, IsTrue};
+ghost use Rattle.outside.specs.Faults.{Rose};
+ghost use Rattle.coordinator_log.specs.Slots.{open_records};
+ghost use Rattle.coordinator_log.specs.declared.layout.TheConstants.{LOG_BYTES};
+ghost use Rattle.dtx_model.specs.Grammar.{IsScript};
+ghost use Rattle.tx_cells.specs.Cell.{IsThreadable};
+ghost use Rattle.script_runner.specs.Ending.{AreOwnLogs, IsLog};
+ghost use Rattle.script_runner.specs.LogRun.{MetNoFault, has_log_line};
+ghost use Rattle.script_runner.specs.Program.{form_text};
+ghost use Rattle.script_runner.specs.Refusal.{IsRunBy, IsRunnable, IsTextOf};
+
+use crate::exit::Exit;
+use crate::formatting::{FormatStop, formatted};
+use crate::threads::{ThreadsError, replayed_over, run_threads};
+use crate::way::Way;
+use coordinator_log::Log;
+use dtx_values::Resource;
+use outside::{Disk, Gate};
+use program_words::Form;
+use script_text::Script;
+use std::alloc::{AllocError, Global};
+use std::sync::Wait;
+use std::thread::Threads;
+use trace_text::{Trace, json_trace, print_trace, summary};
+
+/// The text of a trace in a form.
+fn text_in(alloc: Global, form: Form, trace: &Trace) -> Result<Vec<u8>, AllocError>
+    ensures { IfOk result (λ v. v.items ≡ form_text form trace.now) }
+{
+    match form {
+        Form::Plain => print_trace(alloc, trace, false),
+        Form::Wire => print_trace(alloc, trace, true),
+        Form::Json => json_trace(alloc, trace),
+        Form::Summary => summary(alloc, trace),
+    }
+}
+
+/// The trace of a run of this way over a log without a record, and the disk after it.
+fn traced<D: Disk + Send, G: Gate + Sync, R: Threads + Wait + Sync>(
+    rt: &R,
+    alloc: Global,
+    way: Way,
+    script: &Script,
+    log: Log<D>,
+    gate: &G,
+    mut resources: Vec<Box<dyn Resource + Send>>,
+) -> (Result<Trace, ThreadsError>, D)
+    requires script { IsRunnable way script.now }
+    requires up { IsTrue log.is_up }
+    requires empty { open_records log.slots ≡ [] }
+    requires unarmed { log.armed ≡ None }
+    requires life { log.life ≤ 2 ^ 62 }
+    ensures run { IfOk result.0 (λ T. IsRunBy way (vec_len resources) (D.faults log.disk) (D.faults result.1) D.honest (D.image result.1) script.now T) }
+    ensures fault { IfErr result.0 (λ e. e ≡ ThreadsError.Fault → Rose (D.faults log.disk) (D.faults result.1)) }
+    ensures grows { (IsErrOf result.0 ThreadsError.Fault → ⊥) → D.faults log.disk ≤ D.faults result.1 }
+    ensures logs { IsTrue D.honest → (IsErrOf result.0 ThreadsError.Fault → ⊥) → AreOwnLogs (D.image result.1) }
+    ensures whole { way ≡ Way.Replay → IsTrue D.honest → MetNoFault D.faults log.disk result.1 → has_log_line script.now ≡ false → IsLog (D.image result.1) }
+    ensures room { LOG_BYTES ≤ D.size result.1 }
+{
+    match way {
+        Way::Replay => {
+            let (replayed, disk) = replayed_over(alloc, script, log, resources.as_mut_slice());
+            match replayed {
+                Ok(trace) => (Ok(trace), disk),
+                Err(_) => (Err(ThreadsError::Memory), disk),
+            }
+        }
+        Way::Threads(helpers) => run_threads(rt, alloc, script, helpers, log, gate, resources),
+    }
+}
+
+/// The text, in this form, of a run of this way over the disk, which is made an empty log first and handed back; or how the call ends.
+pub fn text_of_run<D: Disk + Send, G: Gate + Sync, R: Threads + Wait + Sync>(
+    rt: &R,
+    alloc: Global,
+    way: Way,
+    form: Form,
+    script: &Script,
+    disk: D,
+    gate: &G,
+    resources: Vec<Box<dyn Resource + Send>>,
+) -> (Result<Vec<u8>, Exit>, D)
+    requires script { IsRunnable way script.now }
+    requires room { LOG_BYTES ≤ D.size disk }
+    ensures text { IfOk result.0 (λ text. IsTextOf way form (vec_len resources) (D.faults disk) (D.faults result.1) D.honest (D.image result.1) script.now text.items) }
+    ensures only { IfErr result.0 (λ x. (x ≡ Exit.LogFault) ⊎ (x ≡ Exit.Memory)) }
+    ensures fault { IsErrOf result.0 Exit.LogFault → Rose (D.faults disk) (D.faults result.1) }
+    ensures grows { (IsErrOf result.0 Exit.LogFault → ⊥) → D.faults disk ≤ D.faults result.1 }
+    ensures logs { IsTrue D.honest → (IsErrOf result.0 Exit.LogFault → ⊥) → (result.1 ≡ disk) ⊎ AreOwnLogs (D.image result.1) }
+    ensures whole { way ≡ Way.Replay → IsTrue D.honest → MetNoFault D.faults disk result.1 → has_log_line script.now ≡ false → (result.1 ≡ disk) ⊎ IsLog (D.image result.1) }
+    ensures room { LOG_BYTES ≤ D.size result.1 }
+{
+    let log = match formatted(alloc, disk) {
+        Ok(log) => log,
+        Err((FormatStop::Fault, disk)) => return (Err(Exit::LogFault), disk),
+        Err((FormatStop::Memory, disk)) => return (Err(Exit::Memory), disk),
+    };
+    let (traced, disk) = traced(rt, alloc, way, script, log, gate, resources);
+    match traced {
+        Ok(trace) => match text_in(alloc, form, &trace) {
+            Ok(text) => (Ok(text), disk),
+            Err(_) => (Err(Exit::Memory), disk),
+        },
+        Err(ThreadsError::Fault) => (Err(Exit::LogFault), disk),
+        Err(ThreadsError::Memory) => (Err(Exit::Memory), disk),
+    }
+}

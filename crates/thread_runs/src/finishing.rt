@@ -1,1 +1,0 @@
-//! What the caller does after the threads of a run ended.

@@ -1,0 +1,6 @@
+use Rattle.std.proofs.Common.{true}
+use Rattle.thread_tests.proofs.gates.looks_at_a_board_wait_for_nobody.Given as goal
+
+-- the run is named by what the test has
+abbrev pub ghosts-peeked : goal.ghosts-peeked
+ghosts-peeked g a = record { script = a.s.now; objects = 0; honest = true; faults = 0 }
