@@ -5,5 +5,5 @@ mod contexts;
 mod gathering;
 mod running;
 
-pub use running::run_on_threads;
 pub use run_endings::RunStop;
+pub use running::run_on_threads;

@@ -10,13 +10,12 @@ ghost use Rattle.thread_runs.specs.Contexts.{AreContexts};
 ghost use Rattle.thread_runs.specs.Run.{AreTied, EachHolds, EndsOnThreads, IsRunOnThreads};
 
 use crate::contexts::outline_of;
-use run_endings::finish;
 use crate::gathering::gathered;
-use run_endings::RunStop;
 use coordinator_log::Log;
 use dtx_values::{Resource, Script};
 use entry_lists::{Entries, Trace};
 use outside::{Disk, Gate};
+use run_endings::{RunStop, finish};
 use script_calls::{Plans, managers_of};
 use std::alloc::{AllocError, Global};
 use std::marker::Brand;

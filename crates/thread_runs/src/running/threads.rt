@@ -11,8 +11,8 @@ use outside::{Disk, Gate};
 use run_endings::RunStop;
 use std::alloc::{AllocError, Global};
 use std::cmp::max;
-use std::sync::atomic::Ordering;
 use std::sync::Wait;
+use std::sync::atomic::Ordering;
 use std::thread;
 use std::thread::Threads;
 use tx_threads::{Run, TurnError};
@@ -104,11 +104,14 @@ fn ends_of<N: Run + Send + Sync, D: Disk + Send, G: Gate + Sync, R: Threads + Wa
     requires objects { length x.now.resources.now ≡ N.objects }
     requires actors { x.now.actors ≤ ActorNo.MAX }
 {
-    thread::map_indices(rt, alloc, threads, &|j: usize| -> Result<(), TurnError>
-        requires { (x.now.lines.now ≡ N.script) × (length x.now.resources.now ≡ N.objects) × (x.now.actors ≤ ActorNo.MAX) }
-    {
-        work(rt, alloc, x, to_do, j)
-    })
+    thread::map_indices(
+        rt,
+        alloc,
+        threads,
+        &|j: usize| -> Result<(), TurnError>
+            requires { (x.now.lines.now ≡ N.script) × (length x.now.resources.now ≡ N.objects) × (x.now.actors ≤ ActorNo.MAX) }
+        { work(rt, alloc, x, to_do, j) },
+    )
 }
 
 /// Makes the calls of the lines before the `par` line in order, alone, and then the others, those of each actor on a thread of its own, with so many helpers beside them.

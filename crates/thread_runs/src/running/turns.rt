@@ -74,7 +74,16 @@ pub(super) fn call<D: Disk, G: Gate, N: Run, R: Wait>(
             }
             let mut note = x.cells.note_of(t);
             await_as(
-                rt, alloc, x.cells, x.log, x.gate, x.resources, &mut note, a, line, t,
+                rt,
+                alloc,
+                x.cells,
+                x.log,
+                x.gate,
+                x.resources,
+                &mut note,
+                a,
+                line,
+                t,
             )?;
         }
     }
@@ -109,10 +118,7 @@ pub(super) fn act<D: Disk, G: Gate, N: Run, R: Wait>(
 /// # Errors
 ///
 /// Where memory ran out.
-fn transactions<N: Run>(
-    alloc: Global,
-    cells: &Cells<N>,
-) -> Result<Vec<TxNo>, AllocError> {
+fn transactions<N: Run>(alloc: Global, cells: &Cells<N>) -> Result<Vec<TxNo>, AllocError> {
     let mut transactions = Vec::new(alloc);
     for n in 1..TxNo::MAX + 1 {
         let t = TxNo::new(n).unwrap();
