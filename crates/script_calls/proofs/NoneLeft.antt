@@ -19,6 +19,6 @@ entered_where r none = elim (slice_get_cases r.calls r.entered).1 [
 pub none_left : {C : Type 0} (rows : List (SeenRow C)) → length rows ≤ MAX → ((a : ActorNo) → next_in (row_at a rows) ≡ None) → are_entered rows ≡ true
 none_left rows few none =
     list_all-from_AllPass is_entered rows (All-from_get_or (λ r. is_entered r ≡ true) rows no_calls (λ k less.
-      let a : ActorNo = record { value = k + 1; in_range = (omega arith, omega (arith, less, few)) } in
-      let same : a.value - 1 ≡ k = omega arith in
-      subst (λ (i : ℕ). is_entered (get_or rows i no_calls) ≡ true) same (entered_where (row_at a rows) (none a))))
+    let a : ActorNo = record { value = k + 1; in_range = (omega arith, omega (arith, less, few)) } in
+    let same : a.value - 1 ≡ k = omega arith in
+    subst (λ (i : ℕ). is_entered (get_or rows i no_calls) ≡ true) same (entered_where (row_at a rows) (none a))))

@@ -18,6 +18,15 @@ use tx_threads::{Cells, Run, SharedLog, TurnError, Turned, await_as, peek_outcom
 /// One volatile, which is to vote yes; the client commits and waits.
 const WAITS: &[u8] = b"a1 begin t1 0\na1 volatile t1 e1 none yes\na1 commit t1\na1 await t1\n";
 
+/// The lines that are entered, in turn, and what comes of each.
+const TURNS: [(u32, Turned); 5] = [
+    (2, Turned::NotNext(1)),
+    (1, Turned::Did(Answer::Fine)),
+    (2, Turned::Did(Answer::Fine)),
+    (3, Turned::Did(Answer::Fine)),
+    (4, Turned::Later),
+];
+
 /// Enters the actor's call of this line at the transaction, over the log.
 fn entered<N: Run, D: Disk, R: Wait>(
     rt: &R,
@@ -55,14 +64,7 @@ fn said<N: Run, D: Disk + Drop, R: Wait + Abort>(
     };
     let a = ActorNo::new(1).ok_or("no actor")?;
     let t = TxNo::new(1).ok_or("no transaction")?;
-    let turns = [
-        (2, Turned::NotNext(1)),
-        (1, Turned::Did(Answer::Fine)),
-        (2, Turned::Did(Answer::Fine)),
-        (3, Turned::Did(Answer::Fine)),
-        (4, Turned::Later),
-    ];
-    for (line, turned) in turns {
+    for (line, turned) in TURNS {
         assert_eq!(rt;
             entered(rt, &cells, &log, a, line, t),
             Ok(turned),
