@@ -46,6 +46,10 @@ pub fn asked(
         → slice_get resources.old (rm.value - 1) ≡ Some object → (a : Option Reply) × (after : _) × gives object t e n a after × (result ≡ reply_by e (fitting n a)) }
     ensures same { length resources.new ≡ length resources.old }
 {
+    // Most runs have none, and then the pending steps need not be looked through.
+    if resources.is_empty() {
+        return None;
+    }
     let (e, n) = world.due_at(k)?;
     let rm = managers[e.index()]?;
     let object = resources.get_mut(rm.index())?;
