@@ -3,6 +3,7 @@
 
 mod answers;
 mod entries;
+mod message_words;
 mod messages;
 mod names;
 mod objects;

@@ -1,11 +1,22 @@
 //! Messages on their connections.
-ghost use Rattle.std.specs.Prelude.{◌≡◌, ◌≤◌, ◌+◌, ◌++◌, length, true};
+ghost use Rattle.std.specs.Prelude.{◌≡◌, ◌≤◌, ◌+◌, ◌++◌, codes, decimal, length, true};
 ghost use Rattle.dtx_model.specs.TraceText.{message_text, sent_text};
 ghost use Rattle.trace_text.specs.OneTrace.{is_cause_typed};
 
+use crate::message_words;
 use crate::words::put_direction;
 use dtx_values::{Conn, Dir, Message};
 use line_tail::{Tail, put_connection, put_numbered};
+
+/// Puts a refusal and its cause.
+fn put_refused(tail: &mut Tail, cause: u8)
+    requires { 28 + length tail.old ≤ 160 }
+    ensures text { tail.new ≡ codes "refused " ++ decimal cause ++ tail.old }
+    ensures length { length tail.new ≤ 28 + length tail.old }
+{
+    put_numbered(tail, b" ", u64::from(cause));
+    tail.put(message_words::REFUSED);
+}
 
 /// Puts the name of a message.
 fn put_message(tail: &mut Tail, m: Message)
@@ -15,34 +26,34 @@ fn put_message(tail: &mut Tail, m: Message)
     ensures typed { is_cause_typed m ≡ true }
 {
     match m {
-        Message::BeginBegin => tail.put(b"begin"),
-        Message::BeginCommit => tail.put(b"commit"),
-        Message::BeginAbort => tail.put(b"abort"),
-        Message::BeginBegun(_) => tail.put(b"begun"),
-        Message::BeginCommitted => tail.put(b"committed"),
-        Message::BeginAborted => tail.put(b"aborted"),
-        Message::VoterVoter(_) => tail.put(b"voter"),
-        Message::VoterYes => tail.put(b"yes"),
-        Message::VoterNo => tail.put(b"no"),
-        Message::VoterCreated => tail.put(b"created"),
-        Message::VoterRefused(cause) => put_numbered(tail, b"refused ", u64::from(cause)),
-        Message::VoterAsk => tail.put(b"ask"),
-        Message::VoterCommit => tail.put(b"commit"),
-        Message::VoterAbort => tail.put(b"abort"),
-        Message::EnlistEnlist(_) => tail.put(b"enlist"),
-        Message::EnlistPrepared => tail.put(b"prepared"),
-        Message::EnlistNo => tail.put(b"no"),
-        Message::EnlistReadonly => tail.put(b"readonly"),
-        Message::EnlistAck => tail.put(b"ack"),
-        Message::EnlistEnlisted => tail.put(b"enlisted"),
-        Message::EnlistRefused(cause) => put_numbered(tail, b"refused ", u64::from(cause)),
-        Message::EnlistPrepare => tail.put(b"prepare"),
-        Message::EnlistCommit => tail.put(b"commit"),
-        Message::EnlistAbort => tail.put(b"abort"),
-        Message::ReenlistReenlist(_) => tail.put(b"reenlist"),
-        Message::ReenlistAck => tail.put(b"ack"),
-        Message::ReenlistCommitted => tail.put(b"committed"),
-        Message::ReenlistAborted => tail.put(b"aborted"),
+        Message::BeginBegin => tail.put(message_words::BEGIN),
+        Message::BeginCommit => tail.put(message_words::COMMIT),
+        Message::BeginAbort => tail.put(message_words::ABORT),
+        Message::BeginBegun(_) => tail.put(message_words::BEGUN),
+        Message::BeginCommitted => tail.put(message_words::COMMITTED),
+        Message::BeginAborted => tail.put(message_words::ABORTED),
+        Message::VoterVoter(_) => tail.put(message_words::VOTER),
+        Message::VoterYes => tail.put(message_words::YES),
+        Message::VoterNo => tail.put(message_words::NO),
+        Message::VoterCreated => tail.put(message_words::CREATED),
+        Message::VoterRefused(cause) => put_refused(tail, cause),
+        Message::VoterAsk => tail.put(message_words::ASK),
+        Message::VoterCommit => tail.put(message_words::COMMIT),
+        Message::VoterAbort => tail.put(message_words::ABORT),
+        Message::EnlistEnlist(_) => tail.put(message_words::ENLIST),
+        Message::EnlistPrepared => tail.put(message_words::PREPARED),
+        Message::EnlistNo => tail.put(message_words::NO),
+        Message::EnlistReadonly => tail.put(message_words::READONLY),
+        Message::EnlistAck => tail.put(message_words::ACK),
+        Message::EnlistEnlisted => tail.put(message_words::ENLISTED),
+        Message::EnlistRefused(cause) => put_refused(tail, cause),
+        Message::EnlistPrepare => tail.put(message_words::PREPARE),
+        Message::EnlistCommit => tail.put(message_words::COMMIT),
+        Message::EnlistAbort => tail.put(message_words::ABORT),
+        Message::ReenlistReenlist(_) => tail.put(message_words::REENLIST),
+        Message::ReenlistAck => tail.put(message_words::ACK),
+        Message::ReenlistCommitted => tail.put(message_words::COMMITTED),
+        Message::ReenlistAborted => tail.put(message_words::ABORTED),
     }
 }
 
