@@ -1,8 +1,11 @@
 //! Texts of traces.
 #![tactic(auto)]
 
+mod answer_words;
 mod answers;
 mod entries;
+mod entry_words;
+mod keys;
 mod message_words;
 mod messages;
 mod names;

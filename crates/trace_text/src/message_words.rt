@@ -1,4 +1,4 @@
-//! The names of messages: each is spelled here alone.
+//! The names of messages. Each is spelled here alone: the printer and the reader take it from here.
 
 pub const ABORT: &[u8] = b"abort";
 pub const ABORTED: &[u8] = b"aborted";

@@ -1,22 +1,13 @@
 //! Messages on their connections.
-ghost use Rattle.std.specs.Prelude.{◌≡◌, ◌≤◌, ◌+◌, ◌++◌, codes, decimal, length, true};
+ghost use Rattle.std.specs.Prelude.{◌≡◌, ◌≤◌, ◌+◌, ◌++◌, length, true};
 ghost use Rattle.dtx_model.specs.TraceText.{message_text, sent_text};
 ghost use Rattle.trace_text.specs.OneTrace.{is_cause_typed};
 
+use crate::keys::put_counted;
 use crate::message_words;
 use crate::words::put_direction;
 use dtx_values::{Conn, Dir, Message};
-use line_tail::{Tail, put_connection, put_numbered};
-
-/// Puts a refusal and its cause.
-fn put_refused(tail: &mut Tail, cause: u8)
-    requires { 28 + length tail.old ≤ 160 }
-    ensures text { tail.new ≡ codes "refused " ++ decimal cause ++ tail.old }
-    ensures length { length tail.new ≤ 28 + length tail.old }
-{
-    put_numbered(tail, b" ", u64::from(cause));
-    tail.put(message_words::REFUSED);
-}
+use line_tail::{Tail, put_connection};
 
 /// Puts the name of a message.
 fn put_message(tail: &mut Tail, m: Message)
@@ -36,7 +27,7 @@ fn put_message(tail: &mut Tail, m: Message)
         Message::VoterYes => tail.put(message_words::YES),
         Message::VoterNo => tail.put(message_words::NO),
         Message::VoterCreated => tail.put(message_words::CREATED),
-        Message::VoterRefused(cause) => put_refused(tail, cause),
+        Message::VoterRefused(cause) => put_counted(tail, message_words::REFUSED, u64::from(cause)),
         Message::VoterAsk => tail.put(message_words::ASK),
         Message::VoterCommit => tail.put(message_words::COMMIT),
         Message::VoterAbort => tail.put(message_words::ABORT),
@@ -46,7 +37,7 @@ fn put_message(tail: &mut Tail, m: Message)
         Message::EnlistReadonly => tail.put(message_words::READONLY),
         Message::EnlistAck => tail.put(message_words::ACK),
         Message::EnlistEnlisted => tail.put(message_words::ENLISTED),
-        Message::EnlistRefused(cause) => put_refused(tail, cause),
+        Message::EnlistRefused(cause) => put_counted(tail, message_words::REFUSED, u64::from(cause)),
         Message::EnlistPrepare => tail.put(message_words::PREPARE),
         Message::EnlistCommit => tail.put(message_words::COMMIT),
         Message::EnlistAbort => tail.put(message_words::ABORT),

@@ -12,6 +12,7 @@ ghost use Rattle.trace_text.specs.Printed.{is_event};
 ghost use Rattle.trace_text.specs.ReadGroups.{is_of_enlistment, is_about_enlistment, is_of_word, is_of_words, is_call};
 ghost use Rattle.trace_words.specs.Cuts.{front, behind};
 
+use crate::entry_words;
 use crate::read_answers::answer;
 use crate::read_messages::message;
 use dtx_values::{Conn, EnlNo, Entry, LogNote, Party, Place, ScopeNote, TxNo};
@@ -75,37 +76,37 @@ fn event(key: &[u8]) -> Option<Entry>
     ensures fit { IfSome result (λ y. (p : Place) → is_entry_fit p y ≡ true) }
     ensures none { IfNone result ((x : Entry) → is_event x ≡ true → key.now ≢ entry_text x) }
 {
-    if key == b"commit".as_slice() {
+    if key == entry_words::COMMIT {
         return Some(Entry::CommitAsked);
     }
-    if key == b"rollback".as_slice() {
+    if key == entry_words::ROLLBACK {
         return Some(Entry::RollbackAsked);
     }
-    if key == b"timedout".as_slice() {
+    if key == entry_words::TIMED_OUT {
         return Some(Entry::TimedOut);
     }
-    if key == b"late".as_slice() {
+    if key == entry_words::LATE {
         return Some(Entry::Late);
     }
-    if key == b"sealed".as_slice() {
+    if key == entry_words::SEALED {
         return Some(Entry::Sealed);
     }
-    if key == b"yes".as_slice() {
+    if key == entry_words::YES {
         return Some(Entry::LocalYes);
     }
-    if key == b"promotionfailed".as_slice() {
+    if key == entry_words::PROMOTION_FAILED {
         return Some(Entry::PromotionFailed);
     }
-    if key == b"logged".as_slice() {
+    if key == entry_words::LOGGED {
         return Some(Entry::Logged);
     }
-    if key == b"logfull".as_slice() {
+    if key == entry_words::LOG_FULL {
         return Some(Entry::LogFull);
     }
-    if key == b"freed".as_slice() {
+    if key == entry_words::FREED {
         return Some(Entry::Freed);
     }
-    if key == b"stopped".as_slice() {
+    if key == entry_words::STOPPED {
         return Some(Entry::Stopped);
     }
     None
@@ -118,19 +119,19 @@ fn of_enlistment(key: &[u8], rest: &[u8]) -> Option<Entry>
     ensures none { IfNone result ((x : Entry) → is_of_enlistment x ≡ true → key.now ≢ front 32 (entry_text x)) }
 {
     let e = enlistment(rest);
-    if key == b"init".as_slice() {
+    if key == entry_words::INIT {
         return Some(Entry::Init(e));
     }
-    if key == b"hand".as_slice() {
+    if key == entry_words::HAND {
         return Some(Entry::Handed(e));
     }
-    if key == b"lost".as_slice() {
+    if key == entry_words::LOST {
         return Some(Entry::Lost(e));
     }
-    if key == b"reenlisted".as_slice() {
+    if key == entry_words::REENLISTED {
         return Some(Entry::Reenlisted(e));
     }
-    if key == b"acked".as_slice() {
+    if key == entry_words::ACKED {
         return Some(Entry::Acked(e));
     }
     None
@@ -152,22 +153,22 @@ fn about_enlistment(key: &[u8], rest: &[u8]) -> Option<Entry>
     ensures none { IfNone result ((x : Entry) → is_about_enlistment x ≡ true → key.now ≢ front 32 (entry_text x)) }
 {
     let (e, word) = leading(rest);
-    if key == b"enlisted".as_slice() {
+    if key == entry_words::ENLISTED {
         return Some(Entry::Enlisted(e, class(word)));
     }
-    if key == b"ask".as_slice() {
+    if key == entry_words::ASK {
         return Some(Entry::Asked(e, ask(word)));
     }
-    if key == b"vote".as_slice() {
+    if key == entry_words::VOTE {
         return Some(Entry::Voted(e, vote(word)));
     }
-    if key == b"promote".as_slice() {
+    if key == entry_words::PROMOTE {
         return Some(Entry::PromoteReply(e, word == b"ok".as_slice()));
     }
-    if key == b"request".as_slice() {
+    if key == entry_words::REQUEST {
         return Some(Entry::Requested(e, request(word)));
     }
-    if key == b"owner".as_slice() {
+    if key == entry_words::OWNER {
         return Some(Entry::OwnerAnswered(e, outcome(word)));
     }
     None
@@ -179,31 +180,31 @@ fn of_word(key: &[u8], rest: &[u8]) -> Option<Entry>
     ensures fit { IfSome result (λ y. (p : Place) → is_entry_fit p y ≡ true) }
     ensures none { IfNone result ((x : Entry) → is_of_word x ≡ true → key.now ≢ front 32 (entry_text x)) }
 {
-    if key == b"began".as_slice() {
+    if key == entry_words::BEGAN {
         return Some(Entry::Began(number32(rest)));
     }
-    if key == b"completed".as_slice() {
+    if key == entry_words::COMPLETED {
         return Some(Entry::Completed(clone(rest)));
     }
-    if key == b"clock".as_slice() {
+    if key == entry_words::CLOCK {
         return Some(Entry::Clock(number(rest)));
     }
-    if key == b"decided".as_slice() {
+    if key == entry_words::DECIDED {
         return Some(Entry::Decided(outcome(rest)));
     }
-    if key == b"promoting".as_slice() {
+    if key == entry_words::PROMOTING {
         return Some(Entry::Promoting(cause(rest)));
     }
-    if key == b"restarted".as_slice() {
+    if key == entry_words::RESTARTED {
         return Some(Entry::Restarted(rest == b"found".as_slice()));
     }
-    if key == b"recovered".as_slice() {
+    if key == entry_words::RECOVERED {
         return Some(Entry::Recovered(manager(rest)));
     }
-    if key == b"finished".as_slice() {
+    if key == entry_words::FINISHED {
         return Some(Entry::Scope(ScopeNote::Finished(scope(rest))));
     }
-    if key == b"closed".as_slice() {
+    if key == entry_words::CLOSED {
         return Some(Entry::Scope(ScopeNote::Closed(scope(rest))));
     }
     None
@@ -216,22 +217,22 @@ fn of_words(key: &[u8], rest: &[u8]) -> Option<Entry>
     ensures none { IfNone result ((x : Entry) → is_of_words x ≡ true → key.now ≢ front 32 (entry_text x)) }
 {
     let (first, last) = cut(rest, b' ');
-    if key == b"cloned".as_slice() {
+    if key == entry_words::CLONED {
         return Some(Entry::Cloned(clone(first), kind(last)));
     }
-    if key == b"told".as_slice() {
+    if key == entry_words::TOLD {
         return Some(Entry::Told(party(first), outcome(last)));
     }
-    if key == b"promoted".as_slice() {
+    if key == entry_words::PROMOTED {
         return Some(Entry::Promoted(identifier(first), cause(last)));
     }
-    if key == b"down".as_slice() {
+    if key == entry_words::DOWN {
         return Some(Entry::Down(connection(first), direction(last)));
     }
-    if key == b"armed".as_slice() {
+    if key == entry_words::ARMED {
         return Some(Entry::LogWord(LogNote::Armed(number8(first), image(last))));
     }
-    if key == b"opened".as_slice() {
+    if key == entry_words::OPENED {
         if last.is_empty() {
             return Some(Entry::LogWord(LogNote::Opened(number16(rest))));
         }
@@ -247,11 +248,11 @@ fn call(key: &[u8], rest: &[u8]) -> Option<Entry>
     ensures none { IfNone result ((x : Entry) → is_call x ≡ true → key.now ≢ front 32 (entry_text x)) }
 {
     let (first, last) = cut(rest, b' ');
-    if key == b"call".as_slice() {
+    if key == entry_words::CALL {
         let (name, text) = cut(last, b' ');
         return Some(Entry::Called(number32(first), actor(name), answer(text)));
     }
-    if key == b"answer".as_slice() {
+    if key == entry_words::ANSWER {
         return Some(Entry::Answered(number32(first), answer(last)));
     }
     None
@@ -266,12 +267,12 @@ fn crossing(at: Place, key: &[u8], rest: &[u8]) -> Entry
     let (first, last) = cut(rest, b' ');
     let conn = connection(first);
     let (word, text) = cut(last, b' ');
-    if key == b"cut".as_slice() {
+    if key == entry_words::CUT {
         return Entry::Cut(conn, number32(word), number32(text));
     }
     let d = direction(word);
     let m = message(at, conn, d, text);
-    if key == b"sent".as_slice() {
+    if key == entry_words::SENT {
         return Entry::Sent(conn, d, m);
     }
     Entry::Got(conn, d, m)
