@@ -1,9 +1,10 @@
--- The text of an identifier that is read.
-use Rattle.std.proofs.Common.{◌≡◌, ℕ, zero, suc, ◌<◌, ◌==◌, false, List, [], ◌∷◌, All, Some, inl, refl, ap, sym, ◌∙◌, arith}
+-- The text of an identifier.
+use Rattle.std.proofs.Common.{◌≡◌, ℕ, zero, suc, ◌<◌, ◌==◌, false, List, [], ◌∷◌, length, All, Some, inl, refl, ap, sym, ◌∙◌, arith}
 use Rattle.std.specs.Int.{w128, to_be_bytes, byte_at, bytes_high_first}
 use Rattle.std.proofs.lemmas.Bool.Decides.{nat_tests}
 use Rattle.std.proofs.lemmas.List.Elements.{All-nil, All-cons}
 use Rattle.uuid.specs.Text.{by_index, parsed, lower}
+use Rattle.uuid.proofs.TextLemmas.{by_index_length}
 use Rattle.uuid.proofs.RoundTrips.{parses_hyphenated}
 use Rattle.dtx_model.specs.TraceText.{id_text}
 use Rattle.line_tail.specs.Cut.{IsWithout}
@@ -37,3 +38,8 @@ without_by_index c (suc n) f h =
 pub id_without : (c u : ℕ) → c < 45 → IsWithout c (id_text u)
 unfolding id_text
 id_without c u h = without_by_index c 36 _ (λ k. grind (arith, nat_tests))
+
+-- an identifier's text has 36 bytes
+pub length-id : (u : ℕ) → length (id_text u) ≡ 36
+unfolding id_text
+length-id u = by_index_length 36 _

@@ -1,3 +1,4 @@
 pub mod Identifiers
-pub mod Numbers
+pub mod NumberTexts
+pub mod Values
 pub mod Without

@@ -9,7 +9,9 @@ use dtx_values::Ask;
 use line_tail::Tail;
 
 const PREPARE: &[u8] = b"prepare";
+
 const PROMOTE: &[u8] = b"promote";
+
 const SINGLE: &[u8] = b"single";
 
 /// Puts what is asked of an enlistment.

@@ -9,8 +9,11 @@ use dtx_values::Cause;
 use line_tail::Tail;
 
 const TWO: &[u8] = b"two";
+
 const SECOND: &[u8] = b"second";
+
 const BESIDE: &[u8] = b"beside";
+
 const MARSHAL: &[u8] = b"marshal";
 
 /// Puts the cause of a promotion.

@@ -9,9 +9,13 @@ use dtx_values::Class;
 use line_tail::Tail;
 
 const ZERO: &[u8] = b"zero";
+
 const ONE: &[u8] = b"one";
+
 const TWO: &[u8] = b"two";
+
 const SINGLE: &[u8] = b"single";
+
 const PROMOTABLE: &[u8] = b"promotable";
 
 /// Puts the class of an enlistment.

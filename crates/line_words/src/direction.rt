@@ -9,6 +9,7 @@ use dtx_values::Dir;
 use line_tail::Tail;
 
 const UP: &[u8] = b"up";
+
 const DOWN: &[u8] = b"down";
 
 /// Puts the direction of a message.

@@ -9,6 +9,7 @@ use dtx_values::EnlistOption;
 use line_tail::Tail;
 
 const NONE: &[u8] = b"none";
+
 const DURING: &[u8] = b"during";
 
 /// Puts the option of a volatile enlistment.

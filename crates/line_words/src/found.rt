@@ -7,6 +7,7 @@ ghost use Rattle.line_words.specs.declared.widths.TheConstants.{WORD_ROOM};
 use line_tail::Tail;
 
 const FOUND: &[u8] = b"found";
+
 const NONE: &[u8] = b"none";
 
 /// Puts whether a record was found.

@@ -9,7 +9,9 @@ use dtx_values::Image;
 use line_tail::Tail;
 
 const LOSE: &[u8] = b"lose";
+
 const KEEP: &[u8] = b"keep";
+
 const TORN: &[u8] = b"torn";
 
 /// Puts what a crash is wished to leave of the writes since the last sync.

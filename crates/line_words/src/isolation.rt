@@ -9,11 +9,17 @@ use dtx_values::Iso;
 use line_tail::Tail;
 
 const SERIALIZABLE: &[u8] = b"serializable";
+
 const REPEATABLE_READ: &[u8] = b"repeatableread";
+
 const READ_COMMITTED: &[u8] = b"readcommitted";
+
 const READ_UNCOMMITTED: &[u8] = b"readuncommitted";
+
 const SNAPSHOT: &[u8] = b"snapshot";
+
 const CHAOS: &[u8] = b"chaos";
+
 const UNSPECIFIED: &[u8] = b"unspecified";
 
 /// Puts an isolation.

@@ -9,6 +9,7 @@ use dtx_values::CloneKind;
 use line_tail::Tail;
 
 const BLOCK: &[u8] = b"block";
+
 const ROLLBACK: &[u8] = b"rollback";
 
 /// Puts what a clone does to a commit.

@@ -16,6 +16,7 @@ use dtx_values::{ActorNo, CloneNo, Conn, EnlNo, RmNo, ScopeNo, TxNo};
 use line_tail::Tail;
 
 const BEGIN: &[u8] = b"b";
+
 const VOTER: &[u8] = b"v";
 
 /// Puts a word and a number.
@@ -38,6 +39,14 @@ fn name_of(word: &[u8], letter: u8, most: u32) -> Option<u32>
         return None;
     }
     number_from(&word[1..], 1, most)
+}
+
+/// The enlistment whose number comes after this letter.
+fn enlisted(word: &[u8], letter: u8) -> Option<EnlNo>
+    ensures some { IfSome result (λ e. word.now ≡ letter ∷ decimal e.value) }
+    ensures of { (e : EnlNo) → word.now ≡ letter ∷ decimal e.value → result ≡ Some e }
+{
+    EnlNo::new(name_of(word, letter, EnlNo::MAX)?)
 }
 
 /// Puts the name of an actor.
@@ -91,7 +100,7 @@ pub fn enlistment_of(word: &[u8]) -> Option<EnlNo>
     ensures some { IfSome result (λ e. word.now ≡ enlistment_name e.value) }
     ensures of { (e : EnlNo) → word.now ≡ enlistment_name e.value → result ≡ Some e }
 {
-    EnlNo::new(name_of(word, b'e', EnlNo::MAX)?)
+    enlisted(word, b'e')
 }
 
 /// Puts the name of a clone.
@@ -176,5 +185,5 @@ pub fn connection_of(word: &[u8]) -> Option<Conn>
     if let Some(e) = enlistment_of(word) {
         return Some(Conn::Enl(e));
     }
-    Some(Conn::Again(EnlNo::new(name_of(word, b'x', EnlNo::MAX)?)?))
+    Some(Conn::Again(enlisted(word, b'x')?))
 }

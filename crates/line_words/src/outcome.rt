@@ -9,7 +9,9 @@ use dtx_values::Outcome;
 use line_tail::Tail;
 
 const COMMITTED: &[u8] = b"committed";
+
 const ABORTED: &[u8] = b"aborted";
+
 const IN_DOUBT: &[u8] = b"indoubt";
 
 /// Puts an outcome.

@@ -7,6 +7,7 @@ ghost use Rattle.line_words.specs.declared.widths.TheConstants.{WORD_ROOM};
 use line_tail::Tail;
 
 const OK: &[u8] = b"ok";
+
 const FAIL: &[u8] = b"fail";
 
 /// Puts whether a promotable enlistment could promote.

@@ -9,6 +9,7 @@ use dtx_values::Request;
 use line_tail::Tail;
 
 const COMMIT: &[u8] = b"commit";
+
 const ABORT: &[u8] = b"abort";
 
 /// Puts what an enlistment requests.

@@ -9,7 +9,9 @@ use dtx_values::Vote;
 use line_tail::Tail;
 
 const YES: &[u8] = b"yes";
+
 const NO: &[u8] = b"no";
+
 const DONE: &[u8] = b"done";
 
 /// Puts a vote.

@@ -48,3 +48,7 @@ text_of_read w i n k nonempty first d e small =
     let whole : take i w ≡ w = ap (λ j. take j w) k ∙ take-length w in
     let value : digits_value 10 w ≡ n = ap (λ v. digits_value 10 v) (sym whole) ∙ sym e in
     text_of_number w n (subst (λ (v : List ℕ). AllDigits 10 v) whole d) nonempty (λ z. absurd (first z)) value small
+
+-- numbers with one text are one number
+pub one_number : (n m : ℕ) → n < 2 ^ 64 → m < 2 ^ 64 → decimal n ≡ decimal m → n ≡ m
+one_number n m h k e = sym (digits_value-decimal own n h) ∙ ap (λ w. digits_value 10 w) e ∙ digits_value-decimal own m k
