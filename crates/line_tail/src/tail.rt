@@ -1,12 +1,16 @@
 //! The line that is being printed. It is made from its end to its start, as the digits of its numbers are, and then
 //! copied as a whole, which is quicker than copying each word.
 ghost use Rattle.std.specs.Prelude.{◌≡◌, ◌≤◌, ◌+◌, [], ◌++◌, decimal, length};
+ghost use Rattle.line_tail.specs.declared.tail.TheConstants.{LINE_ROOM, NUMBER_ROOM};
 
 use itoa::write_digits;
 use std::marker::Model;
 
 /// Room for the longest line.
-const LINE_ROOM: usize = 160;
+pub const LINE_ROOM: usize = 160;
+
+/// Room for the longest number.
+pub const NUMBER_ROOM: usize = 20;
 
 /// The end of a line. Contracts see its bytes.
 #[derive(Drop)]
@@ -53,7 +57,7 @@ impl Tail {
     /// Puts a text before what is there.
     #[inline(always)]
     pub fn put(&mut self, text: &[u8])
-        requires { length text.now + length self.old ≤ 160 }
+        requires { length text.now + length self.old ≤ LINE_ROOM }
         ensures text { self.new ≡ text.now ++ self.old }
         ensures length { length self.new ≡ length text.now + length self.old }
     {
@@ -66,9 +70,9 @@ impl Tail {
     /// Puts a number before what is there.
     #[inline]
     pub fn put_number(&mut self, n: u64)
-        requires { 20 + length self.old ≤ 160 }
+        requires { NUMBER_ROOM + length self.old ≤ LINE_ROOM }
         ensures text { self.new ≡ decimal n ++ self.old }
-        ensures length { length self.new ≤ 20 + length self.old }
+        ensures length { length self.new ≤ NUMBER_ROOM + length self.old }
     {
         self.start = write_digits(n, &mut self.bytes, self.start);
     }

@@ -1,0 +1,4 @@
+pub mod Identifiers
+pub mod NumberTexts
+pub mod Values
+pub mod Without
