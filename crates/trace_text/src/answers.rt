@@ -2,19 +2,23 @@
 ghost use Rattle.std.specs.Prelude.{◌≡◌, ◌≤◌, ◌+◌, ◌++◌, length, true};
 ghost use Rattle.dtx_values.specs.declared.entry.Answer.TheVariants.{Connected, Ended, Id, Isolation, Nested, Over};
 ghost use Rattle.dtx_model.specs.TraceText.{answer_text, is_answer_fit};
+ghost use Rattle.line_tail.specs.declared.tail.TheConstants.{LINE_ROOM};
+ghost use Rattle.trace_text.specs.declared.widths.TheConstants.{ANSWER_ROOM};
 
 use crate::answer_words;
 use crate::keys::{put_counted, put_key};
-use crate::names::{put_ambient, put_identifier};
-use crate::words::put_outcome;
+use crate::names::put_ambient;
 use dtx_values::{Answer, EnlNo, Iso, Outcome, RmNo, ScopeNo};
-use line_tail::{Tail, put_enlistment, put_isolation, put_manager, put_scope};
+use line_tail::Tail;
+use line_words::{
+    put_enlistment, put_identifier, put_isolation, put_manager, put_outcome, put_scope,
+};
 
 /// Puts the identifier of a promoted transaction.
 fn put_id(tail: &mut Tail, id: u128)
-    requires { 43 + length tail.old ≤ 160 }
+    requires { ANSWER_ROOM + length tail.old ≤ LINE_ROOM }
     ensures text { tail.new ≡ answer_text (Id id) ++ tail.old }
-    ensures length { length tail.new ≤ 43 + length tail.old }
+    ensures length { length tail.new ≤ ANSWER_ROOM + length tail.old }
 {
     put_identifier(tail, id);
     put_key(tail, answer_words::ID);
@@ -22,9 +26,9 @@ fn put_id(tail: &mut Tail, id: u128)
 
 /// Puts how the transaction ended already.
 fn put_ended(tail: &mut Tail, o: Outcome)
-    requires { 43 + length tail.old ≤ 160 }
+    requires { ANSWER_ROOM + length tail.old ≤ LINE_ROOM }
     ensures text { tail.new ≡ answer_text (Ended o) ++ tail.old }
-    ensures length { length tail.new ≤ 43 + length tail.old }
+    ensures length { length tail.new ≤ ANSWER_ROOM + length tail.old }
 {
     put_outcome(tail, o);
     put_key(tail, answer_words::ENDED);
@@ -32,9 +36,9 @@ fn put_ended(tail: &mut Tail, o: Outcome)
 
 /// Puts the manager that has recovered already.
 fn put_over(tail: &mut Tail, r: RmNo)
-    requires { 43 + length tail.old ≤ 160 }
+    requires { ANSWER_ROOM + length tail.old ≤ LINE_ROOM }
     ensures text { tail.new ≡ answer_text (Over r) ++ tail.old }
-    ensures length { length tail.new ≤ 43 + length tail.old }
+    ensures length { length tail.new ≤ ANSWER_ROOM + length tail.old }
 {
     put_manager(tail, r);
     put_key(tail, answer_words::OVER);
@@ -42,9 +46,9 @@ fn put_over(tail: &mut Tail, r: RmNo)
 
 /// Puts the enlistment that is connected still.
 fn put_connected(tail: &mut Tail, e: EnlNo)
-    requires { 43 + length tail.old ≤ 160 }
+    requires { ANSWER_ROOM + length tail.old ≤ LINE_ROOM }
     ensures text { tail.new ≡ answer_text (Connected e) ++ tail.old }
-    ensures length { length tail.new ≤ 43 + length tail.old }
+    ensures length { length tail.new ≤ ANSWER_ROOM + length tail.old }
 {
     put_enlistment(tail, e);
     put_key(tail, answer_words::CONNECTED);
@@ -52,9 +56,9 @@ fn put_connected(tail: &mut Tail, e: EnlNo)
 
 /// Puts the isolation that a scope asked for and that of the ambient transaction.
 fn put_mismatch(tail: &mut Tail, asked: Iso, ambient: Iso)
-    requires { 43 + length tail.old ≤ 160 }
+    requires { ANSWER_ROOM + length tail.old ≤ LINE_ROOM }
     ensures text { tail.new ≡ answer_text (Isolation asked ambient) ++ tail.old }
-    ensures length { length tail.new ≤ 43 + length tail.old }
+    ensures length { length tail.new ≤ ANSWER_ROOM + length tail.old }
 {
     put_isolation(tail, ambient);
     tail.put(b" ");
@@ -64,9 +68,9 @@ fn put_mismatch(tail: &mut Tail, asked: Iso, ambient: Iso)
 
 /// Puts the scope that is open within.
 fn put_nested(tail: &mut Tail, s: ScopeNo)
-    requires { 43 + length tail.old ≤ 160 }
+    requires { ANSWER_ROOM + length tail.old ≤ LINE_ROOM }
     ensures text { tail.new ≡ answer_text (Nested s) ++ tail.old }
-    ensures length { length tail.new ≤ 43 + length tail.old }
+    ensures length { length tail.new ≤ ANSWER_ROOM + length tail.old }
 {
     put_scope(tail, s);
     put_key(tail, answer_words::NESTED);
@@ -74,9 +78,9 @@ fn put_nested(tail: &mut Tail, s: ScopeNo)
 
 /// Puts an answer.
 pub fn put_answer(tail: &mut Tail, a: Answer)
-    requires { 43 + length tail.old ≤ 160 }
+    requires { ANSWER_ROOM + length tail.old ≤ LINE_ROOM }
     ensures text { tail.new ≡ answer_text a ++ tail.old }
-    ensures length { length tail.new ≤ 43 + length tail.old }
+    ensures length { length tail.new ≤ ANSWER_ROOM + length tail.old }
     ensures typed { is_answer_fit a ≡ true }
 {
     match a {

@@ -4,33 +4,34 @@ ghost use Rattle.dtx_values.specs.declared.entry.Entry.TheVariants.{Answered, As
 ghost use Rattle.dtx_values.specs.declared.entry.Entry.TheVariants.{OwnerAnswered, Promoted, PromoteReply, Promoting, Recovered, Requested, Restarted, Scope, Told, Voted};
 ghost use Rattle.dtx_model.specs.Grammar.{enlistment_name};
 ghost use Rattle.dtx_model.specs.TraceText.{entry_text, sent_text};
+ghost use Rattle.line_tail.specs.declared.tail.TheConstants.{LINE_ROOM};
+ghost use Rattle.line_words.specs.declared.widths.TheConstants.{NAME_ROOM, WORD_ROOM};
 ghost use Rattle.trace_text.specs.OneTrace.{is_cause_typed, is_typed};
 ghost use Rattle.trace_text.specs.Printed.{is_event};
+ghost use Rattle.trace_text.specs.declared.widths.TheConstants.{ENTRY_ROOM, SENT_ROOM};
 
 use crate::answers::put_answer;
 use crate::entry_words;
 use crate::keys::{put_counted, put_key};
 use crate::messages::put_sent;
-use crate::names::{put_ambient, put_identifier, put_party};
-use crate::words::{
-    put_ask, put_cause, put_class, put_direction, put_found, put_outcome, put_reply, put_request,
-    put_vote,
-};
+use crate::names::{put_ambient, put_party};
 use dtx_values::{
     ActorNo, Answer, Ask, Cause, Class, CloneKind, CloneNo, Conn, Dir, EnlNo, Entry, LogNote,
     Message, Outcome, Party, Request, RmNo, ScopeNote, Vote,
 };
-use line_tail::{
-    Tail, put_actor, put_clone, put_connection, put_enlistment, put_image, put_kind, put_manager,
-    put_numbered, put_scope,
+use line_tail::Tail;
+use line_words::{
+    put_actor, put_ask, put_cause, put_class, put_clone, put_connection, put_direction,
+    put_enlistment, put_found, put_identifier, put_image, put_kind, put_manager, put_numbered,
+    put_outcome, put_reply, put_request, put_scope, put_vote,
 };
 
 /// Puts a word, a space and an enlistment.
 #[inline(always)]
 fn put_of(tail: &mut Tail, word: &[u8], e: EnlNo)
-    requires { length word.now + 22 + length tail.old ≤ 160 }
+    requires { length word.now + 1 + NAME_ROOM + length tail.old ≤ LINE_ROOM }
     ensures text { tail.new ≡ word.now ++ codes " " ++ enlistment_name e.value ++ tail.old }
-    ensures length { length tail.new ≤ length word.now + 22 + length tail.old }
+    ensures length { length tail.new ≤ length word.now + 1 + NAME_ROOM + length tail.old }
 {
     put_enlistment(tail, e);
     put_key(tail, word);
@@ -38,9 +39,9 @@ fn put_of(tail: &mut Tail, word: &[u8], e: EnlNo)
 
 /// Puts the answer of a call, its actor and the line of the script.
 fn put_call(tail: &mut Tail, line: u32, actor: ActorNo, answer: Answer)
-    requires { 91 + length tail.old ≤ 160 }
+    requires { ENTRY_ROOM + length tail.old ≤ LINE_ROOM }
     ensures text { tail.new ≡ entry_text (Called line actor answer) ++ tail.old }
-    ensures length { length tail.new ≤ 91 + length tail.old }
+    ensures length { length tail.new ≤ ENTRY_ROOM + length tail.old }
     ensures typed { is_typed (Called line actor answer) ≡ true }
 {
     put_answer(tail, answer);
@@ -52,9 +53,9 @@ fn put_call(tail: &mut Tail, line: u32, actor: ActorNo, answer: Answer)
 
 /// Puts the answer that a call had waited for.
 fn put_answered(tail: &mut Tail, line: u32, answer: Answer)
-    requires { 91 + length tail.old ≤ 160 }
+    requires { ENTRY_ROOM + length tail.old ≤ LINE_ROOM }
     ensures text { tail.new ≡ entry_text (Answered line answer) ++ tail.old }
-    ensures length { length tail.new ≤ 91 + length tail.old }
+    ensures length { length tail.new ≤ ENTRY_ROOM + length tail.old }
     ensures typed { is_typed (Answered line answer) ≡ true }
 {
     put_answer(tail, answer);
@@ -64,9 +65,9 @@ fn put_answered(tail: &mut Tail, line: u32, answer: Answer)
 
 /// Puts a clone that was made and its kind.
 fn put_cloned(tail: &mut Tail, c: CloneNo, kind: CloneKind)
-    requires { 91 + length tail.old ≤ 160 }
+    requires { ENTRY_ROOM + length tail.old ≤ LINE_ROOM }
     ensures text { tail.new ≡ entry_text (Cloned c kind) ++ tail.old }
-    ensures length { length tail.new ≤ 91 + length tail.old }
+    ensures length { length tail.new ≤ ENTRY_ROOM + length tail.old }
 {
     put_kind(tail, kind);
     tail.put(b" ");
@@ -76,9 +77,9 @@ fn put_cloned(tail: &mut Tail, c: CloneNo, kind: CloneKind)
 
 /// Puts a clone that was completed.
 fn put_completed(tail: &mut Tail, c: CloneNo)
-    requires { 91 + length tail.old ≤ 160 }
+    requires { ENTRY_ROOM + length tail.old ≤ LINE_ROOM }
     ensures text { tail.new ≡ entry_text (Completed c) ++ tail.old }
-    ensures length { length tail.new ≤ 91 + length tail.old }
+    ensures length { length tail.new ≤ ENTRY_ROOM + length tail.old }
 {
     put_clone(tail, c);
     put_key(tail, entry_words::COMPLETED);
@@ -86,9 +87,9 @@ fn put_completed(tail: &mut Tail, c: CloneNo)
 
 /// Puts an enlistment that was made and its class.
 fn put_enlisted(tail: &mut Tail, e: EnlNo, class: Class)
-    requires { 91 + length tail.old ≤ 160 }
+    requires { ENTRY_ROOM + length tail.old ≤ LINE_ROOM }
     ensures text { tail.new ≡ entry_text (Enlisted e class) ++ tail.old }
-    ensures length { length tail.new ≤ 91 + length tail.old }
+    ensures length { length tail.new ≤ ENTRY_ROOM + length tail.old }
 {
     put_class(tail, class);
     tail.put(b" ");
@@ -97,9 +98,9 @@ fn put_enlisted(tail: &mut Tail, e: EnlNo, class: Class)
 
 /// Puts what an enlistment was asked.
 fn put_asked(tail: &mut Tail, e: EnlNo, ask: Ask)
-    requires { 91 + length tail.old ≤ 160 }
+    requires { ENTRY_ROOM + length tail.old ≤ LINE_ROOM }
     ensures text { tail.new ≡ entry_text (Asked e ask) ++ tail.old }
-    ensures length { length tail.new ≤ 91 + length tail.old }
+    ensures length { length tail.new ≤ ENTRY_ROOM + length tail.old }
 {
     put_ask(tail, ask);
     tail.put(b" ");
@@ -108,9 +109,9 @@ fn put_asked(tail: &mut Tail, e: EnlNo, ask: Ask)
 
 /// Puts the vote of an enlistment.
 fn put_voted(tail: &mut Tail, e: EnlNo, vote: Vote)
-    requires { 91 + length tail.old ≤ 160 }
+    requires { ENTRY_ROOM + length tail.old ≤ LINE_ROOM }
     ensures text { tail.new ≡ entry_text (Voted e vote) ++ tail.old }
-    ensures length { length tail.new ≤ 91 + length tail.old }
+    ensures length { length tail.new ≤ ENTRY_ROOM + length tail.old }
 {
     put_vote(tail, vote);
     tail.put(b" ");
@@ -119,9 +120,9 @@ fn put_voted(tail: &mut Tail, e: EnlNo, vote: Vote)
 
 /// Puts whether an enlistment could promote.
 fn put_promote_reply(tail: &mut Tail, e: EnlNo, ok: bool)
-    requires { 91 + length tail.old ≤ 160 }
+    requires { ENTRY_ROOM + length tail.old ≤ LINE_ROOM }
     ensures text { tail.new ≡ entry_text (PromoteReply e ok) ++ tail.old }
-    ensures length { length tail.new ≤ 91 + length tail.old }
+    ensures length { length tail.new ≤ ENTRY_ROOM + length tail.old }
 {
     put_reply(tail, ok);
     tail.put(b" ");
@@ -130,9 +131,9 @@ fn put_promote_reply(tail: &mut Tail, e: EnlNo, ok: bool)
 
 /// Puts what an enlistment requested.
 fn put_requested(tail: &mut Tail, e: EnlNo, request: Request)
-    requires { 91 + length tail.old ≤ 160 }
+    requires { ENTRY_ROOM + length tail.old ≤ LINE_ROOM }
     ensures text { tail.new ≡ entry_text (Requested e request) ++ tail.old }
-    ensures length { length tail.new ≤ 91 + length tail.old }
+    ensures length { length tail.new ≤ ENTRY_ROOM + length tail.old }
 {
     put_request(tail, request);
     tail.put(b" ");
@@ -141,9 +142,9 @@ fn put_requested(tail: &mut Tail, e: EnlNo, request: Request)
 
 /// Puts the outcome that the owner answered.
 fn put_owner_answer(tail: &mut Tail, e: EnlNo, outcome: Outcome)
-    requires { 91 + length tail.old ≤ 160 }
+    requires { ENTRY_ROOM + length tail.old ≤ LINE_ROOM }
     ensures text { tail.new ≡ entry_text (OwnerAnswered e outcome) ++ tail.old }
-    ensures length { length tail.new ≤ 91 + length tail.old }
+    ensures length { length tail.new ≤ ENTRY_ROOM + length tail.old }
 {
     put_outcome(tail, outcome);
     tail.put(b" ");
@@ -152,9 +153,9 @@ fn put_owner_answer(tail: &mut Tail, e: EnlNo, outcome: Outcome)
 
 /// Puts the outcome that was decided.
 fn put_decided(tail: &mut Tail, outcome: Outcome)
-    requires { 91 + length tail.old ≤ 160 }
+    requires { ENTRY_ROOM + length tail.old ≤ LINE_ROOM }
     ensures text { tail.new ≡ entry_text (Decided outcome) ++ tail.old }
-    ensures length { length tail.new ≤ 91 + length tail.old }
+    ensures length { length tail.new ≤ ENTRY_ROOM + length tail.old }
 {
     put_outcome(tail, outcome);
     put_key(tail, entry_words::DECIDED);
@@ -162,9 +163,9 @@ fn put_decided(tail: &mut Tail, outcome: Outcome)
 
 /// Puts the outcome that a party was told.
 fn put_told(tail: &mut Tail, party: Party, outcome: Outcome)
-    requires { 91 + length tail.old ≤ 160 }
+    requires { ENTRY_ROOM + length tail.old ≤ LINE_ROOM }
     ensures text { tail.new ≡ entry_text (Told party outcome) ++ tail.old }
-    ensures length { length tail.new ≤ 91 + length tail.old }
+    ensures length { length tail.new ≤ ENTRY_ROOM + length tail.old }
 {
     put_outcome(tail, outcome);
     tail.put(b" ");
@@ -174,9 +175,9 @@ fn put_told(tail: &mut Tail, party: Party, outcome: Outcome)
 
 /// Puts the cause of a promotion that began.
 fn put_promoting(tail: &mut Tail, cause: Cause)
-    requires { 91 + length tail.old ≤ 160 }
+    requires { ENTRY_ROOM + length tail.old ≤ LINE_ROOM }
     ensures text { tail.new ≡ entry_text (Promoting cause) ++ tail.old }
-    ensures length { length tail.new ≤ 91 + length tail.old }
+    ensures length { length tail.new ≤ ENTRY_ROOM + length tail.old }
 {
     put_cause(tail, cause);
     put_key(tail, entry_words::PROMOTING);
@@ -184,9 +185,9 @@ fn put_promoting(tail: &mut Tail, cause: Cause)
 
 /// Puts the identifier of a promoted transaction and the cause.
 fn put_promoted(tail: &mut Tail, id: u128, cause: Cause)
-    requires { 91 + length tail.old ≤ 160 }
+    requires { ENTRY_ROOM + length tail.old ≤ LINE_ROOM }
     ensures text { tail.new ≡ entry_text (Promoted id cause) ++ tail.old }
-    ensures length { length tail.new ≤ 91 + length tail.old }
+    ensures length { length tail.new ≤ ENTRY_ROOM + length tail.old }
     ensures typed { is_typed (Promoted id cause) ≡ true }
 {
     put_cause(tail, cause);
@@ -198,9 +199,9 @@ fn put_promoted(tail: &mut Tail, id: u128, cause: Cause)
 /// Puts a word, a space and a message.
 #[inline(always)]
 fn put_wire(tail: &mut Tail, word: &[u8], c: Conn, d: Dir, m: Message)
-    requires { length word.now + 68 + length tail.old ≤ 160 }
+    requires { length word.now + 1 + SENT_ROOM + length tail.old ≤ LINE_ROOM }
     ensures text { tail.new ≡ word.now ++ codes " " ++ sent_text c d m ++ tail.old }
-    ensures length { length tail.new ≤ length word.now + 68 + length tail.old }
+    ensures length { length tail.new ≤ length word.now + 1 + SENT_ROOM + length tail.old }
     ensures typed { is_cause_typed m ≡ true }
 {
     put_sent(tail, c, d, m);
@@ -209,9 +210,9 @@ fn put_wire(tail: &mut Tail, word: &[u8], c: Conn, d: Dir, m: Message)
 
 /// Puts how many messages were kept upward and downward on a connection that was cut.
 fn put_cut(tail: &mut Tail, c: Conn, up: u32, down: u32)
-    requires { 91 + length tail.old ≤ 160 }
+    requires { ENTRY_ROOM + length tail.old ≤ LINE_ROOM }
     ensures text { tail.new ≡ entry_text (Cut c up down) ++ tail.old }
-    ensures length { length tail.new ≤ 91 + length tail.old }
+    ensures length { length tail.new ≤ ENTRY_ROOM + length tail.old }
     ensures typed { is_typed (Cut c up down) ≡ true }
 {
     put_numbered(tail, b" ", u64::from(down));
@@ -222,9 +223,9 @@ fn put_cut(tail: &mut Tail, c: Conn, up: u32, down: u32)
 
 /// Puts the end of a connection that was seen.
 fn put_end(tail: &mut Tail, c: Conn, d: Dir)
-    requires { 91 + length tail.old ≤ 160 }
+    requires { ENTRY_ROOM + length tail.old ≤ LINE_ROOM }
     ensures text { tail.new ≡ entry_text (Down c d) ++ tail.old }
-    ensures length { length tail.new ≤ 91 + length tail.old }
+    ensures length { length tail.new ≤ ENTRY_ROOM + length tail.old }
 {
     put_direction(tail, d);
     tail.put(b" ");
@@ -234,9 +235,9 @@ fn put_end(tail: &mut Tail, c: Conn, d: Dir)
 
 /// Puts whether a restart found a record.
 fn put_restarted(tail: &mut Tail, found: bool)
-    requires { 91 + length tail.old ≤ 160 }
+    requires { ENTRY_ROOM + length tail.old ≤ LINE_ROOM }
     ensures text { tail.new ≡ entry_text (Restarted found) ++ tail.old }
-    ensures length { length tail.new ≤ 91 + length tail.old }
+    ensures length { length tail.new ≤ ENTRY_ROOM + length tail.old }
 {
     put_found(tail, found);
     put_key(tail, entry_words::RESTARTED);
@@ -244,9 +245,9 @@ fn put_restarted(tail: &mut Tail, found: bool)
 
 /// Puts a manager that has recovered.
 fn put_recovered(tail: &mut Tail, r: RmNo)
-    requires { 91 + length tail.old ≤ 160 }
+    requires { ENTRY_ROOM + length tail.old ≤ LINE_ROOM }
     ensures text { tail.new ≡ entry_text (Recovered r) ++ tail.old }
-    ensures length { length tail.new ≤ 91 + length tail.old }
+    ensures length { length tail.new ≤ ENTRY_ROOM + length tail.old }
 {
     put_manager(tail, r);
     put_key(tail, entry_words::RECOVERED);
@@ -254,9 +255,9 @@ fn put_recovered(tail: &mut Tail, r: RmNo)
 
 /// Puts what became of a scope.
 fn put_scope_note(tail: &mut Tail, x: ScopeNote)
-    requires { 91 + length tail.old ≤ 160 }
+    requires { ENTRY_ROOM + length tail.old ≤ LINE_ROOM }
     ensures text { tail.new ≡ entry_text (Scope x) ++ tail.old }
-    ensures length { length tail.new ≤ 91 + length tail.old }
+    ensures length { length tail.new ≤ ENTRY_ROOM + length tail.old }
 {
     match x {
         ScopeNote::Opened(s, t) => {
@@ -278,9 +279,9 @@ fn put_scope_note(tail: &mut Tail, x: ScopeNote)
 
 /// Puts a note of the log.
 fn put_log_note(tail: &mut Tail, x: LogNote)
-    requires { 91 + length tail.old ≤ 160 }
+    requires { ENTRY_ROOM + length tail.old ≤ LINE_ROOM }
     ensures text { tail.new ≡ entry_text (LogWord x) ++ tail.old }
-    ensures length { length tail.new ≤ 91 + length tail.old }
+    ensures length { length tail.new ≤ ENTRY_ROOM + length tail.old }
     ensures typed { is_typed (LogWord x) ≡ true }
 {
     match x {
@@ -296,9 +297,9 @@ fn put_log_note(tail: &mut Tail, x: LogNote)
 /// Puts an entry of one word.
 fn put_event(tail: &mut Tail, x: Entry)
     requires event { is_event x ≡ true }
-    requires room { 16 + length tail.old ≤ 160 }
+    requires room { WORD_ROOM + length tail.old ≤ LINE_ROOM }
     ensures text { tail.new ≡ entry_text x ++ tail.old }
-    ensures length { length tail.new ≤ 16 + length tail.old }
+    ensures length { length tail.new ≤ WORD_ROOM + length tail.old }
 {
     match x {
         Entry::CommitAsked => tail.put(entry_words::COMMIT),
@@ -318,9 +319,9 @@ fn put_event(tail: &mut Tail, x: Entry)
 
 /// Puts an entry.
 pub fn put_entry(tail: &mut Tail, x: Entry)
-    requires { 91 + length tail.old ≤ 160 }
+    requires { ENTRY_ROOM + length tail.old ≤ LINE_ROOM }
     ensures text { tail.new ≡ entry_text x ++ tail.old }
-    ensures length { length tail.new ≤ 91 + length tail.old }
+    ensures length { length tail.new ≤ ENTRY_ROOM + length tail.old }
     ensures typed { is_typed x ≡ true }
 {
     match x {

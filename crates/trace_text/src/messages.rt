@@ -1,19 +1,21 @@
 //! Messages on their connections.
 ghost use Rattle.std.specs.Prelude.{◌≡◌, ◌≤◌, ◌+◌, ◌++◌, length, true};
 ghost use Rattle.dtx_model.specs.TraceText.{message_text, sent_text};
+ghost use Rattle.line_tail.specs.declared.tail.TheConstants.{LINE_ROOM};
 ghost use Rattle.trace_text.specs.OneTrace.{is_cause_typed};
+ghost use Rattle.trace_text.specs.declared.widths.TheConstants.{MESSAGE_ROOM, SENT_ROOM};
 
 use crate::keys::put_counted;
 use crate::message_words;
-use crate::words::put_direction;
 use dtx_values::{Conn, Dir, Message};
-use line_tail::{Tail, put_connection};
+use line_tail::Tail;
+use line_words::{put_connection, put_direction};
 
 /// Puts the name of a message.
 fn put_message(tail: &mut Tail, m: Message)
-    requires { 28 + length tail.old ≤ 160 }
+    requires { MESSAGE_ROOM + length tail.old ≤ LINE_ROOM }
     ensures text { tail.new ≡ message_text m ++ tail.old }
-    ensures length { length tail.new ≤ 28 + length tail.old }
+    ensures length { length tail.new ≤ MESSAGE_ROOM + length tail.old }
     ensures typed { is_cause_typed m ≡ true }
 {
     match m {
@@ -50,9 +52,9 @@ fn put_message(tail: &mut Tail, m: Message)
 
 /// Puts a message, its direction and its connection.
 pub fn put_sent(tail: &mut Tail, c: Conn, d: Dir, m: Message)
-    requires { 67 + length tail.old ≤ 160 }
+    requires { SENT_ROOM + length tail.old ≤ LINE_ROOM }
     ensures text { tail.new ≡ sent_text c d m ++ tail.old }
-    ensures length { length tail.new ≤ 67 + length tail.old }
+    ensures length { length tail.new ≤ SENT_ROOM + length tail.old }
     ensures typed { is_cause_typed m ≡ true }
 {
     put_message(tail, m);

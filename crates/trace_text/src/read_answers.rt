@@ -3,14 +3,16 @@ ghost use Rattle.std.specs.Prelude.{◌≡◌, ◌≢◌, true, IfSome, IfNone};
 ghost use Rattle.dtx_values.specs.declared.entry.Answer.{Answer};
 ghost use Rattle.dtx_model.specs.TraceText.{answer_text, is_answer_fit};
 ghost use Rattle.trace_text.specs.ReadGroups.{is_plain_answer, is_refusal, is_detailed};
-ghost use Rattle.trace_words.specs.Cuts.{front, behind};
+ghost use Rattle.line_tail.specs.Cut.{behind, front};
 
 use crate::answer_words;
-use dtx_values::{Answer, Outcome};
-use trace_words::{
-    cut, enlistment, identifier, isolation, manager, number, number8, number16, outcome, scope,
-    transaction,
+use crate::free_words::{
+    enlistment, identifier, isolation, manager, number, number8, number16, outcome, scope,
 };
+use crate::names::ambient;
+use dtx_values::Answer;
+use line_tail::parts;
+use line_words::outcome_of;
 
 /// Reads an answer of a call that goes on or ended.
 fn plain(key: &[u8]) -> Option<Answer>
@@ -33,14 +35,8 @@ fn plain(key: &[u8]) -> Option<Answer>
     if key == answer_words::ACTIVE {
         return Some(Answer::StillActive);
     }
-    if key == b"committed".as_slice() {
-        return Some(Answer::OutcomeIs(Outcome::Committed));
-    }
-    if key == b"aborted".as_slice() {
-        return Some(Answer::OutcomeIs(Outcome::Aborted));
-    }
-    if key == b"indoubt".as_slice() {
-        return Some(Answer::OutcomeIs(Outcome::InDoubt));
+    if let Some(o) = outcome_of(key) {
+        return Some(Answer::OutcomeIs(o));
     }
     if key == answer_words::OPEN {
         return Some(Answer::StillOpen);
@@ -109,7 +105,7 @@ fn detailed(key: &[u8], rest: &[u8]) -> Option<Answer>
         return Some(Answer::Connected(enlistment(rest)));
     }
     if key == answer_words::ISOLATION {
-        let (asked, ambient) = cut(rest, b' ');
+        let (asked, ambient) = parts(rest, b' ');
         return Some(Answer::Isolation(isolation(asked), isolation(ambient)));
     }
     if key == answer_words::NESTED {
@@ -126,7 +122,7 @@ pub fn answer(text: &[u8]) -> Answer
     ensures found { (x : Answer) → is_answer_fit x ≡ true → text.now ≡ answer_text x → result ≡ x }
     ensures fit { is_answer_fit result ≡ true }
 {
-    let (key, rest) = cut(text, b' ');
+    let (key, rest) = parts(text, b' ');
     if let Some(x) = plain(key) {
         return x;
     }
@@ -136,8 +132,5 @@ pub fn answer(text: &[u8]) -> Answer
     if let Some(x) = detailed(key, rest) {
         return x;
     }
-    if key == b"none".as_slice() {
-        return Answer::Ambient(None);
-    }
-    Answer::Ambient(Some(transaction(key)))
+    Answer::Ambient(ambient(key))
 }

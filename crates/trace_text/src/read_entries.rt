@@ -1,74 +1,24 @@
 //! Entries, read freely as the words are.
-ghost use Rattle.std.specs.Prelude.{◌≡◌, ◌≢◌, ◌∷◌, ◌++◌, ℕ, List, Option, true, false, codes, IfSome, IfNone};
+ghost use Rattle.std.specs.Prelude.{◌≡◌, ◌≢◌, ◌∷◌, ◌++◌, ℕ, List, true, false, codes, IfSome, IfNone};
 ghost use Rattle.dtx_values.specs.declared.entry.Entry.{Entry};
-ghost use Rattle.dtx_values.specs.declared.entry.Party.{Party};
-ghost use Rattle.dtx_values.specs.declared.message.Conn.{Conn};
 ghost use Rattle.dtx_values.specs.declared.number.EnlNo.{EnlNo};
-ghost use Rattle.dtx_values.specs.declared.number.TxNo.{TxNo};
 ghost use Rattle.dtx_values.specs.declared.trace.Place.{Place};
-ghost use Rattle.dtx_model.specs.Grammar.{enlistment_name, connection_word};
-ghost use Rattle.dtx_model.specs.TraceText.{ambient_text, entry_text, party_text, place_text, is_entry_fit};
+ghost use Rattle.dtx_model.specs.Grammar.{enlistment_name};
+ghost use Rattle.dtx_model.specs.TraceText.{entry_text, is_entry_fit};
 ghost use Rattle.trace_text.specs.Printed.{is_event};
 ghost use Rattle.trace_text.specs.ReadGroups.{is_of_enlistment, is_about_enlistment, is_of_word, is_of_words, is_call};
-ghost use Rattle.trace_words.specs.Cuts.{front, behind};
+ghost use Rattle.line_tail.specs.Cut.{behind, front};
 
 use crate::entry_words;
+use crate::free_words::{
+    actor, ask, cause, class, clone, connection, direction, enlistment, found, identifier, image,
+    kind, manager, number, number8, number16, number32, outcome, reply, request, scope, vote,
+};
+use crate::names::{ambient, party};
 use crate::read_answers::answer;
 use crate::read_messages::message;
-use dtx_values::{Conn, EnlNo, Entry, LogNote, Party, Place, ScopeNote, TxNo};
-use trace_words::{
-    actor, ask, cause, class, clone, cut, direction, enlistment, identifier, image, kind, manager,
-    number, number8, number16, number32, outcome, request, scope, transaction, vote,
-};
-
-/// Reads a place.
-pub fn place(word: &[u8]) -> Place
-    ensures { (p : Place) → word.now ≡ place_text p → result ≡ p }
-{
-    if word == b"log".as_slice() {
-        return Place::Log;
-    }
-    if !word.is_empty() && word[0] == b'a' {
-        return Place::Context(actor(word));
-    }
-    Place::Transaction(transaction(word))
-}
-
-/// Reads who is told.
-fn party(word: &[u8]) -> Party
-    ensures { (p : Party) → word.now ≡ party_text p → result ≡ p }
-{
-    if word == b"client".as_slice() {
-        return Party::Client;
-    }
-    Party::Enl(enlistment(word))
-}
-
-/// Reads a connection.
-fn connection(word: &[u8]) -> Conn
-    ensures { (c : Conn) → word.now ≡ connection_word c → result ≡ c }
-{
-    if word == b"b".as_slice() {
-        return Conn::Begin;
-    }
-    if word == b"v".as_slice() {
-        return Conn::Voter;
-    }
-    if !word.is_empty() && word[0] == b'e' {
-        return Conn::Enl(enlistment(word));
-    }
-    Conn::Again(enlistment(word))
-}
-
-/// Reads the ambient transaction.
-fn ambient(word: &[u8]) -> Option<TxNo>
-    ensures { (t : Option TxNo) → word.now ≡ ambient_text t → result ≡ t }
-{
-    if word == b"none".as_slice() {
-        return None;
-    }
-    Some(transaction(word))
-}
+use dtx_values::{EnlNo, Entry, LogNote, Place, ScopeNote};
+use line_tail::parts;
 
 /// Reads an entry of its keyword alone.
 fn event(key: &[u8]) -> Option<Entry>
@@ -142,7 +92,7 @@ fn leading(words: &[u8]) -> (EnlNo, &[u8])
     ensures name { (e : EnlNo) (r : List ℕ) → words.now ≡ enlistment_name e.value ++ codes " " ++ r → result.0 ≡ e }
     ensures behind { (e : EnlNo) (r : List ℕ) → words.now ≡ enlistment_name e.value ++ codes " " ++ r → result.1.now ≡ r }
 {
-    let (name, word) = cut(words, b' ');
+    let (name, word) = parts(words, b' ');
     (enlistment(name), word)
 }
 
@@ -163,7 +113,7 @@ fn about_enlistment(key: &[u8], rest: &[u8]) -> Option<Entry>
         return Some(Entry::Voted(e, vote(word)));
     }
     if key == entry_words::PROMOTE {
-        return Some(Entry::PromoteReply(e, word == b"ok".as_slice()));
+        return Some(Entry::PromoteReply(e, reply(word)));
     }
     if key == entry_words::REQUEST {
         return Some(Entry::Requested(e, request(word)));
@@ -196,7 +146,7 @@ fn of_word(key: &[u8], rest: &[u8]) -> Option<Entry>
         return Some(Entry::Promoting(cause(rest)));
     }
     if key == entry_words::RESTARTED {
-        return Some(Entry::Restarted(rest == b"found".as_slice()));
+        return Some(Entry::Restarted(found(rest)));
     }
     if key == entry_words::RECOVERED {
         return Some(Entry::Recovered(manager(rest)));
@@ -216,7 +166,7 @@ fn of_words(key: &[u8], rest: &[u8]) -> Option<Entry>
     ensures fit { IfSome result (λ y. (p : Place) → is_entry_fit p y ≡ true) }
     ensures none { IfNone result ((x : Entry) → is_of_words x ≡ true → key.now ≢ front 32 (entry_text x)) }
 {
-    let (first, last) = cut(rest, b' ');
+    let (first, last) = parts(rest, b' ');
     if key == entry_words::CLONED {
         return Some(Entry::Cloned(clone(first), kind(last)));
     }
@@ -247,9 +197,9 @@ fn call(key: &[u8], rest: &[u8]) -> Option<Entry>
     ensures fit { IfSome result (λ y. (p : Place) → is_entry_fit p y ≡ true) }
     ensures none { IfNone result ((x : Entry) → is_call x ≡ true → key.now ≢ front 32 (entry_text x)) }
 {
-    let (first, last) = cut(rest, b' ');
+    let (first, last) = parts(rest, b' ');
     if key == entry_words::CALL {
-        let (name, text) = cut(last, b' ');
+        let (name, text) = parts(last, b' ');
         return Some(Entry::Called(number32(first), actor(name), answer(text)));
     }
     if key == entry_words::ANSWER {
@@ -264,9 +214,9 @@ fn crossing(at: Place, key: &[u8], rest: &[u8]) -> Entry
         is_of_words x ≡ false → is_call x ≡ false → key.now ≡ front 32 (entry_text x) → rest.now ≡ behind 32 (entry_text x) → result ≡ x }
     ensures fit { is_entry_fit at result ≡ true }
 {
-    let (first, last) = cut(rest, b' ');
+    let (first, last) = parts(rest, b' ');
     let conn = connection(first);
-    let (word, text) = cut(last, b' ');
+    let (word, text) = parts(last, b' ');
     if key == entry_words::CUT {
         return Entry::Cut(conn, number32(word), number32(text));
     }
@@ -286,7 +236,7 @@ pub fn entry(at: Place, text: &[u8]) -> Entry
     if let Some(x) = event(text) {
         return x;
     }
-    let (key, rest) = cut(text, b' ');
+    let (key, rest) = parts(text, b' ');
     if let Some(x) = of_enlistment(key, rest) {
         return x;
     }

@@ -5,11 +5,12 @@ ghost use Rattle.dtx_values.specs.declared.message.Message.{Message};
 ghost use Rattle.dtx_values.specs.declared.trace.Place.{Place};
 ghost use Rattle.dtx_values.specs.Lines.{is_begin_up, is_begin_down, is_voter_up, is_voter_down, is_enlist_up, is_enlist_down, is_reenlist_up, is_reenlist_down, has_line};
 ghost use Rattle.dtx_model.specs.TraceText.{id_at, is_message_fit, message_text};
-ghost use Rattle.trace_words.specs.Cuts.{front, behind};
+ghost use Rattle.line_tail.specs.Cut.{behind, front};
 
+use crate::free_words::number8;
 use crate::message_words;
 use dtx_values::{Conn, Dir, EnlNo, Info, Message, Place, RmNo};
-use trace_words::{cut, number8};
+use line_tail::parts;
 
 /// The node of the identifiers that messages have, in their upper 64 bits.
 const NODE: u128 = 18_446_744_073_709_551_616;
@@ -175,7 +176,7 @@ pub fn message(place: Place, conn: Conn, dir: Dir, text: &[u8]) -> Message
     ensures line { has_line conn dir result ≡ true }
     ensures fit { is_message_fit place conn result ≡ true }
 {
-    let (name, cause) = cut(text, b' ');
+    let (name, cause) = parts(text, b' ');
     match (conn, dir) {
         (Conn::Begin, Dir::Up) => begin_up(name),
         (Conn::Begin, Dir::Down) => begin_down(place, name),
