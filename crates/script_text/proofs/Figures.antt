@@ -1,15 +1,13 @@
 -- Numbers are written without a space.
-use Rattle.std.proofs.Common.{◌≡◌, ℕ, ◌^◌, ◌<◌, ◌≤◌, true, List, [], ◌∷◌, refl, sym, arith, decimal}
+use Rattle.std.proofs.Common.{◌≡◌, ℕ, ◌^◌, ◌<◌, ◌≤◌, true, List, [], ◌∷◌, refl, arith, decimal}
 use Rattle.std.specs.Str.Parse.{AllDigits}
 use Rattle.std.proofs.lemmas.Bool.Decides.{nat_tests}
 use Rattle.std.proofs.lemmas.Fmt.{digits_decimal}
 use Rattle.std.proofs.lemmas.Str.Parse.{digit_from_value}
 use Rattle.dtx_model.specs.Words.{each}
 use Rattle.dtx_model.specs.Grammar.{is_from}
-use Rattle.dtx_model.specs.Faults.{value_from, writes}
-use Rattle.dtx_model.proofs.Bools.{and_both, and_left, and_right}
+use Rattle.dtx_model.proofs.Bools.{and_both}
 use Rattle.dtx_model.proofs.Digits.{own}
-use Rattle.line_tail.proofs.SameBytes.{same_bytes-equal}
 
 -- a number of a range is in it
 in_range : (low high n : ℕ) → low ≤ n → n ≤ high → is_from low high n ≡ true

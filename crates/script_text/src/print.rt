@@ -8,6 +8,11 @@ ghost use Rattle.script_text.specs.declared.print.TheConstants.{COMMAND_ROOM};
 ghost use Rattle.script_text.specs.Print.{is_simple};
 ghost use Rattle.dtx_model.specs.Grammar.{IsScript, Reads, asked_iso_word, command_words, line_text, scope_name, script_text, timeout_word, transaction_name};
 
+use crate::verbs::{
+    AWAIT, BEGIN, CLONE, CLOSE, COMMIT, COMPLETE, CURRENT, DO, DURABLE, FINISH, GONE, LOSE,
+    MARSHAL, OPEN, PAR, PROMOTABLE, RECOVERED, REENLIST, REQUIRED, REQUIRES_NEW, RESTART, ROLLBACK,
+    SINGLE_PHASE, STATUS, STOP, SUPPRESS, TICK, TWO_PHASE, VOLATILE,
+};
 use dtx_values::{
     Body, CloneKind, CloneNo, Conn, EnlNo, EnlistOption, Image, IsoWord, Line, Opening, Outcome,
     RmNo, ScopeNo, Script, Support, Timeout, TxNo, Vote,
@@ -26,14 +31,25 @@ const MEAN_LINE: usize = 32;
 /// Room for the longest command.
 const COMMAND_ROOM: usize = 127;
 
+/// Puts a word and a space.
+#[inline(always)]
+fn put_word(tail: &mut Tail, word: &[u8])
+    requires { length word.now + 1 + length tail.old ≤ LINE_ROOM }
+    ensures text { tail.new ≡ word.now ++ 32 ∷ tail.old }
+    ensures length { length tail.new ≡ length word.now + 1 + length tail.old }
+{
+    tail.put(b" ");
+    tail.put(word);
+}
+
 /// Puts a word, a space and a transaction.
 fn put_of(tail: &mut Tail, word: &[u8], t: TxNo)
-    requires { length word.now + NAME_ROOM + length tail.old ≤ LINE_ROOM }
-    ensures text { tail.new ≡ word.now ++ transaction_name t.value ++ tail.old }
-    ensures length { length tail.new ≤ length word.now + NAME_ROOM + length tail.old }
+    requires { length word.now + 1 + NAME_ROOM + length tail.old ≤ LINE_ROOM }
+    ensures text { tail.new ≡ word.now ++ 32 ∷ transaction_name t.value ++ tail.old }
+    ensures length { length tail.new ≤ length word.now + 1 + NAME_ROOM + length tail.old }
 {
     put_transaction(tail, t);
-    tail.put(word);
+    put_word(tail, word);
 }
 
 /// Puts the words of a begin.
@@ -44,7 +60,7 @@ fn put_begin(tail: &mut Tail, t: TxNo, d: Timeout)
 {
     put_timeout(tail, d);
     tail.put(b" ");
-    put_of(tail, b"begin ", t);
+    put_of(tail, BEGIN, t);
 }
 
 /// Puts the words of a scope that may make a transaction; `word` is that of its option.
@@ -63,7 +79,7 @@ fn put_opened(tail: &mut Tail, s: ScopeNo, word: &[u8], t: TxNo, d: Timeout, i: 
     tail.put(word);
     tail.put(b" ");
     put_scope(tail, s);
-    tail.put(b"open ");
+    put_word(tail, OPEN);
 }
 
 /// Puts the words that open a scope.
@@ -73,12 +89,13 @@ fn put_open(tail: &mut Tail, s: ScopeNo, o: Opening)
     ensures length { length tail.new ≤ COMMAND_ROOM + length tail.old }
 {
     match o {
-        Opening::Required(t, d, i) => put_opened(tail, s, b"required", t, d, i),
-        Opening::RequiresNew(t, d, i) => put_opened(tail, s, b"requiresnew", t, d, i),
+        Opening::Required(t, d, i) => put_opened(tail, s, REQUIRED, t, d, i),
+        Opening::RequiresNew(t, d, i) => put_opened(tail, s, REQUIRES_NEW, t, d, i),
         Opening::Suppress => {
-            tail.put(b" suppress");
+            tail.put(SUPPRESS);
+            tail.put(b" ");
             put_scope(tail, s);
-            tail.put(b"open ");
+            put_word(tail, OPEN);
         }
     }
 }
@@ -95,7 +112,7 @@ fn put_volatile(tail: &mut Tail, t: TxNo, e: EnlNo, o: EnlistOption, v: Option<V
     tail.put(b" ");
     put_enlistment(tail, e);
     tail.put(b" ");
-    put_of(tail, b"volatile ", t);
+    put_of(tail, VOLATILE, t);
 }
 
 /// Puts the words of a durable enlistment.
@@ -109,18 +126,20 @@ fn put_durable(tail: &mut Tail, t: TxNo, e: EnlNo, r: RmNo, s: Support)
             put_owner_plan(tail, o);
             tail.put(b" ");
             put_vote_plan(tail, v);
-            tail.put(b" single ");
+            put_word(tail, SINGLE_PHASE);
+            tail.put(b" ");
         }
         Support::TwoPhase(v) => {
             put_vote_plan(tail, v);
-            tail.put(b" two ");
+            put_word(tail, TWO_PHASE);
+            tail.put(b" ");
         }
     }
     put_manager(tail, r);
     tail.put(b" ");
     put_enlistment(tail, e);
     tail.put(b" ");
-    put_of(tail, b"durable ", t);
+    put_of(tail, DURABLE, t);
 }
 
 /// Puts the words of a promotable enlistment.
@@ -147,7 +166,7 @@ fn put_promotable(
     tail.put(b" ");
     put_enlistment(tail, e);
     tail.put(b" ");
-    put_of(tail, b"promotable ", t);
+    put_of(tail, PROMOTABLE, t);
 }
 
 /// Puts the words that make a clone.
@@ -160,7 +179,7 @@ fn put_clone_made(tail: &mut Tail, t: TxNo, c: CloneNo, k: CloneKind)
     tail.put(b" ");
     put_clone(tail, c);
     tail.put(b" ");
-    put_of(tail, b"clone ", t);
+    put_of(tail, CLONE, t);
 }
 
 /// Puts the words of a tick.
@@ -171,7 +190,7 @@ fn put_tick(tail: &mut Tail, t: TxNo, n: u32)
 {
     tail.put_number(u64::from(n));
     tail.put(b" ");
-    put_of(tail, b"tick ", t);
+    put_of(tail, TICK, t);
 }
 
 /// Puts the words that do a pending step: which, and how often.
@@ -184,7 +203,7 @@ fn put_do(tail: &mut Tail, t: TxNo, k: u8, n: u16)
     tail.put(b" ");
     tail.put_number(u64::from(k));
     tail.put(b" ");
-    put_of(tail, b"do ", t);
+    put_of(tail, DO, t);
 }
 
 /// Puts the words that lose a connection, and how many messages are kept upward and downward.
@@ -199,7 +218,7 @@ fn put_lose(tail: &mut Tail, t: TxNo, c: Conn, up: u16, down: u16)
     tail.put(b" ");
     put_connection(tail, c);
     tail.put(b" ");
-    put_of(tail, b"lose ", t);
+    put_of(tail, LOSE, t);
 }
 
 /// Puts the words that say that a manager has recovered.
@@ -210,7 +229,7 @@ fn put_recovered(tail: &mut Tail, t: TxNo, r: RmNo)
 {
     put_manager(tail, r);
     tail.put(b" ");
-    put_of(tail, b"recovered ", t);
+    put_of(tail, RECOVERED, t);
 }
 
 /// Puts the words of a stop.
@@ -222,7 +241,7 @@ fn put_stop(tail: &mut Tail, n: u8, i: Image)
     put_image(tail, i);
     tail.put(b" ");
     tail.put_number(u64::from(n));
-    tail.put(b"stop ");
+    put_word(tail, STOP);
 }
 
 /// Puts a command that names a scope, a clone or an enlistment alone, or nothing.
@@ -234,27 +253,27 @@ fn put_simple(tail: &mut Tail, b: Body)
     match b {
         Body::Finish(s) => {
             put_scope(tail, s);
-            tail.put(b"finish ");
+            put_word(tail, FINISH);
         }
         Body::Close(s) => {
             put_scope(tail, s);
-            tail.put(b"close ");
+            put_word(tail, CLOSE);
         }
-        Body::Current => tail.put(b"current"),
+        Body::Current => tail.put(CURRENT),
         Body::Complete(c) => {
             put_clone(tail, c);
-            tail.put(b"complete ");
+            put_word(tail, COMPLETE);
         }
         Body::Gone(e) => {
             put_enlistment(tail, e);
-            tail.put(b"gone ");
+            put_word(tail, GONE);
         }
         Body::Reenlist(e) => {
             put_enlistment(tail, e);
-            tail.put(b"reenlist ");
+            put_word(tail, REENLIST);
         }
-        Body::Restart => tail.put(b"restart"),
-        Body::Par => tail.put(b"par"),
+        Body::Restart => tail.put(RESTART),
+        Body::Par => tail.put(PAR),
         _ => {}
     }
 }
@@ -272,11 +291,11 @@ fn put_command(tail: &mut Tail, b: Body)
         Body::Durable(t, e, r, s) => put_durable(tail, t, e, r, s),
         Body::Promotable(t, e, r, v, o, p) => put_promotable(tail, t, e, r, v, o, p),
         Body::Clone(t, c, k) => put_clone_made(tail, t, c, k),
-        Body::Commit(t) => put_of(tail, b"commit ", t),
-        Body::Rollback(t) => put_of(tail, b"rollback ", t),
-        Body::Marshal(t) => put_of(tail, b"marshal ", t),
-        Body::Status(t) => put_of(tail, b"status ", t),
-        Body::Await(t) => put_of(tail, b"await ", t),
+        Body::Commit(t) => put_of(tail, COMMIT, t),
+        Body::Rollback(t) => put_of(tail, ROLLBACK, t),
+        Body::Marshal(t) => put_of(tail, MARSHAL, t),
+        Body::Status(t) => put_of(tail, STATUS, t),
+        Body::Await(t) => put_of(tail, AWAIT, t),
         Body::Tick(t, n) => put_tick(tail, t, n),
         Body::Do(t, k, n) => put_do(tail, t, k, n),
         Body::Lose(t, c, up, down) => put_lose(tail, t, c, up, down),
