@@ -15,6 +15,7 @@ const PROMOTE: &[u8] = b"promote";
 const SINGLE: &[u8] = b"single";
 
 /// Puts what is asked of an enlistment.
+#[inline]
 pub fn put_ask(tail: &mut Tail, a: Ask)
     requires { WORD_ROOM + length tail.old ≤ LINE_ROOM }
     ensures text { tail.new ≡ ask_text a ++ tail.old }

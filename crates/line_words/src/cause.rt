@@ -17,6 +17,7 @@ const BESIDE: &[u8] = b"beside";
 const MARSHAL: &[u8] = b"marshal";
 
 /// Puts the cause of a promotion.
+#[inline]
 pub fn put_cause(tail: &mut Tail, c: Cause)
     requires { WORD_ROOM + length tail.old ≤ LINE_ROOM }
     ensures text { tail.new ≡ cause_text c ++ tail.old }

@@ -19,6 +19,7 @@ const SINGLE: &[u8] = b"single";
 const PROMOTABLE: &[u8] = b"promotable";
 
 /// Puts the class of an enlistment.
+#[inline]
 pub fn put_class(tail: &mut Tail, c: Class)
     requires { WORD_ROOM + length tail.old ≤ LINE_ROOM }
     ensures text { tail.new ≡ class_text c ++ tail.old }

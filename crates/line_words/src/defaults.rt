@@ -14,6 +14,7 @@ use line_tail::Tail;
 const DEFAULT: &[u8] = b"default";
 
 /// Puts a timeout.
+#[inline]
 pub fn put_timeout(tail: &mut Tail, d: Timeout)
     requires { NUMBER_ROOM + length tail.old ≤ LINE_ROOM }
     ensures text { tail.new ≡ timeout_word d ++ tail.old }
@@ -37,6 +38,7 @@ pub fn timeout_of(word: &[u8]) -> Option<Timeout>
 }
 
 /// Puts the isolation that is asked for.
+#[inline]
 pub fn put_asked_isolation(tail: &mut Tail, i: IsoWord)
     requires { WORD_ROOM + length tail.old ≤ LINE_ROOM }
     ensures text { tail.new ≡ asked_iso_word i ++ tail.old }

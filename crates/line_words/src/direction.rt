@@ -13,6 +13,7 @@ const UP: &[u8] = b"up";
 const DOWN: &[u8] = b"down";
 
 /// Puts the direction of a message.
+#[inline]
 pub fn put_direction(tail: &mut Tail, d: Dir)
     requires { WORD_ROOM + length tail.old ≤ LINE_ROOM }
     ensures text { tail.new ≡ direction_text d ++ tail.old }

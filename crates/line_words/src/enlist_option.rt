@@ -13,6 +13,7 @@ const NONE: &[u8] = b"none";
 const DURING: &[u8] = b"during";
 
 /// Puts the option of a volatile enlistment.
+#[inline]
 pub fn put_option(tail: &mut Tail, o: EnlistOption)
     requires { WORD_ROOM + length tail.old ≤ LINE_ROOM }
     ensures text { tail.new ≡ option_word o ++ tail.old }

@@ -11,6 +11,7 @@ const FOUND: &[u8] = b"found";
 const NONE: &[u8] = b"none";
 
 /// Puts whether a record was found.
+#[inline]
 pub fn put_found(tail: &mut Tail, found: bool)
     requires { WORD_ROOM + length tail.old ≤ LINE_ROOM }
     ensures text { tail.new ≡ found_text found ++ tail.old }

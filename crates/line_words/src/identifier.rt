@@ -9,6 +9,7 @@ use line_tail::Tail;
 use uuid::Uuid;
 
 /// Puts an identifier in the hyphenated form.
+#[inline]
 pub fn put_identifier(tail: &mut Tail, id: u128)
     requires { IDENTIFIER_ROOM + length tail.old ≤ LINE_ROOM }
     ensures text { tail.new ≡ id_text id ++ tail.old }

@@ -15,6 +15,7 @@ const KEEP: &[u8] = b"keep";
 const TORN: &[u8] = b"torn";
 
 /// Puts what a crash is wished to leave of the writes since the last sync.
+#[inline]
 pub fn put_image(tail: &mut Tail, i: Image)
     requires { WORD_ROOM + length tail.old ≤ LINE_ROOM }
     ensures text { tail.new ≡ image_word i ++ tail.old }

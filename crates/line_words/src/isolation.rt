@@ -23,6 +23,7 @@ const CHAOS: &[u8] = b"chaos";
 const UNSPECIFIED: &[u8] = b"unspecified";
 
 /// Puts an isolation.
+#[inline]
 pub fn put_isolation(tail: &mut Tail, i: Iso)
     requires { WORD_ROOM + length tail.old ≤ LINE_ROOM }
     ensures text { tail.new ≡ iso_word i ++ tail.old }

@@ -13,6 +13,7 @@ const BLOCK: &[u8] = b"block";
 const ROLLBACK: &[u8] = b"rollback";
 
 /// Puts what a clone does to a commit.
+#[inline]
 pub fn put_kind(tail: &mut Tail, k: CloneKind)
     requires { WORD_ROOM + length tail.old ≤ LINE_ROOM }
     ensures text { tail.new ≡ kind_word k ++ tail.old }

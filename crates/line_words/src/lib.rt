@@ -34,9 +34,10 @@ pub use image::{image_of, put_image};
 pub use isolation::{isolation_of, put_isolation};
 pub use kind::{kind_of, put_kind};
 pub use names::{
-    actor_of, clone_of, connection_of, enlistment_of, manager_of, put_actor, put_clone,
-    put_connection, put_enlistment, put_manager, put_numbered, put_scope, put_transaction,
-    scope_of, transaction_of,
+    ACTOR_LETTER, CLONE_LETTER, ENLISTMENT_LETTER, MANAGER_LETTER, REENLISTMENT_LETTER,
+    SCOPE_LETTER, TRANSACTION_LETTER, actor_of, clone_of, connection_of, enlistment_of, manager_of,
+    put_actor, put_clone, put_connection, put_enlistment, put_manager, put_numbered, put_scope,
+    put_transaction, scope_of, transaction_of,
 };
 pub use numbers::{number_from, number_of, number8_of, number16_of, number32_of};
 pub use outcome::{outcome_of, put_outcome};

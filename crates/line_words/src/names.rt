@@ -15,6 +15,27 @@ use crate::numbers::number_from;
 use dtx_values::{ActorNo, CloneNo, Conn, EnlNo, RmNo, ScopeNo, TxNo};
 use line_tail::Tail;
 
+/// The letter of an actor's name.
+pub const ACTOR_LETTER: u8 = b'a';
+
+/// The letter of a transaction's name.
+pub const TRANSACTION_LETTER: u8 = b't';
+
+/// The letter of an enlistment's name, and of its connection.
+pub const ENLISTMENT_LETTER: u8 = b'e';
+
+/// The letter of a clone's name.
+pub const CLONE_LETTER: u8 = b'c';
+
+/// The letter of a scope's name.
+pub const SCOPE_LETTER: u8 = b's';
+
+/// The letter of a manager's name.
+pub const MANAGER_LETTER: u8 = b'r';
+
+/// The letter of the connection of a reenlistment.
+pub const REENLISTMENT_LETTER: u8 = b'x';
+
 const BEGIN: &[u8] = b"b";
 
 const VOTER: &[u8] = b"v";
@@ -56,7 +77,7 @@ pub fn put_actor(tail: &mut Tail, a: ActorNo)
     ensures text { tail.new ≡ actor_name a.value ++ tail.old }
     ensures length { length tail.new ≤ NAME_ROOM + length tail.old }
 {
-    put_numbered(tail, b"a", u64::from(a.get()));
+    put_numbered(tail, &[ACTOR_LETTER], u64::from(a.get()));
 }
 
 /// Reads an actor's name.
@@ -64,7 +85,7 @@ pub fn actor_of(word: &[u8]) -> Option<ActorNo>
     ensures some { IfSome result (λ a. word.now ≡ actor_name a.value) }
     ensures of { (a : ActorNo) → word.now ≡ actor_name a.value → result ≡ Some a }
 {
-    ActorNo::new(name_of(word, b'a', ActorNo::MAX)?)
+    ActorNo::new(name_of(word, ACTOR_LETTER, ActorNo::MAX)?)
 }
 
 /// Puts the name of a transaction.
@@ -74,7 +95,7 @@ pub fn put_transaction(tail: &mut Tail, t: TxNo)
     ensures text { tail.new ≡ transaction_name t.value ++ tail.old }
     ensures length { length tail.new ≤ NAME_ROOM + length tail.old }
 {
-    put_numbered(tail, b"t", u64::from(t.get()));
+    put_numbered(tail, &[TRANSACTION_LETTER], u64::from(t.get()));
 }
 
 /// Reads a transaction's name.
@@ -82,7 +103,7 @@ pub fn transaction_of(word: &[u8]) -> Option<TxNo>
     ensures some { IfSome result (λ t. word.now ≡ transaction_name t.value) }
     ensures of { (t : TxNo) → word.now ≡ transaction_name t.value → result ≡ Some t }
 {
-    TxNo::new(name_of(word, b't', TxNo::MAX)?)
+    TxNo::new(name_of(word, TRANSACTION_LETTER, TxNo::MAX)?)
 }
 
 /// Puts the name of an enlistment.
@@ -92,7 +113,7 @@ pub fn put_enlistment(tail: &mut Tail, e: EnlNo)
     ensures text { tail.new ≡ enlistment_name e.value ++ tail.old }
     ensures length { length tail.new ≤ NAME_ROOM + length tail.old }
 {
-    put_numbered(tail, b"e", u64::from(e.get()));
+    put_numbered(tail, &[ENLISTMENT_LETTER], u64::from(e.get()));
 }
 
 /// Reads an enlistment's name.
@@ -100,7 +121,7 @@ pub fn enlistment_of(word: &[u8]) -> Option<EnlNo>
     ensures some { IfSome result (λ e. word.now ≡ enlistment_name e.value) }
     ensures of { (e : EnlNo) → word.now ≡ enlistment_name e.value → result ≡ Some e }
 {
-    enlisted(word, b'e')
+    enlisted(word, ENLISTMENT_LETTER)
 }
 
 /// Puts the name of a clone.
@@ -110,7 +131,7 @@ pub fn put_clone(tail: &mut Tail, c: CloneNo)
     ensures text { tail.new ≡ clone_name c.value ++ tail.old }
     ensures length { length tail.new ≤ NAME_ROOM + length tail.old }
 {
-    put_numbered(tail, b"c", u64::from(c.get()));
+    put_numbered(tail, &[CLONE_LETTER], u64::from(c.get()));
 }
 
 /// Reads a clone's name.
@@ -118,7 +139,7 @@ pub fn clone_of(word: &[u8]) -> Option<CloneNo>
     ensures some { IfSome result (λ c. word.now ≡ clone_name c.value) }
     ensures of { (c : CloneNo) → word.now ≡ clone_name c.value → result ≡ Some c }
 {
-    CloneNo::new(name_of(word, b'c', CloneNo::MAX)?)
+    CloneNo::new(name_of(word, CLONE_LETTER, CloneNo::MAX)?)
 }
 
 /// Puts the name of a scope.
@@ -128,7 +149,7 @@ pub fn put_scope(tail: &mut Tail, s: ScopeNo)
     ensures text { tail.new ≡ scope_name s.value ++ tail.old }
     ensures length { length tail.new ≤ NAME_ROOM + length tail.old }
 {
-    put_numbered(tail, b"s", u64::from(s.get()));
+    put_numbered(tail, &[SCOPE_LETTER], u64::from(s.get()));
 }
 
 /// Reads a scope's name.
@@ -136,7 +157,7 @@ pub fn scope_of(word: &[u8]) -> Option<ScopeNo>
     ensures some { IfSome result (λ s. word.now ≡ scope_name s.value) }
     ensures of { (s : ScopeNo) → word.now ≡ scope_name s.value → result ≡ Some s }
 {
-    ScopeNo::new(name_of(word, b's', ScopeNo::MAX)?)
+    ScopeNo::new(name_of(word, SCOPE_LETTER, ScopeNo::MAX)?)
 }
 
 /// Puts the name of a manager.
@@ -146,7 +167,7 @@ pub fn put_manager(tail: &mut Tail, r: RmNo)
     ensures text { tail.new ≡ manager_name r.value ++ tail.old }
     ensures length { length tail.new ≤ NAME_ROOM + length tail.old }
 {
-    put_numbered(tail, b"r", u64::from(r.get()));
+    put_numbered(tail, &[MANAGER_LETTER], u64::from(r.get()));
 }
 
 /// Reads a manager's name.
@@ -154,10 +175,11 @@ pub fn manager_of(word: &[u8]) -> Option<RmNo>
     ensures some { IfSome result (λ r. word.now ≡ manager_name r.value) }
     ensures of { (r : RmNo) → word.now ≡ manager_name r.value → result ≡ Some r }
 {
-    RmNo::new(name_of(word, b'r', RmNo::MAX)?)
+    RmNo::new(name_of(word, MANAGER_LETTER, RmNo::MAX)?)
 }
 
 /// Puts the word of a connection.
+#[inline]
 pub fn put_connection(tail: &mut Tail, c: Conn)
     requires { NAME_ROOM + length tail.old ≤ LINE_ROOM }
     ensures text { tail.new ≡ connection_word c ++ tail.old }
@@ -167,7 +189,7 @@ pub fn put_connection(tail: &mut Tail, c: Conn)
         Conn::Begin => tail.put(BEGIN),
         Conn::Voter => tail.put(VOTER),
         Conn::Enl(e) => put_enlistment(tail, e),
-        Conn::Again(e) => put_numbered(tail, b"x", u64::from(e.get())),
+        Conn::Again(e) => put_numbered(tail, &[REENLISTMENT_LETTER], u64::from(e.get())),
     }
 }
 
@@ -185,5 +207,5 @@ pub fn connection_of(word: &[u8]) -> Option<Conn>
     if let Some(e) = enlistment_of(word) {
         return Some(Conn::Enl(e));
     }
-    Some(Conn::Again(enlisted(word, b'x')?))
+    Some(Conn::Again(enlisted(word, REENLISTMENT_LETTER)?))
 }

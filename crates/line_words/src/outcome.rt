@@ -15,6 +15,7 @@ const ABORTED: &[u8] = b"aborted";
 const IN_DOUBT: &[u8] = b"indoubt";
 
 /// Puts an outcome.
+#[inline]
 pub fn put_outcome(tail: &mut Tail, o: Outcome)
     requires { WORD_ROOM + length tail.old ≤ LINE_ROOM }
     ensures text { tail.new ≡ outcome_text o ++ tail.old }

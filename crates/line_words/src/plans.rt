@@ -15,6 +15,7 @@ use line_tail::Tail;
 const SILENT: &[u8] = b"silent";
 
 /// Puts the vote that is planned, or that none is cast.
+#[inline]
 pub fn put_vote_plan(tail: &mut Tail, v: Option<Vote>)
     requires { WORD_ROOM + length tail.old ≤ LINE_ROOM }
     ensures text { tail.new ≡ vote_word v ++ tail.old }
@@ -38,6 +39,7 @@ pub fn vote_plan_of(word: &[u8]) -> Option<Option<Vote>>
 }
 
 /// Puts the outcome that the owner is to answer, or that it answers none.
+#[inline]
 pub fn put_owner_plan(tail: &mut Tail, o: Option<Outcome>)
     requires { WORD_ROOM + length tail.old ≤ LINE_ROOM }
     ensures text { tail.new ≡ owner_word o ++ tail.old }
@@ -61,6 +63,7 @@ pub fn owner_plan_of(word: &[u8]) -> Option<Option<Outcome>>
 }
 
 /// Puts whether the promotion is to succeed, or that it gets no reply.
+#[inline]
 pub fn put_promotion_plan(tail: &mut Tail, p: Option<bool>)
     requires { WORD_ROOM + length tail.old ≤ LINE_ROOM }
     ensures text { tail.new ≡ promote_word p ++ tail.old }

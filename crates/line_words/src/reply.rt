@@ -11,6 +11,7 @@ const OK: &[u8] = b"ok";
 const FAIL: &[u8] = b"fail";
 
 /// Puts whether a promotable enlistment could promote.
+#[inline]
 pub fn put_reply(tail: &mut Tail, ok: bool)
     requires { WORD_ROOM + length tail.old ≤ LINE_ROOM }
     ensures text { tail.new ≡ promote_text ok ++ tail.old }

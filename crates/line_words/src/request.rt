@@ -13,6 +13,7 @@ const COMMIT: &[u8] = b"commit";
 const ABORT: &[u8] = b"abort";
 
 /// Puts what an enlistment requests.
+#[inline]
 pub fn put_request(tail: &mut Tail, r: Request)
     requires { WORD_ROOM + length tail.old ≤ LINE_ROOM }
     ensures text { tail.new ≡ request_text r ++ tail.old }

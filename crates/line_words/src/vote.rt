@@ -15,6 +15,7 @@ const NO: &[u8] = b"no";
 const DONE: &[u8] = b"done";
 
 /// Puts a vote.
+#[inline]
 pub fn put_vote(tail: &mut Tail, v: Vote)
     requires { WORD_ROOM + length tail.old ≤ LINE_ROOM }
     ensures text { tail.new ≡ cast_vote_text v ++ tail.old }

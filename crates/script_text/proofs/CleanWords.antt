@@ -8,8 +8,8 @@ use Rattle.dtx_model.specs.Grammar.{is_from}
 use Rattle.dtx_model.specs.Faults.{Pattern, allows, is_name, is_number, same_bytes, writes, line_forms}
 use Rattle.dtx_model.proofs.Bools.{and_both, and_left, and_right, or_case}
 use Rattle.line_tail.proofs.SameBytes.{same_bytes-equal}
-use Rattle.script_words.proofs.Numbers.{to_high}
-use Rattle.script_text.proofs.Figures.{writes_one, clean_decimal}
+use Rattle.script_words.proofs.Numbers.{to_high, writes_one}
+use Rattle.script_text.proofs.Figures.{clean_decimal}
 use Rattle.script_text.proofs.WordFaults.{fits, fits_some}
 
 -- no byte of the word is a space or none that a line may have

@@ -1,33 +1,17 @@
--- Words that write numbers.
-use Rattle.std.proofs.Common.{◌≡◌, ℕ, ◌^◌, ◌<◌, ◌≤◌, true, List, [], ◌∷◌, refl, sym, arith, decimal}
+-- Numbers are written without a space.
+use Rattle.std.proofs.Common.{◌≡◌, ℕ, ◌^◌, ◌<◌, ◌≤◌, true, List, [], ◌∷◌, refl, arith, decimal}
 use Rattle.std.specs.Str.Parse.{AllDigits}
 use Rattle.std.proofs.lemmas.Bool.Decides.{nat_tests}
 use Rattle.std.proofs.lemmas.Fmt.{digits_decimal}
 use Rattle.std.proofs.lemmas.Str.Parse.{digit_from_value}
 use Rattle.dtx_model.specs.Words.{each}
 use Rattle.dtx_model.specs.Grammar.{is_from}
-use Rattle.dtx_model.specs.Faults.{value_from, writes}
-use Rattle.dtx_model.proofs.Bools.{and_both, and_left, and_right}
+use Rattle.dtx_model.proofs.Bools.{and_both}
 use Rattle.dtx_model.proofs.Digits.{own}
-use Rattle.line_tail.proofs.SameBytes.{same_bytes-equal}
 
 -- a number of a range is in it
 in_range : (low high n : ℕ) → low ≤ n → n ≤ high → is_from low high n ≡ true
 in_range low high n h k = grind (arith, nat_tests)
-
--- a number of a range is at least low
-pub from_low : (low high n : ℕ) → is_from low high n ≡ true → low ≤ n
-from_low low high n h = grind (arith, nat_tests)
-
--- a number in a range
-abbrev pub Within : ℕ → ℕ → Type 0
-Within low high = (n : ℕ) × (is_from low high n ≡ true)
-
--- a word that writes a number in the range is the text of one
-pub writes_one : (low high : ℕ) (w : List ℕ) → writes low high w ≡ true → (n : Within low high) × (decimal n.0 ≡ w)
-writes_one low high w h =
-    let e = same_bytes-equal w (decimal (value_from 0 w)) (and_left _ _ h) in
-    ((value_from 0 w, and_right _ _ h), sym e)
 
 -- digits are bytes without space
 clean_digits : (ds : List ℕ) → AllDigits 10 ds → each (λ b. is_from 33 126 b) ds ≡ true

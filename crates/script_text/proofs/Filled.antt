@@ -11,7 +11,7 @@ use Rattle.dtx_model.specs.Faults.{Pattern, word, number, allows, command_forms,
 use Rattle.dtx_model.proofs.Bools.{and_both, and_left, and_right, or_case, or_right}
 use Rattle.script_text.specs.Reader.{ahead}
 use Rattle.script_text.proofs.WordFaults.{fits, fits_some}
-use Rattle.script_text.proofs.Meanings.{Means, listed, counted, actor, transaction, enlistment, clone, scope, manager, connection, timeout, iso, option, vote, owner, promote, kind, image}
+use Rattle.script_words.proofs.Meanings.{Means, listed, counted, actor, transaction, enlistment, clone, scope, manager, connection, timeout, iso, option, vote, owner, promote, kind, image}
 
 infixr 10 ◌beside◌
 -- what is left of the words fills what is left of a form; with what was in front of it, it is all words

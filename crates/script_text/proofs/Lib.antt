@@ -9,7 +9,6 @@ pub mod Fitting
 pub mod GoodLines
 pub mod LineTexts
 pub mod Longer
-pub mod Meanings
 pub mod OneReading
 pub mod SameLines
 pub mod Scripts

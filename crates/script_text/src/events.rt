@@ -3,6 +3,7 @@ ghost use Rattle.std.specs.Prelude.{◌≡◌, codes, IfSome, IfNone};
 ghost use Rattle.script_text.specs.Reader.{IsAnswerTo, event_keys};
 ghost use Rattle.script_words.specs.Places.{IsOther};
 
+use crate::verbs::{DO, GONE, LOSE, PAR, RECOVERED, REENLIST, RESTART, STOP, TICK};
 use dtx_values::{BadCause, Body};
 use script_words::Words;
 
@@ -123,31 +124,31 @@ pub fn event_command(word: &[u8], words: &mut Words<'_>) -> Option<Result<Body, 
     ensures other { IfNone result (IsOther word.now event_keys) }
     ensures same { IfNone result (words.new ≡ words.old) }
 {
-    if word == b"tick".as_slice() {
+    if word == TICK {
         return Some(tick(words));
     }
-    if word == b"do".as_slice() {
+    if word == DO {
         return Some(steps(words));
     }
-    if word == b"lose".as_slice() {
+    if word == LOSE {
         return Some(lose(words));
     }
-    if word == b"gone".as_slice() {
+    if word == GONE {
         return Some(gone(words));
     }
-    if word == b"reenlist".as_slice() {
+    if word == REENLIST {
         return Some(reenlist(words));
     }
-    if word == b"recovered".as_slice() {
+    if word == RECOVERED {
         return Some(recovered(words));
     }
-    if word == b"stop".as_slice() {
+    if word == STOP {
         return Some(stop(words));
     }
-    if word == b"restart".as_slice() {
+    if word == RESTART {
         return Some(restart(words));
     }
-    if word == b"par".as_slice() {
+    if word == PAR {
         return Some(par(words));
     }
     None

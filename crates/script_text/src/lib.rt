@@ -10,6 +10,7 @@ mod print;
 mod reader;
 mod scopes;
 mod transactions;
+mod verbs;
 
 pub use dtx_values::{BadCause, Line, Script};
 pub use laws::reads_exactly;

@@ -2,6 +2,7 @@
 ghost use Rattle.std.specs.Prelude.{◌≡◌, ◌∷◌, codes};
 ghost use Rattle.script_text.specs.Reader.{IsOpening, IsSupport};
 
+use crate::verbs::{REQUIRED, REQUIRES_NEW, SINGLE_PHASE, SUPPRESS, TWO_PHASE};
 use dtx_values::{BadCause, Opening, Support};
 use script_words::Words;
 
@@ -45,13 +46,13 @@ pub fn opening(words: &mut Words<'_>) -> Result<Opening, BadCause>
     let Some(word) = words.next() else {
         return Err(BadCause::MissingWord);
     };
-    if word == b"required".as_slice() {
+    if word == REQUIRED {
         return required(words);
     }
-    if word == b"requiresnew".as_slice() {
+    if word == REQUIRES_NEW {
         return requires_new(words);
     }
-    if word == b"suppress".as_slice() {
+    if word == SUPPRESS {
         return suppress(words);
     }
     Err(BadCause::UnknownWord)
@@ -85,10 +86,10 @@ pub fn support(words: &mut Words<'_>) -> Result<Support, BadCause>
     let Some(word) = words.next() else {
         return Err(BadCause::MissingWord);
     };
-    if word == b"single".as_slice() {
+    if word == SINGLE_PHASE {
         return single(words);
     }
-    if word == b"two".as_slice() {
+    if word == TWO_PHASE {
         return two(words);
     }
     Err(BadCause::UnknownWord)

@@ -2,126 +2,73 @@
 ghost use Rattle.std.specs.Prelude.{◌≡◌, ◌≤◌, ◌+◌, [], ◌∷◌, ◌++◌, IfOk, codes, length, true};
 ghost use Rattle.std.specs.List.{join_with_byte};
 ghost use Rattle.dtx_values.specs.declared.script.Body.TheVariants.{Begin, Open, Volatile, Durable, Promotable, Clone, Tick, Do, Lose, Recovered, Stop};
+ghost use Rattle.line_tail.specs.declared.tail.TheConstants.{LINE_ROOM};
+ghost use Rattle.line_words.specs.declared.widths.TheConstants.{NAME_ROOM};
+ghost use Rattle.script_text.specs.declared.print.TheConstants.{COMMAND_ROOM};
 ghost use Rattle.script_text.specs.Print.{is_simple};
-ghost use Rattle.dtx_model.specs.Grammar.{IsScript, Reads, asked_iso_word, command_words, line_text, option_word, owner_word, promote_word, script_text, timeout_word, scope_name, transaction_name, vote_word};
+ghost use Rattle.dtx_model.specs.Grammar.{IsScript, Reads, asked_iso_word, command_words, line_text, scope_name, script_text, timeout_word, transaction_name};
 
+use crate::verbs::{
+    AWAIT, BEGIN, CLONE, CLOSE, COMMIT, COMPLETE, CURRENT, DO, DURABLE, FINISH, GONE, LOSE,
+    MARSHAL, OPEN, PAR, PROMOTABLE, RECOVERED, REENLIST, REQUIRED, REQUIRES_NEW, RESTART, ROLLBACK,
+    SINGLE_PHASE, STATUS, STOP, SUPPRESS, TICK, TWO_PHASE, VOLATILE,
+};
 use dtx_values::{
     Body, CloneKind, CloneNo, Conn, EnlNo, EnlistOption, Image, IsoWord, Line, Opening, Outcome,
     RmNo, ScopeNo, Script, Support, Timeout, TxNo, Vote,
 };
-use line_tail::{
-    Tail, put_actor, put_clone, put_connection, put_enlistment, put_image, put_isolation, put_kind,
-    put_manager, put_scope, put_transaction,
+use line_tail::Tail;
+use line_words::{
+    put_actor, put_asked_isolation, put_clone, put_connection, put_enlistment, put_image, put_kind,
+    put_manager, put_option, put_owner_plan, put_promotion_plan, put_scope, put_timeout,
+    put_transaction, put_vote_plan,
 };
 use std::alloc::{AllocError, Global};
 
 /// The bytes that are set aside for each line of a script: a little more than the mean.
 const MEAN_LINE: usize = 32;
 
-/// Puts the option of a volatile enlistment.
-fn put_option(tail: &mut Tail, o: EnlistOption)
-    requires { 16 + length tail.old ≤ 160 }
-    ensures text { tail.new ≡ option_word o ++ tail.old }
-    ensures length { length tail.new ≤ 16 + length tail.old }
-{
-    match o {
-        EnlistOption::Plain => tail.put(b"none"),
-        EnlistOption::DuringPrepare => tail.put(b"during"),
-    }
-}
+/// Room for the longest command.
+const COMMAND_ROOM: usize = 127;
 
-/// Puts the vote that is planned, or that none is cast.
-fn put_vote_plan(tail: &mut Tail, v: Option<Vote>)
-    requires { 16 + length tail.old ≤ 160 }
-    ensures text { tail.new ≡ vote_word v ++ tail.old }
-    ensures length { length tail.new ≤ 16 + length tail.old }
+/// Puts a word and a space.
+#[inline(always)]
+fn put_word(tail: &mut Tail, word: &[u8])
+    requires { length word.now + 1 + length tail.old ≤ LINE_ROOM }
+    ensures text { tail.new ≡ word.now ++ 32 ∷ tail.old }
+    ensures length { length tail.new ≡ length word.now + 1 + length tail.old }
 {
-    match v {
-        Some(Vote::Yes) => tail.put(b"yes"),
-        Some(Vote::No) => tail.put(b"no"),
-        Some(Vote::Done) => tail.put(b"done"),
-        None => tail.put(b"silent"),
-    }
-}
-
-/// Puts the outcome that the owner is to answer, or that it answers none.
-fn put_owner_plan(tail: &mut Tail, o: Option<Outcome>)
-    requires { 16 + length tail.old ≤ 160 }
-    ensures text { tail.new ≡ owner_word o ++ tail.old }
-    ensures length { length tail.new ≤ 16 + length tail.old }
-{
-    match o {
-        Some(Outcome::Committed) => tail.put(b"committed"),
-        Some(Outcome::Aborted) => tail.put(b"aborted"),
-        Some(Outcome::InDoubt) => tail.put(b"indoubt"),
-        None => tail.put(b"silent"),
-    }
-}
-
-/// Puts whether the promotion is to succeed, or that it gets no reply.
-fn put_promote_plan(tail: &mut Tail, p: Option<bool>)
-    requires { 16 + length tail.old ≤ 160 }
-    ensures text { tail.new ≡ promote_word p ++ tail.old }
-    ensures length { length tail.new ≤ 16 + length tail.old }
-{
-    match p {
-        Some(true) => tail.put(b"ok"),
-        Some(false) => tail.put(b"fail"),
-        None => tail.put(b"silent"),
-    }
-}
-
-/// Puts a timeout.
-fn put_timeout(tail: &mut Tail, d: Timeout)
-    requires { 20 + length tail.old ≤ 160 }
-    ensures text { tail.new ≡ timeout_word d ++ tail.old }
-    ensures length { length tail.new ≤ 20 + length tail.old }
-{
-    match d {
-        Timeout::Default => tail.put(b"default"),
-        Timeout::Milliseconds(n) => tail.put_number(u64::from(n)),
-    }
-}
-
-/// Puts the isolation that is asked for.
-fn put_asked_isolation(tail: &mut Tail, i: IsoWord)
-    requires { 16 + length tail.old ≤ 160 }
-    ensures text { tail.new ≡ asked_iso_word i ++ tail.old }
-    ensures length { length tail.new ≤ 16 + length tail.old }
-{
-    match i {
-        IsoWord::Default => tail.put(b"default"),
-        IsoWord::Level(i) => put_isolation(tail, i),
-    }
+    tail.put(b" ");
+    tail.put(word);
 }
 
 /// Puts a word, a space and a transaction.
 fn put_of(tail: &mut Tail, word: &[u8], t: TxNo)
-    requires { length word.now + 21 + length tail.old ≤ 160 }
-    ensures text { tail.new ≡ word.now ++ transaction_name t.value ++ tail.old }
-    ensures length { length tail.new ≤ length word.now + 21 + length tail.old }
+    requires { length word.now + 1 + NAME_ROOM + length tail.old ≤ LINE_ROOM }
+    ensures text { tail.new ≡ word.now ++ 32 ∷ transaction_name t.value ++ tail.old }
+    ensures length { length tail.new ≤ length word.now + 1 + NAME_ROOM + length tail.old }
 {
     put_transaction(tail, t);
-    tail.put(word);
+    put_word(tail, word);
 }
 
 /// Puts the words of a begin.
 fn put_begin(tail: &mut Tail, t: TxNo, d: Timeout)
-    requires { 118 + length tail.old ≤ 160 }
+    requires { COMMAND_ROOM + length tail.old ≤ LINE_ROOM }
     ensures text { tail.new ≡ join_with_byte 32 (command_words (Begin t d)) ++ tail.old }
-    ensures length { length tail.new ≤ 118 + length tail.old }
+    ensures length { length tail.new ≤ COMMAND_ROOM + length tail.old }
 {
     put_timeout(tail, d);
     tail.put(b" ");
-    put_of(tail, b"begin ", t);
+    put_of(tail, BEGIN, t);
 }
 
 /// Puts the words of a scope that may make a transaction; `word` is that of its option.
 fn put_opened(tail: &mut Tail, s: ScopeNo, word: &[u8], t: TxNo, d: Timeout, i: IsoWord)
     requires short { length word.now ≤ 11 }
-    requires room { 118 + length tail.old ≤ 160 }
+    requires room { COMMAND_ROOM + length tail.old ≤ LINE_ROOM }
     ensures text { tail.new ≡ join_with_byte 32 (codes "open" ∷ scope_name s.value ∷ word.now ∷ transaction_name t.value ∷ timeout_word d ∷ asked_iso_word i ∷ []) ++ tail.old }
-    ensures length { length tail.new ≤ 118 + length tail.old }
+    ensures length { length tail.new ≤ COMMAND_ROOM + length tail.old }
 {
     put_asked_isolation(tail, i);
     tail.put(b" ");
@@ -132,31 +79,32 @@ fn put_opened(tail: &mut Tail, s: ScopeNo, word: &[u8], t: TxNo, d: Timeout, i: 
     tail.put(word);
     tail.put(b" ");
     put_scope(tail, s);
-    tail.put(b"open ");
+    put_word(tail, OPEN);
 }
 
 /// Puts the words that open a scope.
 fn put_open(tail: &mut Tail, s: ScopeNo, o: Opening)
-    requires { 118 + length tail.old ≤ 160 }
+    requires { COMMAND_ROOM + length tail.old ≤ LINE_ROOM }
     ensures text { tail.new ≡ join_with_byte 32 (command_words (Open s o)) ++ tail.old }
-    ensures length { length tail.new ≤ 118 + length tail.old }
+    ensures length { length tail.new ≤ COMMAND_ROOM + length tail.old }
 {
     match o {
-        Opening::Required(t, d, i) => put_opened(tail, s, b"required", t, d, i),
-        Opening::RequiresNew(t, d, i) => put_opened(tail, s, b"requiresnew", t, d, i),
+        Opening::Required(t, d, i) => put_opened(tail, s, REQUIRED, t, d, i),
+        Opening::RequiresNew(t, d, i) => put_opened(tail, s, REQUIRES_NEW, t, d, i),
         Opening::Suppress => {
-            tail.put(b" suppress");
+            tail.put(SUPPRESS);
+            tail.put(b" ");
             put_scope(tail, s);
-            tail.put(b"open ");
+            put_word(tail, OPEN);
         }
     }
 }
 
 /// Puts the words of a volatile enlistment.
 fn put_volatile(tail: &mut Tail, t: TxNo, e: EnlNo, o: EnlistOption, v: Option<Vote>)
-    requires { 118 + length tail.old ≤ 160 }
+    requires { COMMAND_ROOM + length tail.old ≤ LINE_ROOM }
     ensures text { tail.new ≡ join_with_byte 32 (command_words (Volatile t e o v)) ++ tail.old }
-    ensures length { length tail.new ≤ 118 + length tail.old }
+    ensures length { length tail.new ≤ COMMAND_ROOM + length tail.old }
 {
     put_vote_plan(tail, v);
     tail.put(b" ");
@@ -164,32 +112,34 @@ fn put_volatile(tail: &mut Tail, t: TxNo, e: EnlNo, o: EnlistOption, v: Option<V
     tail.put(b" ");
     put_enlistment(tail, e);
     tail.put(b" ");
-    put_of(tail, b"volatile ", t);
+    put_of(tail, VOLATILE, t);
 }
 
 /// Puts the words of a durable enlistment.
 fn put_durable(tail: &mut Tail, t: TxNo, e: EnlNo, r: RmNo, s: Support)
-    requires { 118 + length tail.old ≤ 160 }
+    requires { COMMAND_ROOM + length tail.old ≤ LINE_ROOM }
     ensures text { tail.new ≡ join_with_byte 32 (command_words (Durable t e r s)) ++ tail.old }
-    ensures length { length tail.new ≤ 118 + length tail.old }
+    ensures length { length tail.new ≤ COMMAND_ROOM + length tail.old }
 {
     match s {
         Support::SinglePhase(v, o) => {
             put_owner_plan(tail, o);
             tail.put(b" ");
             put_vote_plan(tail, v);
-            tail.put(b" single ");
+            put_word(tail, SINGLE_PHASE);
+            tail.put(b" ");
         }
         Support::TwoPhase(v) => {
             put_vote_plan(tail, v);
-            tail.put(b" two ");
+            put_word(tail, TWO_PHASE);
+            tail.put(b" ");
         }
     }
     put_manager(tail, r);
     tail.put(b" ");
     put_enlistment(tail, e);
     tail.put(b" ");
-    put_of(tail, b"durable ", t);
+    put_of(tail, DURABLE, t);
 }
 
 /// Puts the words of a promotable enlistment.
@@ -202,11 +152,11 @@ fn put_promotable(
     o: Option<Outcome>,
     p: Option<bool>,
 )
-    requires { 127 + length tail.old ≤ 160 }
+    requires { COMMAND_ROOM + length tail.old ≤ LINE_ROOM }
     ensures text { tail.new ≡ join_with_byte 32 (command_words (Promotable t e r v o p)) ++ tail.old }
-    ensures length { length tail.new ≤ 127 + length tail.old }
+    ensures length { length tail.new ≤ COMMAND_ROOM + length tail.old }
 {
-    put_promote_plan(tail, p);
+    put_promotion_plan(tail, p);
     tail.put(b" ");
     put_owner_plan(tail, o);
     tail.put(b" ");
@@ -216,51 +166,51 @@ fn put_promotable(
     tail.put(b" ");
     put_enlistment(tail, e);
     tail.put(b" ");
-    put_of(tail, b"promotable ", t);
+    put_of(tail, PROMOTABLE, t);
 }
 
 /// Puts the words that make a clone.
 fn put_clone_made(tail: &mut Tail, t: TxNo, c: CloneNo, k: CloneKind)
-    requires { 118 + length tail.old ≤ 160 }
+    requires { COMMAND_ROOM + length tail.old ≤ LINE_ROOM }
     ensures text { tail.new ≡ join_with_byte 32 (command_words (Clone t c k)) ++ tail.old }
-    ensures length { length tail.new ≤ 118 + length tail.old }
+    ensures length { length tail.new ≤ COMMAND_ROOM + length tail.old }
 {
     put_kind(tail, k);
     tail.put(b" ");
     put_clone(tail, c);
     tail.put(b" ");
-    put_of(tail, b"clone ", t);
+    put_of(tail, CLONE, t);
 }
 
 /// Puts the words of a tick.
 fn put_tick(tail: &mut Tail, t: TxNo, n: u32)
-    requires { 118 + length tail.old ≤ 160 }
+    requires { COMMAND_ROOM + length tail.old ≤ LINE_ROOM }
     ensures text { tail.new ≡ join_with_byte 32 (command_words (Tick t n)) ++ tail.old }
-    ensures length { length tail.new ≤ 118 + length tail.old }
+    ensures length { length tail.new ≤ COMMAND_ROOM + length tail.old }
 {
     tail.put_number(u64::from(n));
     tail.put(b" ");
-    put_of(tail, b"tick ", t);
+    put_of(tail, TICK, t);
 }
 
 /// Puts the words that do a pending step: which, and how often.
 fn put_do(tail: &mut Tail, t: TxNo, k: u8, n: u16)
-    requires { 118 + length tail.old ≤ 160 }
+    requires { COMMAND_ROOM + length tail.old ≤ LINE_ROOM }
     ensures text { tail.new ≡ join_with_byte 32 (command_words (Do t k n)) ++ tail.old }
-    ensures length { length tail.new ≤ 118 + length tail.old }
+    ensures length { length tail.new ≤ COMMAND_ROOM + length tail.old }
 {
     tail.put_number(u64::from(n));
     tail.put(b" ");
     tail.put_number(u64::from(k));
     tail.put(b" ");
-    put_of(tail, b"do ", t);
+    put_of(tail, DO, t);
 }
 
 /// Puts the words that lose a connection, and how many messages are kept upward and downward.
 fn put_lose(tail: &mut Tail, t: TxNo, c: Conn, up: u16, down: u16)
-    requires { 118 + length tail.old ≤ 160 }
+    requires { COMMAND_ROOM + length tail.old ≤ LINE_ROOM }
     ensures text { tail.new ≡ join_with_byte 32 (command_words (Lose t c up down)) ++ tail.old }
-    ensures length { length tail.new ≤ 118 + length tail.old }
+    ensures length { length tail.new ≤ COMMAND_ROOM + length tail.old }
 {
     tail.put_number(u64::from(down));
     tail.put(b" ");
@@ -268,71 +218,71 @@ fn put_lose(tail: &mut Tail, t: TxNo, c: Conn, up: u16, down: u16)
     tail.put(b" ");
     put_connection(tail, c);
     tail.put(b" ");
-    put_of(tail, b"lose ", t);
+    put_of(tail, LOSE, t);
 }
 
 /// Puts the words that say that a manager has recovered.
 fn put_recovered(tail: &mut Tail, t: TxNo, r: RmNo)
-    requires { 118 + length tail.old ≤ 160 }
+    requires { COMMAND_ROOM + length tail.old ≤ LINE_ROOM }
     ensures text { tail.new ≡ join_with_byte 32 (command_words (Recovered t r)) ++ tail.old }
-    ensures length { length tail.new ≤ 118 + length tail.old }
+    ensures length { length tail.new ≤ COMMAND_ROOM + length tail.old }
 {
     put_manager(tail, r);
     tail.put(b" ");
-    put_of(tail, b"recovered ", t);
+    put_of(tail, RECOVERED, t);
 }
 
 /// Puts the words of a stop.
 fn put_stop(tail: &mut Tail, n: u8, i: Image)
-    requires { 118 + length tail.old ≤ 160 }
+    requires { COMMAND_ROOM + length tail.old ≤ LINE_ROOM }
     ensures text { tail.new ≡ join_with_byte 32 (command_words (Stop n i)) ++ tail.old }
-    ensures length { length tail.new ≤ 118 + length tail.old }
+    ensures length { length tail.new ≤ COMMAND_ROOM + length tail.old }
 {
     put_image(tail, i);
     tail.put(b" ");
     tail.put_number(u64::from(n));
-    tail.put(b"stop ");
+    put_word(tail, STOP);
 }
 
 /// Puts a command that names a scope, a clone or an enlistment alone, or nothing.
 fn put_simple(tail: &mut Tail, b: Body)
-    requires { 127 + length tail.old ≤ 160 }
+    requires { COMMAND_ROOM + length tail.old ≤ LINE_ROOM }
     ensures text { is_simple b ≡ true → tail.new ≡ join_with_byte 32 (command_words b) ++ tail.old }
-    ensures length { length tail.new ≤ 127 + length tail.old }
+    ensures length { length tail.new ≤ COMMAND_ROOM + length tail.old }
 {
     match b {
         Body::Finish(s) => {
             put_scope(tail, s);
-            tail.put(b"finish ");
+            put_word(tail, FINISH);
         }
         Body::Close(s) => {
             put_scope(tail, s);
-            tail.put(b"close ");
+            put_word(tail, CLOSE);
         }
-        Body::Current => tail.put(b"current"),
+        Body::Current => tail.put(CURRENT),
         Body::Complete(c) => {
             put_clone(tail, c);
-            tail.put(b"complete ");
+            put_word(tail, COMPLETE);
         }
         Body::Gone(e) => {
             put_enlistment(tail, e);
-            tail.put(b"gone ");
+            put_word(tail, GONE);
         }
         Body::Reenlist(e) => {
             put_enlistment(tail, e);
-            tail.put(b"reenlist ");
+            put_word(tail, REENLIST);
         }
-        Body::Restart => tail.put(b"restart"),
-        Body::Par => tail.put(b"par"),
+        Body::Restart => tail.put(RESTART),
+        Body::Par => tail.put(PAR),
         _ => {}
     }
 }
 
 /// Puts a command.
 fn put_command(tail: &mut Tail, b: Body)
-    requires { 127 + length tail.old ≤ 160 }
+    requires { COMMAND_ROOM + length tail.old ≤ LINE_ROOM }
     ensures text { tail.new ≡ join_with_byte 32 (command_words b) ++ tail.old }
-    ensures length { length tail.new ≤ 127 + length tail.old }
+    ensures length { length tail.new ≤ COMMAND_ROOM + length tail.old }
 {
     match b {
         Body::Begin(t, d) => put_begin(tail, t, d),
@@ -341,11 +291,11 @@ fn put_command(tail: &mut Tail, b: Body)
         Body::Durable(t, e, r, s) => put_durable(tail, t, e, r, s),
         Body::Promotable(t, e, r, v, o, p) => put_promotable(tail, t, e, r, v, o, p),
         Body::Clone(t, c, k) => put_clone_made(tail, t, c, k),
-        Body::Commit(t) => put_of(tail, b"commit ", t),
-        Body::Rollback(t) => put_of(tail, b"rollback ", t),
-        Body::Marshal(t) => put_of(tail, b"marshal ", t),
-        Body::Status(t) => put_of(tail, b"status ", t),
-        Body::Await(t) => put_of(tail, b"await ", t),
+        Body::Commit(t) => put_of(tail, COMMIT, t),
+        Body::Rollback(t) => put_of(tail, ROLLBACK, t),
+        Body::Marshal(t) => put_of(tail, MARSHAL, t),
+        Body::Status(t) => put_of(tail, STATUS, t),
+        Body::Await(t) => put_of(tail, AWAIT, t),
         Body::Tick(t, n) => put_tick(tail, t, n),
         Body::Do(t, k, n) => put_do(tail, t, k, n),
         Body::Lose(t, c, up, down) => put_lose(tail, t, c, up, down),

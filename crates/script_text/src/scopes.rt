@@ -4,6 +4,7 @@ ghost use Rattle.script_text.specs.Reader.{IsAnswerTo, scope_keys};
 ghost use Rattle.script_words.specs.Places.{IsOther};
 
 use crate::parts::opening;
+use crate::verbs::{CLOSE, CURRENT, FINISH, OPEN};
 use dtx_values::{BadCause, Body};
 use script_words::Words;
 
@@ -52,16 +53,16 @@ pub fn scope_command(word: &[u8], words: &mut Words<'_>) -> Option<Result<Body, 
     ensures other { IfNone result (IsOther word.now scope_keys) }
     ensures same { IfNone result (words.new ≡ words.old) }
 {
-    if word == b"open".as_slice() {
+    if word == OPEN {
         return Some(open(words));
     }
-    if word == b"finish".as_slice() {
+    if word == FINISH {
         return Some(finish(words));
     }
-    if word == b"close".as_slice() {
+    if word == CLOSE {
         return Some(close(words));
     }
-    if word == b"current".as_slice() {
+    if word == CURRENT {
         return Some(current(words));
     }
     None

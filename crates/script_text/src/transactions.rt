@@ -4,6 +4,9 @@ ghost use Rattle.script_text.specs.Reader.{IsAnswerTo, transaction_keys};
 ghost use Rattle.script_words.specs.Places.{IsOther};
 
 use crate::parts::support;
+use crate::verbs::{
+    AWAIT, BEGIN, CLONE, COMMIT, COMPLETE, DURABLE, MARSHAL, PROMOTABLE, ROLLBACK, STATUS, VOLATILE,
+};
 use dtx_values::{BadCause, Body};
 use script_words::Words;
 
@@ -136,37 +139,37 @@ pub fn transaction_command(word: &[u8], words: &mut Words<'_>) -> Option<Result<
     ensures other { IfNone result (IsOther word.now transaction_keys) }
     ensures same { IfNone result (words.new ≡ words.old) }
 {
-    if word == b"begin".as_slice() {
+    if word == BEGIN {
         return Some(begin(words));
     }
-    if word == b"volatile".as_slice() {
+    if word == VOLATILE {
         return Some(volatile(words));
     }
-    if word == b"durable".as_slice() {
+    if word == DURABLE {
         return Some(durable(words));
     }
-    if word == b"promotable".as_slice() {
+    if word == PROMOTABLE {
         return Some(promotable(words));
     }
-    if word == b"clone".as_slice() {
+    if word == CLONE {
         return Some(clone_made(words));
     }
-    if word == b"complete".as_slice() {
+    if word == COMPLETE {
         return Some(complete(words));
     }
-    if word == b"commit".as_slice() {
+    if word == COMMIT {
         return Some(commit(words));
     }
-    if word == b"rollback".as_slice() {
+    if word == ROLLBACK {
         return Some(rollback(words));
     }
-    if word == b"marshal".as_slice() {
+    if word == MARSHAL {
         return Some(marshal(words));
     }
-    if word == b"status".as_slice() {
+    if word == STATUS {
         return Some(status(words));
     }
-    if word == b"await".as_slice() {
+    if word == AWAIT {
         return Some(await_end(words));
     }
     None

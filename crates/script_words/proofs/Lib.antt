@@ -1,3 +1,4 @@
+pub mod Meanings
 pub mod Numbers
 pub mod Patterns
 pub mod Places

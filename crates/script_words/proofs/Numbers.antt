@@ -13,22 +13,9 @@ use Rattle.dtx_model.proofs.Bools.{and_left, and_right}
 use Rattle.dtx_model.proofs.Digits.{digit_value-digit, own}
 use Rattle.line_tail.proofs.SameBytes.{same_bytes-refl, same_bytes-equal}
 
--- digits without leading zeros are the text of their value
-pub text_of_number : (w : List ℕ) (n : ℕ) → AllDigits 10 w → 0 < length w → (get_or w 0 0 ≡ 48 → length w ≡ 1) → digits_value 10 w ≡ n → n < 2 ^ 64 → w ≡ decimal n
-text_of_number w n d k z e h = sym (decimal-digits_value own w d k z (omega arith)) ∙ ap decimal e
-
--- `0` alone is the text of 0
-pub zero_text : (w : List ℕ) → length w ≡ 1 → get_or w 0 0 ≡ 48 → w ≡ decimal 0
-zero_text [] n e = absurd (omega arith)
-zero_text (c ∷ []) n e = ap (λ x. x ∷ []) e ∙ sym (decimal_digit 0 (omega arith))
-zero_text (c ∷ d ∷ w) n e = absurd (omega arith)
-
--- digits, all of them read, are the text of what was read
-pub text_of_read : (w : List ℕ) (i n : ℕ) → i ≡ length w → 0 < length w → length w ≤ 10 → get_or w 0 0 ≢ 48 → AllDigits 10 (take i w) → n ≡ digits_value 10 (take i w) → n < 2 ^ 32 → w ≡ decimal n
-text_of_read w i n k nonempty short first d e small =
-    let whole : take i w ≡ w = ap (λ j. take j w) k ∙ take-length w in
-    let value : digits_value 10 w ≡ n = ap (λ v. digits_value 10 v) (sym whole) ∙ sym e in
-    text_of_number w n (subst (λ (v : List ℕ). AllDigits 10 v) whole d) nonempty (λ z. absurd (first z)) value (omega arith)
+-- a number of a range is at least low
+pub from_low : (low high n : ℕ) → is_from low high n ≡ true → low ≤ n
+from_low low high n h = grind (arith, nat_tests)
 
 -- a number from low to high is at most high
 pub to_high : (low high n : ℕ) → is_from low high n ≡ true → n ≤ high
@@ -49,19 +36,12 @@ value_from-decimal n h = value_from-digits 0 (decimal n) (digits_decimal own n h
 pub writes-decimal : (low high n : ℕ) → n < 2 ^ 64 → is_from low high n ≡ true → writes low high (decimal n) ≡ true
 writes-decimal low high n h r = rw (value_from-decimal n h, same_bytes-refl (decimal n)) r
 
--- a number's text out of a range writes none
-pub writes-out : (low high n : ℕ) → n < 2 ^ 64 → is_from low high n ≡ false → writes low high (decimal n) ≡ false
-writes-out low high n h r = rw (value_from-decimal n h, same_bytes-refl (decimal n)) r
+-- a number in a range
+abbrev pub Within : ℕ → ℕ → Type 0
+Within low high = (n : ℕ) × (is_from low high n ≡ true)
 
--- a word that is no number's text writes none
-pub writes-none : (low high : ℕ) (w : List ℕ) → high < 2 ^ 32 → ((n : ℕ) → n < 2 ^ 32 → w ≢ decimal n) → writes low high w ≡ false
-writes-none low high w h f = false_from_ne_true (writes low high w) (λ e.
-    let equal = same_bytes-equal w (decimal (value_from 0 w)) (and_left _ (is_from low high (value_from 0 w)) e) in
-    let within : is_from low high (value_from 0 w) ≡ true = and_right (same_bytes w (decimal (value_from 0 w))) _ e in
-    let below : value_from 0 w ≤ high = to_high low high (value_from 0 w) within in
-    f (value_from 0 w) (omega arith) equal)
-
--- a fact for `None`, where there is no value
-pub if_none : {A : Type 0} (P : Type 0) (o : Option A) → ((IsSome o → ⊥) → P) → IfNone o P
-if_none P None f = f (λ s. absurd (false≢true s))
-if_none P (Some x) f = tt
+-- a word that writes a number in the range is the text of one
+pub writes_one : (low high : ℕ) (w : List ℕ) → writes low high w ≡ true → (n : Within low high) × (decimal n.0 ≡ w)
+writes_one low high w h =
+    let e = same_bytes-equal w (decimal (value_from 0 w)) (and_left _ _ h) in
+    ((value_from 0 w, and_right _ _ h), sym e)

@@ -4,13 +4,18 @@ ghost use Rattle.dtx_model.specs.Grammar.{actor_name, transaction_name, enlistme
 ghost use Rattle.dtx_model.specs.Faults.{words_of, number as number_pattern, actor_pattern, transaction_pattern, enlistment_pattern, clone_pattern, scope_pattern, manager_pattern, connection_pattern, timeout_pattern, option_pattern, vote_pattern, owner_pattern, promote_pattern, kind_pattern, image_pattern, iso_pattern};
 ghost use Rattle.script_words.specs.Places.{IsAt, place_fault, end_fault};
 
-use crate::words;
-use crate::words::cause;
+use crate::causes::cause;
 use dtx_values::{
     ActorNo, BadCause, CloneKind, CloneNo, Conn, EnlNo, EnlistOption, Image, IsoWord, Outcome,
     RmNo, ScopeNo, Timeout, TxNo, Vote,
 };
 use line_tail::cut;
+use line_words::{
+    ACTOR_LETTER, CLONE_LETTER, ENLISTMENT_LETTER, MANAGER_LETTER, REENLISTMENT_LETTER,
+    SCOPE_LETTER, TRANSACTION_LETTER, actor_of, asked_isolation_of, clone_of, connection_of,
+    enlistment_of, image_of, kind_of, manager_of, number_from, option_of, owner_plan_of,
+    promotion_plan_of, scope_of, timeout_of, transaction_of, vote_plan_of,
+};
 use std::marker::Model;
 
 /// The words of a line that are left. Contracts see their list.
@@ -82,9 +87,9 @@ impl<'a> Words<'a> {
         let Some(word) = self.next() else {
             return Err(BadCause::MissingWord);
         };
-        match words::actor(word) {
+        match actor_of(word) {
             Some(a) => Ok(a),
-            None => Err(cause(word, b"a", false)),
+            None => Err(cause(word, &[ACTOR_LETTER], false)),
         }
     }
 
@@ -96,9 +101,9 @@ impl<'a> Words<'a> {
         let Some(word) = self.next() else {
             return Err(BadCause::MissingWord);
         };
-        match words::transaction(word) {
+        match transaction_of(word) {
             Some(t) => Ok(t),
-            None => Err(cause(word, b"t", false)),
+            None => Err(cause(word, &[TRANSACTION_LETTER], false)),
         }
     }
 
@@ -110,9 +115,9 @@ impl<'a> Words<'a> {
         let Some(word) = self.next() else {
             return Err(BadCause::MissingWord);
         };
-        match words::enlistment(word) {
+        match enlistment_of(word) {
             Some(e) => Ok(e),
-            None => Err(cause(word, b"e", false)),
+            None => Err(cause(word, &[ENLISTMENT_LETTER], false)),
         }
     }
 
@@ -124,9 +129,9 @@ impl<'a> Words<'a> {
         let Some(word) = self.next() else {
             return Err(BadCause::MissingWord);
         };
-        match words::clone(word) {
+        match clone_of(word) {
             Some(c) => Ok(c),
-            None => Err(cause(word, b"c", false)),
+            None => Err(cause(word, &[CLONE_LETTER], false)),
         }
     }
 
@@ -138,9 +143,9 @@ impl<'a> Words<'a> {
         let Some(word) = self.next() else {
             return Err(BadCause::MissingWord);
         };
-        match words::scope(word) {
+        match scope_of(word) {
             Some(s) => Ok(s),
-            None => Err(cause(word, b"s", false)),
+            None => Err(cause(word, &[SCOPE_LETTER], false)),
         }
     }
 
@@ -152,9 +157,9 @@ impl<'a> Words<'a> {
         let Some(word) = self.next() else {
             return Err(BadCause::MissingWord);
         };
-        match words::manager(word) {
+        match manager_of(word) {
             Some(r) => Ok(r),
-            None => Err(cause(word, b"r", false)),
+            None => Err(cause(word, &[MANAGER_LETTER], false)),
         }
     }
 
@@ -166,9 +171,9 @@ impl<'a> Words<'a> {
         let Some(word) = self.next() else {
             return Err(BadCause::MissingWord);
         };
-        match words::connection(word) {
+        match connection_of(word) {
             Some(c) => Ok(c),
-            None => Err(cause(word, b"ex", false)),
+            None => Err(cause(word, &[ENLISTMENT_LETTER, REENLISTMENT_LETTER], false)),
         }
     }
 
@@ -180,7 +185,7 @@ impl<'a> Words<'a> {
         let Some(word) = self.next() else {
             return Err(BadCause::MissingWord);
         };
-        match words::timeout(word) {
+        match timeout_of(word) {
             Some(d) => Ok(d),
             None => Err(cause(word, b"", true)),
         }
@@ -194,7 +199,7 @@ impl<'a> Words<'a> {
         let Some(word) = self.next() else {
             return Err(BadCause::MissingWord);
         };
-        match words::option(word) {
+        match option_of(word) {
             Some(o) => Ok(o),
             None => Err(cause(word, b"", false)),
         }
@@ -208,7 +213,7 @@ impl<'a> Words<'a> {
         let Some(word) = self.next() else {
             return Err(BadCause::MissingWord);
         };
-        match words::vote(word) {
+        match vote_plan_of(word) {
             Some(v) => Ok(v),
             None => Err(cause(word, b"", false)),
         }
@@ -222,7 +227,7 @@ impl<'a> Words<'a> {
         let Some(word) = self.next() else {
             return Err(BadCause::MissingWord);
         };
-        match words::owner(word) {
+        match owner_plan_of(word) {
             Some(o) => Ok(o),
             None => Err(cause(word, b"", false)),
         }
@@ -236,7 +241,7 @@ impl<'a> Words<'a> {
         let Some(word) = self.next() else {
             return Err(BadCause::MissingWord);
         };
-        match words::promotion(word) {
+        match promotion_plan_of(word) {
             Some(p) => Ok(p),
             None => Err(cause(word, b"", false)),
         }
@@ -250,7 +255,7 @@ impl<'a> Words<'a> {
         let Some(word) = self.next() else {
             return Err(BadCause::MissingWord);
         };
-        match words::kind(word) {
+        match kind_of(word) {
             Some(k) => Ok(k),
             None => Err(cause(word, b"", false)),
         }
@@ -264,7 +269,7 @@ impl<'a> Words<'a> {
         let Some(word) = self.next() else {
             return Err(BadCause::MissingWord);
         };
-        match words::image(word) {
+        match image_of(word) {
             Some(i) => Ok(i),
             None => Err(cause(word, b"", false)),
         }
@@ -278,7 +283,7 @@ impl<'a> Words<'a> {
         let Some(word) = self.next() else {
             return Err(BadCause::MissingWord);
         };
-        match words::isolation(word) {
+        match asked_isolation_of(word) {
             Some(i) => Ok(i),
             None => Err(cause(word, b"", false)),
         }
@@ -292,7 +297,7 @@ impl<'a> Words<'a> {
         let Some(word) = self.next() else {
             return Err(BadCause::MissingWord);
         };
-        match words::number_from(word, low, high) {
+        match number_from(word, low, high) {
             Some(n) => Ok(n),
             None => Err(cause(word, b"", true)),
         }

@@ -1,7 +1,7 @@
 //! The words of a script's line, and the values that they name.
 #![tactic(auto)]
 
+mod causes;
 mod cursor;
-mod words;
 
 pub use cursor::Words;

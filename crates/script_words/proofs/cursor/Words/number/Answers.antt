@@ -1,5 +1,6 @@
 use Rattle.std.proofs.Common.{rules, arith, decimal}
 use Rattle.dtx_model.specs.Faults.{number}
+use Rattle.script_words.proofs.Meanings.{counted, no_value, not_allowed}
 use Rattle.script_words.proofs.Places.{taken, misplaced}
 use Rattle.script_words.proofs.Patterns.{number_allowed}
 use Rattle.script_words.proofs.cursor.Words.number.Goals as goal
@@ -13,4 +14,6 @@ returns-in-Some-number_from-clause-ok c = (
 
 pub returns-in-None-clause-err : goal.returns-in-None-clause-err
 returns-in-None-clause-err c =
-    misplaced (number c.args.low c.args.high) c.args.self.now c.in-Some.word.now c.next.new.self _ (search rules) c.in-None.ensures.none c.cause.ensures
+    misplaced (number c.args.low c.args.high) c.args.self.now c.in-Some.word.now c.next.new.self _ (search rules)
+    (not_allowed (counted c.args.low c.args.high) c.in-Some.word.now (λ n e. no_value (c.in-None.ensures.of n.0 n.1 e)))
+    c.cause.ensures

@@ -1,5 +1,6 @@
 -- What may stand at a place of a form: each word that the place allows is the text of a value.
-use Rattle.std.proofs.Common.{◌≡◌, ℕ, ◌==◌, ◌&&◌, ◌||◌, Bool, true, false, List, [], ◌∷◌, refl, ap₂, sym, arith, codes, decimal, map, Option, Some, None, ◌⊎◌, inl, inr}
+use Rattle.std.proofs.Common.{◌≡◌, ◌≢◌, ℕ, ◌==◌, ◌&&◌, ◌||◌, Bool, true, false, List, [], ◌∷◌, refl, ap, ap₂, sym, arith, codes, decimal, map, Option, Some, None, is_some, ◌⊎◌, inl, inr}
+use Rattle.std.proofs.lemmas.Bool.{false_from_ne_true, false≢true}
 use Rattle.std.proofs.lemmas.Bool.Decides.{nat_tests}
 use Rattle.dtx_values.specs.declared.number.TheConstants.ActorNo.{MAX as ACTORS}
 use Rattle.dtx_values.specs.declared.number.TheConstants.TxNo.{MAX as TRANSACTIONS}
@@ -35,12 +36,19 @@ use Rattle.dtx_model.specs.Grammar.{actor_name, transaction_name, enlistment_nam
 use Rattle.dtx_model.specs.Faults.{Pattern, one_of, named, number, allows, same_bytes, writes, actor_pattern, transaction_pattern, enlistment_pattern, clone_pattern, scope_pattern, manager_pattern, connection_pattern, timeout_pattern, iso_pattern, option_pattern, vote_pattern, owner_pattern, promote_pattern, kind_pattern, image_pattern}
 use Rattle.dtx_model.proofs.Bools.{and_left, and_right, or_case}
 use Rattle.line_tail.proofs.SameBytes.{same_bytes-equal}
-use Rattle.script_words.proofs.Numbers.{to_high}
-use Rattle.script_text.proofs.Figures.{Within, writes_one, from_low}
+use Rattle.script_words.proofs.Numbers.{Within, from_low, to_high, writes_one}
 
 -- whatever word the place allows is the text of a value
 pub record Means (A : Type 0) (spell : A → List ℕ) (s : Pattern) : Type 0 where
   pub value : (w : List ℕ) → allows s w ≡ true → (x : A) × (spell x ≡ w)
+
+-- so a word that is the text of none isn't allowed
+pub not_allowed : {A : Type 0} {spell : A → List ℕ} {s : Pattern} (m : Means A spell s) (w : List ℕ) → ((x : A) → w ≢ spell x) → allows s w ≡ false
+not_allowed {A} {spell} {s} m w f = false_from_ne_true (allows s w) (λ h. let x = m.value w h in f x.0 (sym x.1))
+
+-- nothing was read, so no value
+pub no_value : {A : Type 0} {x : A} → None ≡ Some x → ⊥
+no_value e = false≢true (ap is_some e)
 
 -- either holds, and the second doesn't
 first_holds : (a : Bool) → (a || false) ≡ true → a ≡ true
