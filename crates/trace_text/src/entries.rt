@@ -327,7 +327,11 @@ pub fn put_entry(tail: &mut Tail, x: Entry)
     match x {
         Entry::Called(line, actor, answer) => put_call(tail, line, actor, answer),
         Entry::Answered(line, answer) => put_answered(tail, line, answer),
-        Entry::Began(milliseconds) => put_counted(tail, entry_words::BEGAN, u64::from(milliseconds)),
+        Entry::Began(milliseconds) => put_counted(
+            tail,
+            entry_words::BEGAN,
+            u64::from(milliseconds),
+        ),
         Entry::Cloned(c, kind) => put_cloned(tail, c, kind),
         Entry::Completed(c) => put_completed(tail, c),
         Entry::Enlisted(e, class) => put_enlisted(tail, e, class),

@@ -39,7 +39,11 @@ fn put_message(tail: &mut Tail, m: Message)
         Message::EnlistReadonly => tail.put(message_words::READONLY),
         Message::EnlistAck => tail.put(message_words::ACK),
         Message::EnlistEnlisted => tail.put(message_words::ENLISTED),
-        Message::EnlistRefused(cause) => put_counted(tail, message_words::REFUSED, u64::from(cause)),
+        Message::EnlistRefused(cause) => put_counted(
+            tail,
+            message_words::REFUSED,
+            u64::from(cause),
+        ),
         Message::EnlistPrepare => tail.put(message_words::PREPARE),
         Message::EnlistCommit => tail.put(message_words::COMMIT),
         Message::EnlistAbort => tail.put(message_words::ABORT),

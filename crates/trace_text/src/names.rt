@@ -13,7 +13,9 @@ use line_tail::Tail;
 use line_words::{actor_of, put_actor, put_enlistment, put_transaction};
 
 const LOG: &[u8] = b"log";
+
 const CLIENT: &[u8] = b"client";
+
 const NONE: &[u8] = b"none";
 
 /// Puts the place of an entry.
