@@ -43,14 +43,13 @@ wire_some n [] k h e = absurd (omega arith)
 wire_some n (x ∷ T) zero h e = ended (line_words n x) (frame_text x.1) (wire_lines_from (suc n) T) 10 e
 wire_some n (x ∷ T) (suc k) h e = wire_some n T k (omega arith) e
 
--- What is left of a text after that of the first entries.
+-- What is left of a text after that of the first entries: some bytes, where not all entries are printed.
 pub record HasLeft (wire : Bool) (T : List Placed) (k : ℕ) : Type 0 where
   pub left : List ℕ
   pub split : lines_text wire T ≡ lines_text wire (take k T) ++ left
-  pub some : left ≢ []
+  pub some : k < length T → left ≢ []
 
--- where not all entries are printed, some bytes are left
-pub has_left : (wire : Bool) (T : List Placed) (k : ℕ) → k < length T → HasLeft wire T k
+pub has_left : (wire : Bool) (T : List Placed) (k : ℕ) → HasLeft wire T k
 unfolding trace_text wire_text
-has_left false T k h = record { left = lines_from (suc k) (drop k T); split = lines_after 1 k (suc k) T (omega arith); some = lines_some (suc k) T k h }
-has_left true T k h = record { left = wire_lines_from (suc k) (drop k T); split = wire_after 1 k (suc k) T (omega arith); some = wire_some (suc k) T k h }
+has_left false T k = record { left = lines_from (suc k) (drop k T); split = lines_after 1 k (suc k) T (omega arith); some = lines_some (suc k) T k; }
+has_left true T k = record { left = wire_lines_from (suc k) (drop k T); split = wire_after 1 k (suc k) T (omega arith); some = wire_some (suc k) T k; }
