@@ -1,5 +1,6 @@
 pub mod Arrays
 pub mod Framed
+pub mod Lines
 pub mod OneTrace
 pub mod Plain
 pub mod Printing
