@@ -129,7 +129,7 @@ impl<N: Run> Model for Cells<N> {
 
     ghost view = { λ c. c.cells.items };
 
-    ghost invariant = { λ c. (length c.managers.items ≡ MAX) × AreManagers N.script N.script c.managers.items × (c.promoting.items ≡ map (λ l. is_promoting_line l.body) N.script) × AreFound c.cells.items c.places.items };
+    ghost invariant = { λ c. AreFound c.cells.items c.places.items × (length c.managers.items ≡ MAX) × AreManagers N.script N.script c.managers.items × (c.promoting.items ≡ map (λ l. is_promoting_line l.body) N.script) };
 }
 
 impl<N: Run> Cells<N> {
