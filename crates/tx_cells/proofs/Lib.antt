@@ -10,5 +10,6 @@ pub mod LogStep
 pub mod MayPromote
 pub mod Nearer
 pub mod Numbers
+pub mod Placed
 pub mod Stepped
 pub mod Turning

@@ -5,5 +5,6 @@ pub mod Following
 pub mod LogAnswers
 pub mod LogCell
 pub mod LogEntering
+pub mod Places
 pub mod Ties
 pub mod Turns

@@ -13,6 +13,7 @@ ghost use Rattle.tx_cells.specs.Entering.{may_promote_at};
 
 use crate::board::{BoardNote, Posted};
 use crate::cell::CellState;
+use crate::places::places_of;
 use crate::promoting::promoting_of;
 use crate::run::Run;
 use dtx_values::{Body, Call, EnlNo, Line, Opening, RmNo, Script, TxNo};
@@ -65,11 +66,11 @@ impl<N: Run> TxCell<N> {
         &self.lock
     }
 
-    /// Whether it is the cell of this transaction.
-    fn is_of(&self, t: TxNo) -> bool
-        ensures { result ≡ (self.now.transaction.value == t.value) }
+    /// The transaction.
+    pub fn t(&self) -> TxNo
+        ensures { result ≡ self.now.transaction }
     {
-        self.t == t
+        self.t
     }
 
     /// A note of the board that knows nothing.
@@ -81,8 +82,10 @@ impl<N: Run> TxCell<N> {
         }
     }
 
-    /// What the board has.
-    fn peek<'a>(&'a self, note: &mut BoardNote<N>) -> Option<&'a Posted<N>>
+    /// What is on the board, without the lock: no call of another thread makes it wait, and it takes no memory.
+    ///
+    /// To a note that knows nothing `None` is the answer of one look. A note that knows a value is answered that value, always.
+    pub fn peek<'a>(&'a self, note: &mut BoardNote<N>) -> Option<&'a Posted<N>>
         requires { note.old.cell ≡ self.now.board }
         ensures cell { note.new.cell ≡ note.old.cell }
         ensures value { MatchOption result ((note.old.known ≡ None) × (note.new.known ≡ None)) (λ r. (note.new.known ≡ Some r.now) × Agrees note.old.known r.now) }
@@ -106,6 +109,8 @@ impl<N: Run> TxCell<N> {
 #[derive(Drop)]
 pub struct Cells<N: Run> {
     cells: Vec<TxCell<N>>,
+    /// Of each transaction, at the place of its number, where its cell is.
+    places: Vec<Option<usize>>,
     /// The manager of each enlistment of the script, at the place of its number.
     managers: Vec<Option<RmNo>>,
     /// Of each line of the script, in order, whether it may begin a promotion.
@@ -114,8 +119,9 @@ pub struct Cells<N: Run> {
 
 impl<N: Run> Model for Cells<N> {
     ghost use Rattle.std.specs.Prelude.{◌≡◌, List, length, map};
-    ghost use Rattle.dtx_values.specs.declared.number.TheConstants.EnlNo.{MAX};
     ghost use Rattle.tx_cells.specs.Board.{Named};
+    ghost use Rattle.tx_cells.specs.Places.{AreFound};
+    ghost use Rattle.dtx_values.specs.declared.number.TheConstants.EnlNo.{MAX};
     ghost use Rattle.script_calls.specs.Managers.{AreManagers};
     ghost use Rattle.tx_cells.specs.Entering.{is_promoting_line};
 
@@ -123,7 +129,7 @@ impl<N: Run> Model for Cells<N> {
 
     ghost view = { λ c. c.cells.items };
 
-    ghost invariant = { λ c. (length c.managers.items ≡ MAX) × AreManagers N.script N.script c.managers.items × (c.promoting.items ≡ map (λ l. is_promoting_line l.body) N.script) };
+    ghost invariant = { λ c. AreFound c.cells.items c.places.items × (length c.managers.items ≡ MAX) × AreManagers N.script N.script c.managers.items × (c.promoting.items ≡ map (λ l. is_promoting_line l.body) N.script) };
 }
 
 impl<N: Run> Cells<N> {
@@ -139,18 +145,35 @@ impl<N: Run> Cells<N> {
     {
         let plans = Plans::new(alloc, s.lines())?;
         let all = transaction_rows(alloc, &plans)?;
+        let cells = cells_of(alloc, s.lines(), all)?;
         Ok(Cells {
-            cells: cells_of(alloc, s.lines(), all)?,
+            places: places_of(alloc, cells.as_slice())?,
+            cells,
             managers: managers_of(alloc, s.lines())?,
             promoting: promoting_of(alloc, s.lines())?,
         })
+    }
+
+    /// The cells, by number of their transactions.
+    pub fn all(&self) -> &[TxCell<N>]
+        ensures { result.now ≡ self.now }
+    {
+        self.cells.as_slice()
+    }
+
+    /// The cell of this transaction; `None` where it isn't one of the run. It is found at once, however many there are.
+    pub fn get(&self, t: TxNo) -> Option<&TxCell<N>>
+        ensures { MatchOption result (board_of self.now t.value ≡ None) (λ c. (board_of self.now t.value ≡ Some c.now.board) × (c.now.transaction.value ≡ t.value)) }
+    {
+        let place = self.places[t.index()]?;
+        Some(&self.cells[place])
     }
 
     /// Whether it is a transaction of the run.
     pub fn has(&self, t: TxNo) -> bool
         ensures { result ≡ is_some (board_of self.now t.value) }
     {
-        find(self.cells.as_slice(), t).is_some()
+        self.get(t).is_some()
     }
 
     /// The cell of a transaction of the run.
@@ -159,7 +182,7 @@ impl<N: Run> Cells<N> {
         ensures board { board_of self.now t.value ≡ Some result.now.board }
         ensures transaction { result.now.transaction.value ≡ t.value }
     {
-        match find(self.cells.as_slice(), t) {
+        match self.get(t) {
             Some(cell) => cell,
             None => unreachable!(),
         }
@@ -202,6 +225,7 @@ impl<N: Run> Cells<N> {
     {
         let Cells {
             cells,
+            places: _,
             managers: _,
             promoting: _,
         } = self;
@@ -231,18 +255,6 @@ pub fn peek_outcome<'a, N: Run>(
     ensures value { MatchOption result ((note.old.known ≡ None) × (note.new.known ≡ None)) (λ r. (note.new.known ≡ Some r.now) × Agrees note.old.known r.now) }
 {
     cells.cell(t).peek(note)
-}
-
-/// The cell of this transaction, where it is there.
-fn find<N: Run>(cells: &[TxCell<N>], t: TxNo) -> Option<&TxCell<N>>
-    ensures { MatchOption result (board_of cells.now t.value ≡ None) (λ c. (board_of cells.now t.value ≡ Some c.now.board) × (c.now.transaction.value ≡ t.value)) }
-{
-    let (first, rest) = cells.split_first()?;
-    if first.is_of(t) {
-        Some(first)
-    } else {
-        find(rest, t)
-    }
 }
 
 /// A cell for each transaction that the script names, by number, where these are the rows of all transactions, and no call was entered.

@@ -7,6 +7,7 @@ mod cells;
 mod choosing;
 mod error;
 mod lent;
+mod places;
 mod posting;
 mod promoting;
 mod run;

@@ -18,7 +18,7 @@ use script_calls::Due;
 use std::alloc::Global;
 use std::sync::{Mutex, Wait};
 use std::thread;
-use tx_cells::{BoardNote, CellState, Cells, Run, SharedLog, TurnError, Turned, peek_outcome};
+use tx_cells::{BoardNote, CellState, Cells, Run, SharedLog, TurnError, Turned, TxCell};
 
 /// Whether the transaction goes on: the client wasn't told, and a step is pending or a reply is out.
 #[tactic(auto, unfolding(dtx_model::specs::Observed::observe))]
@@ -41,14 +41,13 @@ fn is_of_line(next: &Option<Due<Call>>, line: u32) -> bool
 /// Enters the actor's await inside the lock of its transaction, unless that goes on: the client wasn't told, and a step is pending or a reply is out. Where the client was told, the board has that then, and the note knows it.
 fn enter_await<N: Run>(
     alloc: Global,
-    cells: &Cells<N>,
+    cell: &TxCell<N>,
     note: &mut BoardNote<N>,
     state: &mut CellState<N>,
     a: ActorNo,
     line: u32,
-    t: TxNo,
 ) -> Result<Turned, TurnError>
-    requires board { board_of cells.now t.value ≡ Some note.old.cell }
+    requires board { note.old.cell ≡ cell.now.board }
     requires awaits { is_await_at N.script line ≡ true }
     ensures cell { note.new.cell ≡ note.old.cell }
     ensures known { (o : Outcome) → result ≡ Ok (Turned.Did (Answer.OutcomeIs o)) → (x : Post) × (note.new.known ≡ Some x) }
@@ -58,7 +57,7 @@ fn enter_await<N: Run>(
     ensures later { result ≡ Ok Turned.Later → (latest client_told_of state.old.tx.world.past ≡ None) × (is_quiet state.old ≡ false) × (state.new ≡ state.old) }
     ensures memory { IfErr result (λ e. (e ≡ TurnError.Memory) × (state.new ≡ state.old)) }
 {
-    tell(alloc, cells, t, state, note)?;
+    tell(alloc, cell, state, note)?;
     let next = state.next(a);
     if goes_on(state) && is_of_line(&next, line) {
         return Ok(Turned::Later);
@@ -92,17 +91,18 @@ pub fn await_as<D: Disk, G: Gate, N: Run, R: Wait>(
     ensures known { (o : Outcome) → result ≡ Ok (Turned.Did (Answer.OutcomeIs o)) → (x : Post) × (note.new.known ≡ Some x) }
     ensures kept { (x : Post) → note.old.known ≡ Some x → note.new.known ≡ Some x }
 {
-    let _ = peek_outcome(cells, t, note);
+    let cell = cells.cell(t);
+    let _ = cell.peek(note);
     for _ in rt.forever() {
-        let mut state = cells.cell(t).state().lock(rt);
+        let mut state = cell.state().lock(rt);
         is_of(&state, t)?;
-        let turned = enter_await(alloc, cells, note, &mut state, a, line, t)?;
+        let turned = enter_await(alloc, cell, note, &mut state, a, line)?;
         if turned != Turned::Later {
             return Ok(turned);
         }
-        let came = begin_turn(rt, alloc, cells, log, note, &mut state, t)?;
+        let came = begin_turn(rt, alloc, cell, log, note, &mut state)?;
         drop(state);
-        if !end_turn(rt, alloc, cells, log, gate, resources, t, came)? {
+        if !end_turn(rt, alloc, cells, cell, log, gate, resources, came)? {
             thread::yield_now();
         }
     }

@@ -17,7 +17,7 @@ use outside::{Disk, Gate};
 use std::alloc::Global;
 use std::sync::{Mutex, Wait};
 use std::thread;
-use tx_cells::{CellState, Cells, LogState, Run, SharedLog, TurnError, Turned};
+use tx_cells::{CellState, Cells, LogState, Run, SharedLog, TurnError, Turned, TxCell};
 
 /// Enters the actor's next call inside the lock of its transaction, where it is of this line. Where it isn't, or waits, nothing is done. A line that may begin a promotion takes the lock of the log for as long.
 #[tactic(auto, using(tx_cells::proofs::EitherWay::enters_alone, tx_cells::proofs::EitherWay::enters_over))]
@@ -67,25 +67,24 @@ fn wait_for_answer<D: Disk, G: Gate, N: Run, R: Wait>(
     rt: &R,
     alloc: Global,
     cells: &Cells<N>,
+    cell: &TxCell<N>,
     log: &SharedLog<D, N>,
     gate: &G,
     resources: &[Mutex<Box<dyn Resource + Send>>],
     line: u32,
-    t: TxNo,
 ) -> Result<(), TurnError>
-    requires transaction { IsSome (board_of cells.now t.value) }
-    requires resources { length resources.now ≡ N.objects }
+    requires { length resources.now ≡ N.objects }
 {
     for _ in rt.forever() {
-        let mut state = cells.cell(t).state().lock(rt);
-        is_of(&state, t)?;
+        let mut state = cell.state().lock(rt);
+        is_of(&state, cell.t())?;
         if is_answered(state.history(), line) || state.is_quiet() {
             return Ok(());
         }
-        let mut note = cells.note_of(t);
-        let came = begin_turn(rt, alloc, cells, log, &mut note, &mut state, t)?;
+        let mut note = cell.note();
+        let came = begin_turn(rt, alloc, cell, log, &mut note, &mut state)?;
         drop(state);
-        if !end_turn(rt, alloc, cells, log, gate, resources, t, came)? {
+        if !end_turn(rt, alloc, cells, cell, log, gate, resources, came)? {
             thread::yield_now();
         }
     }
@@ -112,13 +111,14 @@ pub fn call_as<D: Disk, G: Gate, N: Run, R: Wait>(
     requires transaction { IsSome (board_of cells.now t.value) }
     requires resources { length resources.now ≡ N.objects }
 {
-    let mut state = cells.cell(t).state().lock(rt);
+    let cell = cells.cell(t);
+    let mut state = cell.state().lock(rt);
     is_of(&state, t)?;
     let turned = enter(rt, cells, log, &mut state, a, line)?;
-    tell(alloc, cells, t, &state, &mut cells.note_of(t))?;
+    tell(alloc, cell, &state, &mut cell.note())?;
     drop(state);
     if let Turned::Did(Answer::Wait) = turned {
-        wait_for_answer(rt, alloc, cells, log, gate, resources, line, t)?;
+        wait_for_answer(rt, alloc, cells, cell, log, gate, resources, line)?;
     }
     Ok(turned)
 }

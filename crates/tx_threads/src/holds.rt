@@ -3,7 +3,7 @@ ghost use Rattle.std.specs.Prelude.{◌≡◌, ◌≢◌, ◌⊎◌, IfErr, IsSo
 ghost use Rattle.dtx_model.specs.Entries.{client_told_of};
 ghost use Rattle.dtx_model.specs.Steps.{pending};
 ghost use Rattle.dtx_model.specs.Words.{kth, latest};
-ghost use Rattle.tx_cells.specs.Board.{Post, board_of};
+ghost use Rattle.tx_cells.specs.Board.{Post};
 ghost use Rattle.tx_cells.specs.Entering.{IsKthDone};
 ghost use Rattle.tx_cells.specs.Ties.{IsCause};
 ghost use Rattle.tx_cells.specs.Turns.{with_tx};
@@ -13,7 +13,7 @@ use dtx_values::{Differs, EnlNo, Note, TxNo};
 use outside::Disk;
 use std::alloc::Global;
 use std::sync::Wait;
-use tx_cells::{BoardNote, CellState, Cells, LogState, Run, SharedLog, TurnError, peek_outcome};
+use tx_cells::{BoardNote, CellState, LogState, Run, SharedLog, TurnError, TxCell};
 
 /// What came of a turn inside the lock, and so what is to be done behind it.
 #[derive(Clone, Copy, PartialEq, Eq, Debug)]
@@ -43,22 +43,21 @@ pub(crate) fn is_of<N: Run>(state: &CellState<N>, t: TxNo) -> Result<(), TurnErr
 /// Puts what the client was told on the board, inside the lock of the transaction, unless a value is there. Nothing is put where the client wasn't told.
 pub(crate) fn tell<N: Run>(
     alloc: Global,
-    cells: &Cells<N>,
-    t: TxNo,
+    cell: &TxCell<N>,
     state: &CellState<N>,
     note: &mut BoardNote<N>,
 ) -> Result<(), TurnError>
-    requires { board_of cells.now t.value ≡ Some note.old.cell }
+    requires { note.old.cell ≡ cell.now.board }
     ensures cell { note.new.cell ≡ note.old.cell }
     ensures memory { IfErr result (λ e. e ≡ TurnError.Memory) }
     ensures known { OnOk result (IsSome (latest client_told_of state.now.tx.world.past) → (x : Post) × (note.new.known ≡ Some x)) }
     ensures kept { (x : Post) → note.old.known ≡ Some x → note.new.known ≡ Some x }
 {
-    if let Some(_) = peek_outcome(cells, t, note) {
+    if let Some(_) = cell.peek(note) {
         return Ok(());
     }
     if let Some(posted) = state.post(alloc)? {
-        cells.cell(t).post(posted, note);
+        cell.post(posted, note);
     }
     Ok(())
 }

@@ -1,8 +1,7 @@
 //! A reply that is asked for while no lock is held, and brought back.
-ghost use Rattle.std.specs.Prelude.{◌≡◌, ◌≢◌, ◌⊎◌, ℕ, IfErr, IfOk, IfSome, IsSome, None, Ok, Some, false, length, true};
+ghost use Rattle.std.specs.Prelude.{◌≡◌, ◌≢◌, ◌⊎◌, ℕ, IfErr, IfOk, IfSome, None, Ok, Some, false, length, true};
 ghost use Rattle.dtx_model.specs.Steps.{Replies, pending};
 ghost use Rattle.dtx_model.specs.Words.{kth};
-ghost use Rattle.tx_cells.specs.Board.{board_of};
 ghost use Rattle.tx_cells.specs.Cell.{MayReply};
 ghost use Rattle.tx_cells.specs.Entering.{IsDone, IsKthDone};
 ghost use Rattle.tx_cells.specs.Turns.{is_due, is_that, unmarked, with_tx};
@@ -16,7 +15,7 @@ use outside::{Disk, Gate};
 use script_calls::fits;
 use std::alloc::Global;
 use std::sync::{Mutex, Wait};
-use tx_cells::{CellState, Cells, Run, SharedLog, TurnError};
+use tx_cells::{CellState, Cells, Run, SharedLog, TurnError, TxCell};
 
 /// What the object of the enlistment's manager replies to the note, while no other lock is held. `None` is the planned reply: there is no object, or it says nothing that fits the note.
 fn ask<N: Run, R: Wait>(
@@ -94,22 +93,22 @@ pub(crate) fn bring_back<D: Disk, G: Gate, N: Run, R: Wait>(
     rt: &R,
     alloc: Global,
     cells: &Cells<N>,
+    cell: &TxCell<N>,
     log: &SharedLog<D, N>,
     gate: &G,
     resources: &[Mutex<Box<dyn Resource + Send>>],
-    t: TxNo,
     e: EnlNo,
     n: Note,
 ) -> Result<(), TurnError>
-    requires transaction { IsSome (board_of cells.now t.value) }
-    requires resources { length resources.now ≡ N.objects }
+    requires { length resources.now ≡ N.objects }
 {
+    let t = cell.t();
     let reply = ask(rt, cells, resources, t, e, n);
     gate.at(t.get() as u16, e.get() as u16);
-    let mut state = cells.cell(t).state().lock(rt);
+    let mut state = cell.state().lock(rt);
     is_of(&state, t)?;
     let came = take_reply(rt, &mut state, log, e, n, reply)?;
-    tell(alloc, cells, t, &state, &mut cells.note_of(t))?;
+    tell(alloc, cell, &state, &mut cell.note())?;
     drop(state);
     if came == Came::Stopped {
         go_round(rt, alloc, cells, log)?;

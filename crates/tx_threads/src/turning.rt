@@ -14,7 +14,7 @@ use dtx_values::{EnlNo, Note, Resource, TxNo};
 use outside::{Disk, Gate};
 use std::alloc::Global;
 use std::sync::{Mutex, Wait};
-use tx_cells::{BoardNote, CellState, Cells, Run, SharedLog, Turn, TurnError};
+use tx_cells::{BoardNote, CellState, Cells, Run, SharedLog, Turn, TurnError, TxCell};
 
 /// Does what is to be done next in the transaction, inside its lock: the step, or marks the reply as out that is to be asked for.
 fn do_next<D: Disk, N: Run, R: Wait>(
@@ -43,13 +43,12 @@ fn do_next<D: Disk, N: Run, R: Wait>(
 pub(crate) fn begin_turn<D: Disk, N: Run, R: Wait>(
     rt: &R,
     alloc: Global,
-    cells: &Cells<N>,
+    cell: &TxCell<N>,
     log: &SharedLog<D, N>,
     note: &mut BoardNote<N>,
     state: &mut CellState<N>,
-    t: TxNo,
 ) -> Result<Came, TurnError>
-    requires { board_of cells.now t.value ≡ Some note.old.cell }
+    requires { note.old.cell ≡ cell.now.board }
     ensures nothing { result ≡ Ok Came.Nothing → (turn_of state.old ≡ Turn.Nothing) × (state.new ≡ state.old) }
     ensures exactly { turn_of state.old ≡ Turn.Nothing → IfOk result (λ c. c ≡ Came.Nothing) }
     ensures done { result ≡ Ok Came.Done → HasStepped state.old state.new }
@@ -61,7 +60,7 @@ pub(crate) fn begin_turn<D: Disk, N: Run, R: Wait>(
     ensures cause { IfErr result (MayFail D state.old.tx) }
 {
     let came = do_next(rt, log, state)?;
-    tell(alloc, cells, t, state, note)?;
+    tell(alloc, cell, state, note)?;
     Ok(came)
 }
 
@@ -70,21 +69,20 @@ pub(crate) fn end_turn<D: Disk, G: Gate, N: Run, R: Wait>(
     rt: &R,
     alloc: Global,
     cells: &Cells<N>,
+    cell: &TxCell<N>,
     log: &SharedLog<D, N>,
     gate: &G,
     resources: &[Mutex<Box<dyn Resource + Send>>],
-    t: TxNo,
     came: Came,
 ) -> Result<bool, TurnError>
-    requires transaction { IsSome (board_of cells.now t.value) }
-    requires resources { length resources.now ≡ N.objects }
+    requires { length resources.now ≡ N.objects }
     ensures { IfOk result (λ b. b ≡ is_turned came) }
 {
     match came {
         Came::Nothing => return Ok(false),
         Came::Done => {}
         Came::Stopped => go_round(rt, alloc, cells, log)?,
-        Came::Out(e, n) => bring_back(rt, alloc, cells, log, gate, resources, t, e, n)?,
+        Came::Out(e, n) => bring_back(rt, alloc, cells, cell, log, gate, resources, e, n)?,
     }
     Ok(true)
 }
@@ -107,10 +105,11 @@ pub fn help_one<D: Disk, G: Gate, N: Run, R: Wait>(
     requires transaction { IsSome (board_of cells.now t.value) }
     requires resources { length resources.now ≡ N.objects }
 {
-    let mut state = cells.cell(t).state().lock(rt);
+    let cell = cells.cell(t);
+    let mut state = cell.state().lock(rt);
     is_of(&state, t)?;
-    let mut note = cells.note_of(t);
-    let came = begin_turn(rt, alloc, cells, log, &mut note, &mut state, t)?;
+    let mut note = cell.note();
+    let came = begin_turn(rt, alloc, cell, log, &mut note, &mut state)?;
     drop(state);
-    end_turn(rt, alloc, cells, log, gate, resources, t, came)
+    end_turn(rt, alloc, cells, cell, log, gate, resources, came)
 }

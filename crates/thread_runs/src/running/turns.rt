@@ -120,11 +120,8 @@ pub(super) fn act<D: Disk, G: Gate, N: Run, R: Wait>(
 /// Where memory ran out.
 fn transactions<N: Run>(alloc: Global, cells: &Cells<N>) -> Result<Vec<TxNo>, AllocError> {
     let mut transactions = Vec::new(alloc);
-    for n in 1..TxNo::MAX + 1 {
-        let t = TxNo::new(n).unwrap();
-        if cells.has(t) {
-            transactions.push(t)?;
-        }
+    for cell in cells.all() {
+        transactions.push(cell.t())?;
     }
     Ok(transactions)
 }

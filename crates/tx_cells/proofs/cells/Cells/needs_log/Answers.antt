@@ -9,4 +9,4 @@ returns g c =
     let lines = c.self.inside.promoting.items in
     let found : c.copied.result ≡ slice_get lines k =
     c.copied.ensures ∙ (copied_at c.deref.result.now k c.get.result c.get.ensures.lookup ∙ ap (λ xs. slice_get xs k) c.deref.ensures.value) in
-    c.unwrap_or.ensures ∙ (ap (λ o. unwrap_or o false) found ∙ said_at g.N.Run.script lines c.args.line c.self.invariant.2 (omega (arith, c.if-line-eq0.false)))
+    c.unwrap_or.ensures ∙ (ap (λ o. unwrap_or o false) found ∙ said_at g.N.Run.script lines c.args.line c.self.invariant.3 (omega (arith, c.if-line-eq0.false)))
