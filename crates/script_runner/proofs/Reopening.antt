@@ -36,7 +36,8 @@ use Rattle.coordinator_log.specs.declared.refusal.LogRefusal.TheVariants as Refu
 use Rattle.tx_world.specs.AtLog.{Fits, IsHad, id_of}
 use Rattle.tx_world.specs.Prepared.{NamesPrepared}
 use Rattle.tx_world.specs.State.{TxState, is_reached_by}
-use Rattle.script_runner.specs.LogRun.{AreForeignSame, LogGoes, restart_answer}
+use Rattle.turn_parts.specs.Reopening.{restart_answer}
+use Rattle.script_runner.specs.LogRun.{AreForeignSame, LogGoes}
 use Rattle.script_runner.specs.RunState.{FitsLog, GoesWith, HaveSameCalls, Holds, IsRecordKept, IsTied, RunState, Tells, halted, record_in, reopened, state_of}
 use Rattle.script_runner.proofs.Fitting.{fits_as, fits_opened, goes_opened}
 use Rattle.script_runner.proofs.FoundRecords.{all_found}

@@ -1,5 +1,5 @@
 -- A replay under way.
-use Rattle.std.specs.Prelude.{ℕ, ◌-◌, ◌<◌, ◌≤◌, ◌≡◌, nat_lt, Bool, true, false, ◌&&◌, not, List, [], length, Option, None, Some, is_some, IsTrue, slice_index_or, if◌then◌else◌}
+use Rattle.std.specs.Prelude.{ℕ, ◌-◌, ◌<◌, ◌≤◌, ◌≡◌, nat_lt, Bool, true, false, ◌&&◌, not, List, [], length, Option, Some, is_some, IsTrue, slice_index_or, if◌then◌else◌}
 use Rattle.dtx_values.specs.declared.entry.Entry.{Entry}
 use Rattle.dtx_values.specs.declared.number.ActorNo.{ActorNo}
 use Rattle.dtx_values.specs.declared.number.TxNo.{TxNo}
@@ -23,7 +23,8 @@ use Rattle.tx_world.specs.AtLog.{AreFit, Fits, IsHad, IsOurs, id_of}
 use Rattle.tx_world.specs.Prepared.{NamesPrepared}
 use Rattle.tx_world.specs.State.{TxState, is_hit_by, is_reached_by}
 use Rattle.tx_world.specs.Tried.{IsTried}
-use Rattle.script_runner.specs.LogRun.{IsCounted, IsForeignKept, is_no_log_answer}
+use Rattle.tx_cells.specs.LogAnswers.{is_no_log_answer}
+use Rattle.script_runner.specs.LogRun.{IsCounted, IsForeignKept}
 
 -- its script, how many managers have an object, the transactions by number up to the last that was called, the contexts of its actors, and its trace
 pub record RunState : Type 0 where
@@ -32,10 +33,6 @@ pub record RunState : Type 0 where
   pub worlds : List TxState
   pub contexts : List Standing
   pub trace : List Placed
-
--- a transaction to which nothing came yet
-abbrev pub untouched : TxNo → TxState
-untouched t = record { transaction = t; world = record { calls = []; past = [] }; ours = None; unsure = false; life = 0 }
 
 -- the transaction of this number, of these
 abbrev pub state_of : TxNo → List TxState → TxState

@@ -24,18 +24,21 @@ ghost use Rattle.dtx_model.specs.Outcome.{is_empty};
 ghost use Rattle.dtx_model.specs.Grammar.{IsScript, are_named_well, is_in_range};
 ghost use Rattle.coordinator_log.specs.Slots.{open_records};
 ghost use Rattle.coordinator_log.specs.State.{LogState};
+ghost use Rattle.tx_cells.specs.LogAnswers.{is_no_log_answer};
+ghost use Rattle.tx_cells.specs.Cell.{untouched};
+ghost use Rattle.thread_runs.specs.Run.{AreTied};
 ghost use Rattle.script_runner.specs.Ending.{EndsAs, HasNone};
-ghost use Rattle.script_runner.specs.LogRun.{IsCounted, LogGoes, LogStays, has_log_line, is_log_line, is_no_log_answer, restart_answer};
+ghost use Rattle.script_runner.specs.LogRun.{IsCounted, LogGoes, LogStays, has_log_line, is_log_line};
 ghost use Rattle.script_runner.specs.Rights.{AreAppendsBacked, AreOutcomesWithheld, HasOneRight};
-ghost use Rattle.script_runner.specs.Run.{AreTied, IsRunOf};
-ghost use Rattle.script_runner.specs.RunState.{Advances, AreBelow, AreSettledBelow, HaveSameCalls, Holds, IsBelow, IsRecordKept, IsRoundAt, IsTied, IsToPlan, Settles, Tells, halted, record_in, reopened, state_of, untouched};
+ghost use Rattle.script_runner.specs.Run.{IsRunOf};
+ghost use Rattle.script_runner.specs.RunState.{Advances, AreBelow, AreSettledBelow, HaveSameCalls, Holds, IsBelow, IsRecordKept, IsRoundAt, IsTied, IsToPlan, Settles, Tells, halted, record_in, reopened, state_of};
 ghost use Rattle.script_calls.specs.Scoped.{AreOnce, AreOpen, IsUnopened, calls_given, nothing_open, rollbacks, rolled_at, scopes_at};
 ghost use Rattle.script_runner.specs.Waits.{AreWaitsAnswered};
 ghost use Rattle.tx_world.specs.AtLog.{Fits};
 ghost use Rattle.world_laws.specs.Left.{steps_left};
 
 use crate::objects::{asked, do_kth};
-use coordinator_log::{Log, LogRefusal};
+use coordinator_log::Log;
 use dtx_values::{
     ActorNo, Answer, Body, Call, Entry, Image, Line, LogNote, Outbox, Place, Resource, RmNo,
     Script, TxNo,
@@ -47,6 +50,7 @@ use scope_context::Context;
 use script_calls::{Gives, Plans, act, call_of, contexts, managers_of};
 use std::alloc::{AllocError, Global};
 use std::marker::Model;
+use turn_parts::restart_answer;
 use tx_world::{TxWorld, WorldError};
 use world_laws::{rights, untried};
 
@@ -618,17 +622,6 @@ impl<'a> Run<'a> {
         ensures numbered { (t : TxNo) → (state_of t self.entry.worlds).transaction ≡ t }
     {
         Trace::new(self.trace)
-    }
-}
-
-/// What a `restart` is answered.
-fn restart_answer(reopened: &Result<u16, LogRefusal>) -> Answer
-    ensures { result ≡ restart_answer reopened.now }
-{
-    match reopened {
-        Ok(_) => Answer::Fine,
-        Err(LogRefusal::NotALog(place)) => Answer::NotALog(*place),
-        Err(_) => Answer::Fault,
     }
 }
 

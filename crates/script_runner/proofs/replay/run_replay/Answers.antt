@@ -6,11 +6,12 @@ use Rattle.dtx_model.specs.Caused.{Caused, FreelyCaused, IsCallOf}
 use Rattle.dtx_model.specs.Outcome.{is_empty}
 use Rattle.dtx_model.specs.Tied.{tied}
 use Rattle.dtx_model.proofs.Bools.{and_left, and_right, or_false}
+use Rattle.outcome_law.proofs.Owned.{empty_list}
 use Rattle.outcome_law.specs.Appended.{has_append, stopped_at_append}
 use Rattle.dtx_model.specs.Traces.{history}
 use Rattle.dtx_model.specs.Words.{past_of}
 use Rattle.coordinator_log.specs.Slots.{open_records}
-use Rattle.script_runner.proofs.Replayed.{IsOfScript, called_at, empty_is, of_script, rise_known, rise_none, rise_of, rise_told}
+use Rattle.script_runner.proofs.Replayed.{IsOfScript, called_at, of_script, rise_known, rise_none, rise_of, rise_told}
 use Rattle.script_runner.proofs.replay.run_replay.Goals as goal
 
 pub returns-in-Ok-clause-replay : goal.returns-in-Ok-clause-replay
@@ -30,10 +31,10 @@ returns-in-Ok-clause-replay g c =
       replay = record {
         called = c.replay.ensures.called s T e.replayed;
         replayed = e.replayed;
-        stops = λ none. let k = rise_none before now told c.in-Ok.ensures.counted.grows none in c.in-Ok.ensures.counted.stops k.0 k.1;
+        stops = λ none. let k = rise_none before now told c.in-Ok.ensures.counted.count.grows none in c.in-Ok.ensures.counted.stops k.0 k.1;
         opens = λ h.
             c.in-Ok.ensures.opens (and_left g.D.Disk.honest (is_empty (open_records c.args.log.now.slots)) h)
-            (empty_is (open_records c.args.log.now.slots) (and_right g.D.Disk.honest (is_empty (open_records c.args.log.now.slots)) h));
+            (empty_list (open_records c.args.log.now.slots) (and_right g.D.Disk.honest (is_empty (open_records c.args.log.now.slots)) h));
       };
       caused = caused;
       history = λ sound. record {

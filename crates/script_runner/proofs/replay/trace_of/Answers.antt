@@ -13,7 +13,8 @@ use Rattle.coordinator_log.specs.Crash.{AllHold}
 use Rattle.coordinator_log.specs.Slots.{open_records}
 use Rattle.coordinator_log.specs.State.{LogState}
 use Rattle.scope_context.specs.Standing.{Standing}
-use Rattle.script_runner.specs.LogRun.{IsCounted, has_log_line, is_no_log_answer}
+use Rattle.tx_cells.specs.LogAnswers.{is_no_log_answer}
+use Rattle.script_runner.specs.LogRun.{IsCounted, has_log_line}
 use Rattle.script_runner.specs.RunState.{AreBelow, AreSettledBelow, Holds, IsRoundAt, IsToPlan, RunState, Tells}
 use Rattle.script_calls.specs.Scoped.{AreOpen}
 use Rattle.script_runner.proofs.Going.{goes_then, stays_then}

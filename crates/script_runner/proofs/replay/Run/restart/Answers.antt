@@ -19,7 +19,8 @@ use Rattle.coordinator_log.specs.Slots.{open_records}
 use Rattle.coordinator_log.specs.State.{LogState}
 use Rattle.coordinator_log.specs.declared.refusal.LogRefusal.TheVariants as Refusal
 use Rattle.tx_world.specs.AtLog.{Fits}
-use Rattle.script_runner.specs.LogRun.{LogGoes, restart_answer}
+use Rattle.turn_parts.specs.Reopening.{restart_answer}
+use Rattle.script_runner.specs.LogRun.{LogGoes}
 use Rattle.script_runner.specs.RunState.{Holds, IsRecordKept, RunState, Tells, halted, record_in, reopened, state_of}
 use Rattle.script_runner.proofs.Fitting.{fits_opened}
 use Rattle.script_runner.proofs.Reopening.{IsHalted, after_unopened, both_ok, down_err, goes_restart, halted_down, halted_up, halts_at, holds_opened, one_written, opened_just, opened_trace, tied_at_log, tied_move, two_written, unopened_by, unopened_just}
