@@ -49,7 +49,7 @@ use scope_context::Context;
 use script_calls::{Gives, Plans, act, call_of, contexts, managers_of};
 use std::alloc::{AllocError, Global};
 use std::marker::Model;
-use turn_parts::restart_answer;
+use turn_parts::{reopened, restart_answer};
 use tx_world::{TxWorld, WorldError};
 use world_laws::{rights, untried};
 
@@ -541,17 +541,16 @@ impl<'a> Run<'a> {
         self.trace.reserve(3)?;
         let was_up = log.is_up();
         let life = log.life();
-        log.halt();
-        let reopened = log.reopen();
-        self.trace.push_reserved((
-            Place::Log,
-            Entry::Called(n, actor, restart_answer(&reopened)),
-        ));
+        let found = reopened(log);
+        self.trace
+            .push_reserved((Place::Log, Entry::Called(n, actor, restart_answer(&found))));
         if was_up {
             self.trace.push_reserved((Place::Log, Entry::Stopped));
             self.stop_all(life)?;
         }
-        let Ok(records) = reopened else {
+        // A proof sees here that each image has the records of a log that is up.
+        let _ = log.is_up();
+        let Ok(records) = found else {
             return Ok(());
         };
         self.trace.reserve(1)?;
