@@ -13,11 +13,11 @@ use Rattle.script_calls.proofs.StepBlocks.{OfReply, OfStep, deed_commit, is_deed
 use Rattle.tx_world.proofs.StillTied.{is_restarting}
 use Rattle.script_runner.proofs.Telling.{is_untelling}
 
+-- the coordinator's act was done at the log
 abbrev pub is_done_answer : LogAnswer → Bool
 is_done_answer Done = true
 is_done_answer _ = false
 
--- the coordinator's act was done at the log
 abbrev pub is_done : Step → Bool
 is_done (Coordinates a) = is_done_answer a
 is_done _ = false

@@ -205,12 +205,6 @@ same_up true b p q = sym (p refl)
 same_up false true p q = q refl
 same_up false false p q = refl
 
--- A log that was up at the end as it was at the start was so between, where none that isn't up comes up.
-pub up_between : (a b c : Bool) → (b ≡ true → a ≡ true) → (c ≡ true → b ≡ true) → c ≡ a → b ≡ a
-up_between a b true p q e = q refl ∙ e
-up_between a true false p q e = sym (p refl)
-up_between a false false p q e = e
-
 -- What holds of the run after it is noted,
 step_holds : {D : Type 0} (faults : D → ℕ) (honest : Bool) (image : D → List ℕ → Type 0) (a : StepOf D) (new : List Placed) → IsStep faults honest image a → (d : DidStep faults honest a)
     → a.to.is_up ≡ a.from.is_up → past_of new ≡ onto (past_of a.run.trace) (placed a.t (wrote faults honest a d)) → Holds honest image a.to (run_with a (worlds_after a) new)

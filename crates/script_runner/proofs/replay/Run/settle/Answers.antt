@@ -5,11 +5,10 @@ use Rattle.dtx_model.specs.Replay.{world_at}
 use Rattle.dtx_model.specs.Steps.{pending}
 use Rattle.dtx_model.specs.Traces.{history}
 use Rattle.dtx_model.specs.Words.{kth, past_of}
-use Rattle.run_endings.proofs.Settling.{none_first}
+use Rattle.run_endings.proofs.Settling.{none_first, up_between}
 use Rattle.script_runner.specs.RunState.{Advances, AreSettledBelow, IsRoundAt, RunState, Settles, state_of}
 use Rattle.script_runner.proofs.Going.{calls_then, goes_same, goes_then, stays_same, stays_then}
 use Rattle.script_runner.proofs.Rounds.{below-apart, below-next, settles-here, steps-more, turn-more, turn-next}
-use Rattle.script_runner.proofs.Steps.{up_between}
 use Rattle.script_runner.proofs.replay.Run.settle.Given.{Over}
 use Rattle.script_runner.proofs.replay.Run.settle.Goals.{In_ok-step}
 use Rattle.script_runner.proofs.replay.Run.settle.Goals as goal
