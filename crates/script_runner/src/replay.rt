@@ -542,8 +542,7 @@ impl<'a> Run<'a> {
         let was_up = log.is_up();
         let life = log.life();
         let found = reopened(log);
-        self.trace
-            .push_reserved((Place::Log, Entry::Called(n, actor, restart_answer(&found))));
+        self.trace.push_reserved((Place::Log, Entry::Called(n, actor, restart_answer(&found))));
         if was_up {
             self.trace.push_reserved((Place::Log, Entry::Stopped));
             self.stop_all(life)?;
