@@ -25,15 +25,16 @@ use Rattle.tx_world.specs.State.{TxState, may_enter, sends_begin, turned}
 use Rattle.tx_world.specs.Stepping.{Does}
 use Rattle.tx_world.proofs.Naming.{named_does}
 use Rattle.tx_world.proofs.StillTied.{turned_tied}
+use Rattle.tx_cells.proofs.Kept.{given_more, turned_calls}
 use Rattle.script_runner.specs.RunState.{AreNumbered, FitsLog, GoesWith, Holds, IsBelow, IsRecordKept, IsTied, IsToPlan, RunState, Tells, state_of}
 use Rattle.script_runner.proofs.Deeds.{untelling_block}
-use Rattle.script_runner.proofs.Entering.{enters, given_more}
+use Rattle.script_runner.proofs.Entering.{enters}
 use Rattle.script_runner.proofs.Fitting.{fits_as, had_as}
 use Rattle.script_runner.proofs.Goes.{goes_step}
 use Rattle.script_runner.proofs.Noting.{history_here, history_there, trace_noted}
 use Rattle.script_runner.proofs.Numbered.{is_it, state_here, state_reached, state_there}
 use Rattle.script_runner.proofs.Telling.{is_untelling, tells_block}
-use Rattle.script_runner.proofs.Turns.{IsOwn, own_at, turn_here, turned_calls, turned_past, written}
+use Rattle.script_runner.proofs.Turns.{IsOwn, own_at, turn_here, turned_past, written}
 use Rattle.script_runner.proofs.Tying.{right_written, tied_same}
 
 -- A call of line n was entered at transaction t, which was x and is y then: what it wrote stands at the end of the trace, and the other transactions are as before.

@@ -1,7 +1,7 @@
--- Which entries the block of a step has: a stop of the coordinator stands in that of the coordinator's act, of a stop and of a restart alone, and so do those that tell of the log's device calls.
+-- Which blocks tell nothing of the log's device calls: that of an act that was done at the log tells of them, and that of a restart.
 use Rattle.std.proofs.Common.{◌≡◌, ℕ, Bool, true, false, refl}
 use Rattle.dtx_values.specs.declared.entry.Entry.{Entry}
-use Rattle.dtx_values.specs.declared.entry.Entry.TheVariants.{Logged, Freed, Stopped, Restarted}
+use Rattle.dtx_values.specs.declared.entry.Entry.TheVariants.{Logged, Freed, Restarted}
 use Rattle.dtx_values.specs.declared.note.Reply.{Reply}
 use Rattle.dtx_values.specs.declared.note.Reply.TheVariants.{Vote as VoteReply, Promote as Promotes, Owner as OwnerReply, Ack}
 use Rattle.dtx_values.specs.declared.number.EnlNo.{EnlNo}
@@ -10,66 +10,17 @@ use Rattle.dtx_model.specs.Coordinated.{Coordinated, commit_sends}
 use Rattle.dtx_model.specs.World.{World}
 use Rattle.dtx_model.specs.Steps.{LogAnswer, Done, Full, StoppedNow, StoppedBefore, Step, Calls, Replies, Acts, Coordinates, Delivers, Stops, Restarts, block_at}
 use Rattle.script_calls.proofs.StepBlocks.{OfReply, OfStep, deed_commit, is_deed, of_block, of_deeds}
+use Rattle.tx_world.proofs.StillTied.{is_restarting}
 use Rattle.script_runner.proofs.Telling.{is_untelling}
 
--- The log was stopped, by this call or before.
-abbrev pub is_stop_answer : LogAnswer → Bool
-is_stop_answer StoppedNow = true
-is_stop_answer StoppedBefore = true
-is_stop_answer _ = false
-
--- the step may stop the coordinator, or starts it again
-abbrev pub is_halting : Step → Bool
-is_halting (Coordinates a) = is_stop_answer a
-is_halting Stops = true
-is_halting (Restarts found) = true
-is_halting _ = false
-
+-- the coordinator's act was done at the log
 abbrev pub is_done_answer : LogAnswer → Bool
 is_done_answer Done = true
 is_done_answer _ = false
 
--- the coordinator's act was done at the log
 abbrev pub is_done : Step → Bool
 is_done (Coordinates a) = is_done_answer a
 is_done _ = false
-
-abbrev pub is_restarts : Step → Bool
-is_restarts (Restarts found) = true
-is_restarts _ = false
-
--- the entry neither stops the coordinator nor starts it again
-abbrev pub is_steady : Entry → Bool
-is_steady Stopped = false
-is_steady (Restarted found) = false
-is_steady _ = true
-
-deed_steady : (x : Entry) → is_deed x ≡ true → is_steady x ≡ true
-deed_steady Stopped k = absurd cc
-deed_steady (Restarted found) k = absurd cc
-deed_steady _ k = refl
-
-reply_steady : (e : EnlNo) (r : Reply) → OfReply is_steady e r
-reply_steady e (VoteReply v) = refl
-reply_steady e (Promotes ok) = refl
-reply_steady e (OwnerReply x) = (refl, refl)
-reply_steady e Ack = tt
-
-step_steady : (m : Step) → is_halting m ≡ false → OfStep is_steady m
-step_steady (Calls n a c k) h = tt
-step_steady (Replies e r) h = reply_steady e r
-step_steady Acts h = tt
-step_steady (Coordinates Done) h = (refl, refl)
-step_steady (Coordinates Full) h = tt
-step_steady (Coordinates StoppedNow) h = absurd cc
-step_steady (Coordinates StoppedBefore) h = absurd cc
-step_steady (Delivers c d) h = tt
-step_steady Stops h = absurd cc
-step_steady (Restarts found) h = absurd cc
-
--- A block in which the coordinator doesn't stop.
-pub steady_block : (t : ℕ) (w : World) (m : Step) → is_halting m ≡ false → each is_steady (block_at t w m) ≡ true
-steady_block t w m h = (of_block is_steady deed_steady t w m (step_steady m h)).proof
 
 -- A block that tells nothing of the log's device calls.
 deed_untelling : (x : Entry) → is_deed x ≡ true → is_untelling x ≡ true
@@ -84,7 +35,7 @@ reply_untelling e (Promotes ok) = refl
 reply_untelling e (OwnerReply x) = (refl, refl)
 reply_untelling e Ack = tt
 
-step_untelling : (m : Step) → is_done m ≡ false → is_restarts m ≡ false → OfStep is_untelling m
+step_untelling : (m : Step) → is_done m ≡ false → is_restarting m ≡ false → OfStep is_untelling m
 step_untelling (Calls n a c k) d r = tt
 step_untelling (Replies e q) d r = reply_untelling e q
 step_untelling Acts d r = tt
@@ -96,7 +47,7 @@ step_untelling (Delivers c d) e r = tt
 step_untelling Stops d r = refl
 step_untelling (Restarts found) d r = absurd cc
 
-pub untelling_block : (t : ℕ) (w : World) (m : Step) → is_done m ≡ false → is_restarts m ≡ false → each is_untelling (block_at t w m) ≡ true
+pub untelling_block : (t : ℕ) (w : World) (m : Step) → is_done m ≡ false → is_restarting m ≡ false → each is_untelling (block_at t w m) ≡ true
 untelling_block t w m d r = (of_block is_untelling deed_untelling t w m (step_untelling m d r)).proof
 
 -- and what the coordinator says after an append

@@ -1,5 +1,5 @@
 -- Which calls may be entered at a transaction of a run, and what is entered there afterwards.
-use Rattle.std.proofs.Common.{◌≡◌, ◌≢◌, ℕ, zero, suc, ◌+◌, ◌<◌, ◌==◌, Bool, true, false, ◌&&◌, not, List, [], ◌∷◌, Option, Some, None, refl, ap, sym, subst, ◌∙◌, if◌then◌else◌, arith, inl, inr}
+use Rattle.std.proofs.Common.{◌≡◌, ◌≢◌, ℕ, zero, suc, ◌+◌, ◌<◌, ◌==◌, Bool, true, false, not, List, [], ◌∷◌, Some, refl, ap, sym, subst, ◌∙◌, arith, inl, inr}
 use Rattle.std.specs.Prelude.{nat_lt}
 use Rattle.std.proofs.lemmas.Bool.{eqb-true, lt-ltb, ltb-true}
 use Rattle.std.proofs.lemmas.Bool.Decides.{eqb_tells}
@@ -8,35 +8,15 @@ use Rattle.dtx_values.specs.declared.number.ActorNo.{ActorNo}
 use Rattle.dtx_values.specs.declared.number.TxNo.{TxNo}
 use Rattle.dtx_values.specs.declared.script.Line.{Line}
 use Rattle.dtx_model.specs.Words.{each, has, kth}
-use Rattle.dtx_model.specs.Grammar.{Name, OfTransaction, OfEnlistment, OfClone, OfScope}
 use Rattle.dtx_model.specs.declared.waiting.EnteredCall.{EnteredCall}
 use Rattle.dtx_model.specs.World.{World}
-use Rattle.dtx_model.specs.Steps.{Calls, Stops, after}
+use Rattle.dtx_model.specs.Steps.{Calls, after}
 use Rattle.dtx_model.specs.Caused.{AreMadeOnce, IsCallOf, IsIn, made_by}
 use Rattle.dtx_model.proofs.Bools.{and_both, and_left, and_right, not_false, or_false}
 use Rattle.dtx_model.proofs.SameNumbers.{same_transaction}
-use Rattle.tx_world.specs.State.{TxState, is_maker, is_name, may_enter, sends_begin, turned}
+use Rattle.tx_world.specs.State.{TxState, is_maker, may_enter, turned}
+use Rattle.tx_cells.proofs.Kept.{same_made, turned_calls}
 use Rattle.script_runner.specs.RunState.{AreBelow, IsBelow, state_of}
-
--- a call that makes a name makes this one
-name_here : (x : Name) (o : Option Name) → is_name x o ≡ true → o ≡ Some x
-name_here (OfEnlistment e) (Some (OfEnlistment f)) k = ap (λ j. Some (OfEnlistment j)) (sym (eqb-true e f k))
-name_here (OfEnlistment e) (Some (OfClone f)) k = absurd cc
-name_here (OfEnlistment e) (Some (OfTransaction f)) k = absurd cc
-name_here (OfEnlistment e) (Some (OfScope f)) k = absurd cc
-name_here (OfEnlistment e) None k = absurd cc
-name_here (OfClone e) (Some (OfClone f)) k = ap (λ j. Some (OfClone j)) (sym (eqb-true e f k))
-name_here (OfClone e) (Some (OfEnlistment f)) k = absurd cc
-name_here (OfClone e) (Some (OfTransaction f)) k = absurd cc
-name_here (OfClone e) (Some (OfScope f)) k = absurd cc
-name_here (OfClone e) None k = absurd cc
-name_here (OfTransaction e) o k = absurd cc
-name_here (OfScope e) o k = absurd cc
-
--- so both make the same
-same_made : (o : Option Name) (d : Call) → is_maker o d ≡ true → (x : Name) × (o ≡ Some x) × (made_by d ≡ Some x)
-same_made (Some x) d k = (x, refl, name_here x (made_by d) k)
-same_made None d k = absurd cc
 
 -- a number below another isn't it
 below_apart : (m n : ℕ) → nat_lt m n ≡ true → (m == n) ≡ false
@@ -94,25 +74,6 @@ enters s t n a c w once mine given b =
     (not_false (has (λ (k : EnteredCall). k.line == n) w.calls) (no_line w.calls n b))
     (not_false (has (λ (k : EnteredCall). is_maker (made_by c) k.call) w.calls) (no_maker s t n a c w.calls once mine given b))
 
--- the calls after a call: it, and those before
-pub turned-calls : (up : Bool) (t : ℕ) (w : World) (n : ℕ) (a : ActorNo) (c : Call) (m : ℕ) → (turned up t w (Calls n a c m)).calls ≡ record { line = n; actor = a; call = c } ∷ w.calls
-unfolding after
-turned-calls up t w n a c m = by (sends_begin t w (Calls n a c m) && not up)
-  where
-    by : (b : Bool) → (if b then after t (after t w (Calls n a c m)) Stops else after t w (Calls n a c m)).calls ≡ record { line = n; actor = a; call = c } ∷ w.calls
-    by true = refl
-    by false = refl
-
--- each is still given by the script
-pub given_more : (s : List Line) (t : ℕ) (k : EnteredCall) (ks : List EnteredCall) → IsCallOf s t k.line k.actor k.call → ((m : ℕ) (b : ActorNo) (d : Call) → IsIn ks m b d → IsCallOf s t m b d)
-    → (m : ℕ) (b : ActorNo) (d : Call) → IsIn (k ∷ ks) m b d → IsCallOf s t m b d
-given_more s t k ks mine given m b d i = by i.place i.stands
-  where
-    by : (j : ℕ) → kth (k ∷ ks) j ≡ Some (record { line = m; actor = b; call = d }) → IsCallOf s t m b d
-    by zero e = absurd cc
-    by (suc zero) e = let same : k ≡ record { line = m; actor = b; call = d } = cc in subst (λ (x : EnteredCall). IsCallOf s t x.line x.actor x.call) same mine
-    by (suc (suc j)) e = given m b d (record { place = suc j; stands = e })
-
 -- and each is of a line before the next
 below_later : (ks : List EnteredCall) (n : ℕ) → each (λ k. nat_lt k.line n) ks ≡ true → each (λ k. nat_lt k.line (n + 1)) ks ≡ true
 below_later [] n b = refl
@@ -128,7 +89,7 @@ below_more n a c ks b =
 -- after a call of line n each is of a line before the next
 pub below_after : (n : ℕ) (a : ActorNo) (c : Call) (m : ℕ) (up : Bool) (t : ℕ) (old new : TxState) → new.world ≡ turned up t old.world (Calls n a c m) → IsBelow n old → IsBelow (n + 1) new
 below_after n a c m up t old new e b =
-    let calls : new.world.calls ≡ record { line = n; actor = a; call = c } ∷ old.world.calls = ap (λ (w : World). w.calls) e ∙ turned-calls up t old.world n a c m in
+    let calls : new.world.calls ≡ record { line = n; actor = a; call = c } ∷ old.world.calls = ap (λ (w : World). w.calls) e ∙ turned_calls up t old.world (Calls n a c m) in
     subst (λ (ks : List EnteredCall). each (λ k. nat_lt k.line (n + 1)) ks ≡ true) (sym calls) (below_more n a c old.world.calls b)
 
 -- what is below a line is below the next

@@ -6,36 +6,26 @@ use Rattle.dtx_values.specs.declared.entry.Entry.{Entry}
 use Rattle.dtx_values.specs.declared.entry.Entry.TheVariants.{Restarted, Stopped}
 use Rattle.dtx_values.specs.declared.number.TxNo.{TxNo}
 use Rattle.dtx_model.specs.Words.{each, has, onto}
-use Rattle.dtx_model.specs.Wires.{is_stopped}
 use Rattle.dtx_model.specs.Coordinated.{Coordinated, coordinate, is_active, is_ready, is_recorded, may_free, may_log}
 use Rattle.dtx_model.specs.World.{World, core}
 use Rattle.dtx_model.specs.Steps.{LogAnswer, Done, Full, StoppedNow, StoppedBefore, Step, Calls, Replies, Acts, Coordinates, Delivers, Stops, Restarts, StepName, ReplyOf, LocalAct, CoordinatorAct, Delivery, after, appended, block_at, coordinates, freed, restarted}
 use Rattle.dtx_model.specs.Caused.{IsNamed, is_begin_sent, is_full_answer, may_coordinate}
 use Rattle.dtx_model.specs.Replay.{is_in_replay}
-use Rattle.dtx_model.proofs.Bools.{and_both, and_left, and_never, and_right, not_both, or_case, or_right}
+use Rattle.dtx_model.proofs.Bools.{and_both, and_left, and_never, not_both, or_case, or_right}
 use Rattle.dtx_model.proofs.Reading.{has-onto}
 use Rattle.outcome_law.proofs.CoreStages.{stopped_same}
+use Rattle.outcome_law.proofs.SteadyBlocks.{goes_on, steady_block, steady_stopped}
 use Rattle.coordinator_log.specs.State.{LogState}
 use Rattle.tx_world.specs.AtLog.{Answered, id_of}
 use Rattle.tx_world.specs.State.{TxState, life_after, sends_begin, turned}
 use Rattle.tx_world.specs.Stepping.{Does, IsAnswered}
 use Rattle.script_runner.specs.RunState.{GoesWith}
-use Rattle.script_runner.proofs.Deeds.{is_halting, is_steady, steady_block}
 use Rattle.script_runner.proofs.Turns.{IsOwn, acts_begun, turned_past, written}
 
--- A coordinator stands stopped after a block as before it, where that has neither a stop nor a restart,
-steady_one : (h : List Entry) (x : Entry) → is_steady x ≡ true → is_stopped (x ∷ h) ≡ is_stopped h
-steady_one h Stopped k = absurd cc
-steady_one h (Restarted found) k = absurd cc
-steady_one h x k = refl
-
-steady_onto : (h es : List Entry) → each is_steady es ≡ true → is_stopped (onto h es) ≡ is_stopped h
-steady_onto h [] k = refl
-steady_onto h (x ∷ es) k = steady_onto (x ∷ h) es (and_right (is_steady x) (each is_steady es) k) ∙ steady_one h x (and_left (is_steady x) (each is_steady es) k)
-
-pub steady_core : (t : ℕ) (w : World) (m : Step) → is_halting m ≡ false → (core (after t w m)).stopped ≡ (core w).stopped
+-- A coordinator stands stopped after a step as before it, where that is neither a stop nor a restart,
+pub steady_core : (t : ℕ) (w : World) (m : Step) → goes_on m ≡ true → (core (after t w m)).stopped ≡ (core w).stopped
 unfolding after
-steady_core t w m k = stopped_same (onto w.past (block_at t w m)) ∙ (steady_onto w.past (block_at t w m) (steady_block t w m k) ∙ sym (stopped_same w.past))
+steady_core t w m k = stopped_same (onto w.past (block_at t w m)) ∙ (steady_stopped w.past (block_at t w m) (steady_block t w m k) ∙ sym (stopped_same w.past))
 
 -- and it is stopped after a stop
 pub stops_core : (t : ℕ) (w : World) → (core (after t w Stops)).stopped ≡ true
@@ -143,7 +133,7 @@ begun_after up t w m e = ap (has is_begin_sent) (turned_past up t w m) ∙ (has-
     wrote false = e
 
 -- where the log stays as it is, the step isn't a stop: it stands stopped where the log isn't up
-stands_steady : {D : Type 0} (t : TxNo) (x : TxState) (from : LogState D) (m : Step) → is_halting m ≡ false → GoesWith from x
+stands_steady : {D : Type 0} (t : TxNo) (x : TxState) (from : LogState D) (m : Step) → goes_on m ≡ true → GoesWith from x
     → (core (turned from.is_up t.value x.world m)).stopped ≡ (has is_begin_sent (turned from.is_up t.value x.world m).past && not from.is_up)
 stands_steady {D} t x from m steady goes = by (cases_Bool (sends_begin t.value x.world m)) (cases_Bool from.is_up)
   where
@@ -228,7 +218,7 @@ stands : {D : Type 0} (faults : D → ℕ) (t : TxNo) (x : TxState) (from to : L
     → (core (turned from.is_up t.value x.world m)).stopped ≡ (has is_begin_sent (turned from.is_up t.value x.world m).past && not to.is_up)
 stands {D} faults t x from to m own may e goes = by m may e
   where
-    as_before : (j : Step) → is_halting j ≡ false → from.is_up ≡ to.is_up
+    as_before : (j : Step) → goes_on j ≡ true → from.is_up ≡ to.is_up
         → (core (turned from.is_up t.value x.world j)).stopped ≡ (has is_begin_sent (turned from.is_up t.value x.world j).past && not to.is_up)
     as_before j k up = stands_steady t x from j k goes ∙ ap (λ u. has is_begin_sent (turned from.is_up t.value x.world j).past && not u) up
 

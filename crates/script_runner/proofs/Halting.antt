@@ -29,7 +29,8 @@ use Rattle.tx_world.specs.Kept.{stop_if}
 use Rattle.tx_world.specs.Prepared.{NamesPrepared}
 use Rattle.tx_world.specs.State.{TxState, is_hit_by, is_reached_by}
 use Rattle.tx_world.proofs.Naming.{named_halt, named_told}
-use Rattle.script_runner.specs.RunState.{AreNumbered, GoesWith, HaveSameCalls, IsTied, IsToPlan, halted, record_in, reopened, state_of, untouched}
+use Rattle.tx_cells.specs.Cell.{untouched}
+use Rattle.script_runner.specs.RunState.{AreNumbered, GoesWith, HaveSameCalls, IsTied, IsToPlan, halted, record_in, reopened, state_of}
 use Rattle.script_runner.proofs.ByNumber.{AreUpTo, Rises, le_last, le_other, le_yet, one_where, put_next, rises-filter, rises-transactions, up_to_all, up_to_next, up_to_none}
 use Rattle.script_runner.proofs.Goes.{restarts_core, stops_core}
 use Rattle.script_runner.proofs.Numbered.{is_it, numbered_set, state_here, state_reached, state_there, state_unreached}

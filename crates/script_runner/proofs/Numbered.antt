@@ -7,7 +7,8 @@ use Rattle.dtx_values.specs.declared.number.TxNo.{TxNo}
 use Rattle.dtx_values.specs.declared.number.TheConstants.TxNo.{MAX}
 use Rattle.dtx_model.proofs.SameNumbers.{same_transaction}
 use Rattle.tx_world.specs.State.{TxState}
-use Rattle.script_runner.specs.RunState.{AreNumbered, state_of, untouched}
+use Rattle.tx_cells.specs.Cell.{untouched}
+use Rattle.script_runner.specs.RunState.{AreNumbered, state_of}
 
 -- a transaction is this one or another
 pub is_it : (u t : TxNo) → (u ≡ t) ⊎ (u ≢ t)

@@ -27,10 +27,12 @@ use Rattle.coordinator_log.specs.State.{LogState}
 use Rattle.program_words.specs.declared.command.Command.TheVariants.{Replay, Make, Demo, Threads}
 use Rattle.program_words.specs.declared.command.Form.{Form}
 use Rattle.tx_world.specs.AtLog.{AreLogs}
-use Rattle.script_runner.specs.Ending.{AreOfTransactions, AreOwnLogs, AreRecorded, EachHolds, EndsAs, HasNone, IsLog, IsLogOf, MayBeRecorded}
-use Rattle.script_runner.specs.LogRun.{AreForeignSame, IsForeignKept, LogGoes, LogStays, MetNoFault, has_log_line, is_no_log_answer}
+use Rattle.thread_runs.specs.Run.{AreTied, EachHolds}
+use Rattle.tx_cells.specs.LogAnswers.{is_no_log_answer}
+use Rattle.script_runner.specs.Ending.{AreOfTransactions, AreOwnLogs, AreRecorded, EndsAs, HasNone, IsLog, IsLogOf, MayBeRecorded}
+use Rattle.script_runner.specs.LogRun.{AreForeignSame, IsForeignKept, LogGoes, LogStays, MetNoFault, has_log_line}
 use Rattle.script_runner.specs.Program.{HasNoLogLine, IsReplayOf}
-use Rattle.script_runner.specs.Run.{AreTied, IsRunOf}
+use Rattle.script_runner.specs.Run.{IsRunOf}
 use Rattle.script_runner.specs.Waits.{AreWaitsAnswered}
 
 -- a script in the bytes that are read ends before they do, so they are all

@@ -29,9 +29,11 @@ use Rattle.tx_world.specs.Tried.{IsTried}
 use Rattle.tx_world.proofs.Begun.{recorded_begun}
 use Rattle.tx_world.proofs.Fitting.{none_found, one_found}
 use Rattle.tx_world.proofs.Records.{one_where_none}
-use Rattle.script_runner.specs.Ending.{EndsAs, HasNone, MayBeRecorded, are_ever_named, are_named, records_of}
+use Rattle.thread_runs.specs.Run.{records_of}
+use Rattle.tx_cells.specs.Cell.{untouched}
+use Rattle.script_runner.specs.Ending.{EndsAs, HasNone, MayBeRecorded, are_ever_named, are_named}
 use Rattle.script_runner.specs.LogRun.{AreForeignSame, IsForeignKept}
-use Rattle.script_runner.specs.RunState.{GoesWith, Holds, IsRecordKept, IsTied, RunState, Tells, state_of, untouched}
+use Rattle.script_runner.specs.RunState.{GoesWith, Holds, IsRecordKept, IsTied, RunState, Tells, state_of}
 use Rattle.script_runner.proofs.Fitting.{found_fit}
 use Rattle.script_runner.proofs.InRecords.{ever_there, named_there, named_up, written_there, written_up}
 
@@ -254,8 +256,7 @@ pub tells_at_start : {D : Type 0} (faults : D → ℕ) (honest : Bool) (image : 
 tells_at_start faults honest image log unarmed held =
     record {
       counted = record {
-        grows = omega arith;
-        told = λ less. rw unarmed (omega arith);
+        count = record { grows = omega arith; told = λ less. rw unarmed (omega arith) };
         stops = λ e less. refl;
         armed = λ e less. rw unarmed refl;
       };

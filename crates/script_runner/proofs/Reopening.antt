@@ -36,7 +36,8 @@ use Rattle.coordinator_log.specs.declared.refusal.LogRefusal.TheVariants as Refu
 use Rattle.tx_world.specs.AtLog.{Fits, IsHad, id_of}
 use Rattle.tx_world.specs.Prepared.{NamesPrepared}
 use Rattle.tx_world.specs.State.{TxState, is_reached_by}
-use Rattle.script_runner.specs.LogRun.{AreForeignSame, LogGoes, restart_answer}
+use Rattle.turn_parts.specs.Reopening.{IsReopened, restart_answer}
+use Rattle.script_runner.specs.LogRun.{AreForeignSame, LogGoes}
 use Rattle.script_runner.specs.RunState.{FitsLog, GoesWith, HaveSameCalls, Holds, IsRecordKept, IsTied, RunState, Tells, halted, record_in, reopened, state_of}
 use Rattle.script_runner.proofs.Fitting.{fits_as, fits_opened, goes_opened}
 use Rattle.script_runner.proofs.FoundRecords.{all_found}
@@ -246,6 +247,10 @@ holds_opened {D} honest image seen from to r q n was up life among opened within
     stands : (x : TxState) → GoesWith from x → has is_begin_sent x.world.past ≡ true → (core x.world).stopped ≡ true
     stands x g k = halts x g ∙ k
 
+-- The log when it is stopped by a restart
+abbrev pub halted_log : {D : Type 0} → LogState D → LogState D
+halted_log log = record { disk = log.disk; slots = log.slots; is_up = false; life = log.life; armed = log.armed }
+
 -- After the call of a restart, and the stop that it brings where the log ran, this holds over the log as long as it is down; the transactions are still those of their numbers.
 pub record IsHalted {D : Type 0} (honest : Bool) (image : D → List ℕ → Type 0) (from : LogState D) (n : ℕ) (a : ActorNo) (x : Answer) (r q : RunState) : Type 0 where
   pub script : q.script ≡ r.script
@@ -301,21 +306,21 @@ unopened_just honest empty rose T e (inl f) fault never = fault f
 unopened_just honest empty rose T e (inr f) fault never = absurd (let k = f.1 in cc)
 
 -- An opening finds as many records as there are: each is of a transaction of which the coordinator knows, which has one.
-pub opened_just : {D : Type 0} (faults : D → ℕ) (honest : Bool) (image : D → List ℕ → Type 0) (seen : D → List ℕ) (start from mid to : LogState D) (r q : RunState) (n : ℕ) (a : ActorNo) (x : Answer) (m : ℕ) (T U : List Placed)
-    → mid.is_up ≡ false → mid.life ≡ from.life → mid.disk ≡ from.disk → to.is_up ≡ true → (IsTrue honest → image mid.disk (seen mid.disk)) → (IsTrue honest → IsOpened seen mid.disk to)
-    → (IsTrue honest → AreWithin (image mid.disk) (image to.disk)) → m ≡ length (open_records to.slots) → LogGoes faults honest image from to → IsHalted honest image from n a x r q → U ≡ after_halt n a x (past_of r.trace)
+pub opened_just : {D : Type 0} (faults : D → ℕ) (honest : Bool) (image : D → List ℕ → Type 0) (seen : D → List ℕ) (start from to : LogState D) (r q : RunState) (n : ℕ) (a : ActorNo) (x : Answer) (m : ℕ) (T U : List Placed)
+    → to.is_up ≡ true → (IsTrue honest → image from.disk (seen from.disk)) → (IsTrue honest → IsOpened seen from.disk to)
+    → (IsTrue honest → AreWithin (image from.disk) (image to.disk)) → m ≡ length (open_records to.slots) → LogGoes faults honest image from to → IsHalted honest image from n a x r q → U ≡ after_halt n a x (past_of r.trace)
     → Tells faults honest image start from T → IsTrue honest → open_records start.slots ≡ [] → m ≡ how_many (λ (t : TxNo). is_some (record_in to.slots t.value)) (known U)
-opened_just {D} faults honest image seen start from mid to r q n a x m T U down life disk up among opened within count goes halts ends told is empty =
+opened_just {D} faults honest image seen start from to r q n a x m T U up among opened within count goes halts ends told is empty =
     count ∙ sym (all_found (known U) rs own one there)
   where
     rs : List CommitRecord
     rs = open_records to.slots
 
-    h : Holds honest image mid q
-    h = halts.holds mid down life (λ k c i. subst (λ d. image d c) disk i)
+    h : Holds honest image (halted_log from) q
+    h = halts.holds (halted_log from) refl refl (λ k c i. i)
 
     fit : (t : TxNo) → Fits (state_of t q.worlds) (open_records to.slots)
-    fit t = (fits_opened image seen mid to (state_of t q.worlds) (among is) (opened is) (within is) (h.fits is t)).fits up
+    fit t = (fits_opened image seen (halted_log from) to (state_of t q.worlds) (among is) (opened is) (within is) (h.fits is t)).fits up
 
     own : AreForeignSame [] (open_records to.slots)
     own = subst (λ before. AreForeignSame before (open_records to.slots)) empty ((goes.foreign is (open_records start.slots) (told.foreign is)).up up)
@@ -326,34 +331,29 @@ opened_just {D} faults honest image seen start from mid to r q n a x m T U down 
     there : (t : TxNo) → is_some (first_of (identifier_of t.value) (open_records to.slots)) ≡ true → how_many (λ v. t.value == v.value) (known U) ≡ 1
     there t found =
         let begun =
-        found_known (state_of t q.worlds) (open_records to.slots) (h.kept t) (halts_at mid (state_of t q.worlds) down (h.goes t)) (fit t)
+        found_known (state_of t q.worlds) (open_records to.slots) (h.kept t) (halts_at (halted_log from) (state_of t q.worlds) refl (h.goes t)) (fit t)
         (subst (λ (u : TxNo). is_some (first_of (identifier_of u.value) (open_records to.slots)) ≡ true) (sym (halts.numbered t)) found) in
         let here : is_known U t ≡ true = ap (λ V. has is_begin_sent (history t.value V)) (ends ∙ sym halts.trace) ∙ (ap (has is_begin_sent) (sym (h.tied t).past) ∙ begun) in
         many-known t U ∙ ap (λ b. one_if b 0) here
 
--- The log when it is stopped by a restart
-abbrev pub halted_log : {D : Type 0} → LogState D → LogState D
-halted_log log = record { disk = log.disk; slots = log.slots; is_up = false; life = log.life; armed = log.armed }
-
--- goes on, where it is opened after that or stays stopped.
+-- A log that is stopped by a restart goes on, where it is opened after that or stays stopped.
 goes_from_halted : {D : Type 0} (faults : D → ℕ) (honest : Bool) (image : D → List ℕ → Type 0) (from to : LogState D) → LogGoes faults honest image (halted_log from) to → LogGoes faults honest image from to
 goes_from_halted faults honest image from to g =
     record { grows = g.grows; logs = g.logs; foreign = λ is before kept. g.foreign is before (record { up = λ up. never_up false refl up; imaged = kept.imaged }) }
 
-pub goes_restart : {D : Type 0} (faults : D → ℕ) (honest : Bool) (image : D → List ℕ → Type 0) (seen : D → List ℕ) (from mid to : LogState D) → mid ≡ halted_log from → faults mid.disk ≤ faults to.disk
-    → (IsTrue honest → AreWithin (image mid.disk) (image to.disk)) → (IsTrue honest → IsTrue to.is_up → image mid.disk (seen mid.disk) × IsOpened seen mid.disk to) → LogGoes faults honest image from to
-goes_restart faults honest image seen from mid to e grows within found =
-    goes_from_halted faults honest image from to (subst (λ l. LogGoes faults honest image l to) e (goes_opened faults honest image seen mid to grows within found))
+pub goes_restart : {D : Type 0} (faults : D → ℕ) (honest : Bool) (image : D → List ℕ → Type 0) (seen : D → List ℕ) (from to : LogState D) (found : Result ℕ LogRefusal) → IsReopened faults honest seen found from to → faults from.disk ≤ faults to.disk
+    → (IsTrue honest → image from.disk (seen from.disk)) → (IsTrue honest → AreWithin (image from.disk) (image to.disk)) → LogGoes faults honest image from to
+goes_restart {D} faults honest image seen from to found r grows among within =
+    goes_from_halted faults honest image from to (goes_opened faults honest image seen (halted_log from) to grows within (λ is up. (among is, opened found (r.records is) (sym r.up ∙ up))))
+  where
+    opened : (f : Result ℕ LogRefusal) → OnOk f (IsOpened seen from.disk to) → is_ok f ≡ true → IsOpened seen from.disk to
+    opened (Ok n) o k = o
+    opened (Err e) o k = absurd cc
 
 -- where both are so of what is Ok
 pub both_ok : {T E : Type 0} (P Q : Type 0) (r : Result T E) → OnOk r P → OnOk r Q → OnOk r (P × Q)
 both_ok P Q (Ok x) p q = (p, q)
 both_ok P Q (Err e) p q = tt
-
--- a log whose opening failed isn't up
-pub down_err : {A E : Type 0} (up : Bool) (r : Result A E) (e : E) → r ≡ Err e → (up ≡ true → is_ok r ≡ true) → up ≡ false
-down_err true r e is k = let c : true ≡ false = sym (k refl) ∙ ap is_ok is in absurd cc
-down_err false r e is k = refl
 
 -- the trace after an opening
 pub opened_trace : (n : ℕ) (a : ActorNo) (m : ℕ) (found : ℕ → Bool) (x : Answer) (T U V W : List Placed) → W ≡ put_at (λ t. Restarted (found t.value)) (known V) V → V ≡ at_the_log (LogWord (Opened m)) U → U ≡ after_halt n a x T → x ≡ Fine

@@ -1,5 +1,5 @@
 -- What a replay gives is a history of its script.
-use Rattle.std.proofs.Common.{◌≡◌, ◌<◌, ◌≤◌, ◌⊎◌, ◌-◌, ℕ, Bool, true, false, suc, get_or, Some, List, [], ◌∷◌, ◌++◌, Option, ap, drop, length, refl, arith, sym, subst, take, inl, inr, ◌∙◌, if◌then◌else◌}
+use Rattle.std.proofs.Common.{◌≡◌, ◌<◌, ◌≤◌, ◌⊎◌, ◌-◌, ℕ, Bool, true, false, suc, get_or, Some, List, ◌∷◌, ◌++◌, Option, ap, drop, length, refl, arith, le_trans, sym, subst, take, inl, inr, ◌∙◌, if◌then◌else◌}
 use Rattle.std.specs.Prelude.{nat_lt}
 use Rattle.std.proofs.lemmas.Bool.{cases_Bool}
 use Rattle.std.proofs.lemmas.Bool.Decides.{nat_tests}
@@ -10,16 +10,17 @@ use Rattle.dtx_model.specs.Words.{kth, past_of}
 use Rattle.dtx_values.specs.declared.number.TxNo.{TxNo}
 use Rattle.dtx_values.specs.declared.trace.Place.{Place}
 use Rattle.dtx_values.specs.Table.{how_many}
-use Rattle.dtx_model.specs.AtLog.{armed, at_log, faults as faults_told, one_if}
+use Rattle.dtx_model.specs.AtLog.{at_log, faults as faults_told}
 use Rattle.dtx_model.specs.Caused.{Settled}
 use Rattle.dtx_model.specs.History.{is_call_at}
-use Rattle.dtx_model.specs.Outcome.{is_empty}
 use Rattle.dtx_model.specs.Traces.{Placed, calls, history}
 use Rattle.dtx_model.specs.Replay.{IsReplayed, due_calls}
 use Rattle.dtx_model.specs.Grammar.{IsScript}
 use Rattle.coordinator_log.specs.declared.stop.ArmedStop.{ArmedStop}
-use Rattle.script_runner.specs.LogRun.{IsCounted, LAST, is_left}
-use Rattle.script_runner.specs.Run.{IsRise}
+use Rattle.tx_cells.specs.LogCell.{LAST}
+use Rattle.thread_runs.specs.Run.{IsRise}
+use Rattle.thread_runs.proofs.Ended.{rise_told as told_there}
+use Rattle.script_runner.specs.LogRun.{IsCounted}
 use Rattle.script_runner.specs.RunState.{IsToPlan}
 use Rattle.script_text.proofs.Scripts.{length_script}
 
@@ -56,20 +57,12 @@ pub rise_known : (before now told : ℕ) → IsRise before now (rise_of before n
 rise_known before now told less = let here : nat_lt now LAST ≡ true = grind (arith, nat_tests) in rw here refl
 
 -- the faults that the trace tells of are no more
-one_more : (b : Bool) (n : ℕ) → n ≤ one_if b n
-one_more true n = omega arith
-one_more false n = omega arith
-
 pub rise_told : (before now : ℕ) (stop : Option ArmedStop) (T : List Placed) → IsCounted before now stop T → faults_told (at_log T) ≤ rise_of before now (faults_told (at_log T))
-rise_told before now stop T k = by (cases_Bool (nat_lt now LAST))
+rise_told before now stop T k = le_trans (told_there before now stop (at_log T) (at_log T) refl k.count) (by (nat_lt now LAST))
   where
-    by : (nat_lt now LAST ≡ true) ⊎ (nat_lt now LAST ≡ false) → faults_told (at_log T) ≤ rise_of before now (faults_told (at_log T))
-    by (inl e) =
-        let less : now < LAST = grind (arith, nat_tests) in
-        let told = k.told less in
-        let more = one_more (is_left stop (armed (at_log T))) (faults_told (at_log T)) in
-        rw e (omega (arith, told, more))
-    by (inr e) = rw e (omega arith)
+    by : (b : Bool) → (if b then now - before else faults_told (at_log T)) ≤ (if b then now - before else suc (faults_told (at_log T)))
+    by true = omega arith
+    by false = omega arith
 
 -- and where it rose by none, it stands as it did, and not at its last value
 pub rise_none : (before now told : ℕ) → before ≤ now → rise_of before now told ≡ 0 → (now ≡ before) × (now < LAST)
@@ -81,8 +74,3 @@ rise_none before now told grows e = by (cases_Bool (nat_lt now LAST)) e
         let less : now < LAST = grind (arith, nat_tests) in
         (omega (arith, grows, same), less)
     by (inr l) z = let more : suc told ≡ 0 = sym (ap (λ b. if b then now - before else suc told) l) ∙ z in absurd (omega (arith, more))
-
--- an empty list
-pub empty_is : {A : Type 0} (xs : List A) → is_empty xs ≡ true → xs ≡ []
-empty_is [] e = refl
-empty_is (x ∷ xs) e = absurd cc

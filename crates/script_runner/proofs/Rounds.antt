@@ -31,11 +31,6 @@ did_some t k n m start w less ran none = record { before = start; stepped = ran;
 pub did_all : (t k n m : ℕ) (start w : World) → m ≡ n → HasStepped t k m start w → HasDone t w k n n
 did_all t k n m start w same ran = record { before = start; stepped = subst (λ i. HasStepped t k i start w) same ran; most = omega arith; fewer = λ l. absurd (omega (arith, l)) }
 
--- where no step is the first, none is pending
-pub none-first : {A : Type 0} (xs : List A) → kth xs 1 ≡ None → xs ≡ []
-none-first [] e = refl
-none-first (x ∷ xs) e = absurd (cc)
-
 -- the first, and the others
 pub others : {A : Type 0} (xs : List A) (x : A) → kth xs 1 ≡ Some x → (ys : List A) × (xs ≡ x ∷ ys)
 others [] x e = absurd (cc)

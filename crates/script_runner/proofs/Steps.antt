@@ -25,10 +25,9 @@ use Rattle.dtx_model.specs.Steps.{Done, Full, StoppedNow, StoppedBefore, Step, C
 use Rattle.dtx_model.specs.Caused.{HasStepped, IsCallOf, IsIn, IsOwnRun, has_object, is_begin_sent, may_coordinate, plans_of, world_of}
 use Rattle.dtx_model.specs.Traces.{Placed, history, placed}
 use Rattle.dtx_model.specs.Replay.{is_in_replay, world_at}
-use Rattle.dtx_model.specs.declared.waiting.EnteredCall.{EnteredCall}
 use Rattle.dtx_model.proofs.Bools.{and_both, and_left, and_right, not_both}
-use Rattle.outcome_law.proofs.Pending.{is_no_call}
-use Rattle.outcome_law.proofs.ReplayRuns.{named_no_call}
+use Rattle.outcome_law.proofs.ReplayRuns.{named_no_call, no_call_entered}
+use Rattle.outcome_law.proofs.ReplayTurns.{is_stopping}
 use Rattle.script_calls.proofs.RightReplies.{is_right}
 use Rattle.coordinator_log.specs.Slots.{open_records}
 use Rattle.coordinator_log.specs.State.{LogState}
@@ -37,19 +36,21 @@ use Rattle.tx_world.specs.AtLog.{Answered, IsHad, IsOurs, KeepsLog, KeepsSlots, 
 use Rattle.tx_world.specs.Prepared.{NamesPrepared}
 use Rattle.tx_world.specs.State.{TxState, sends_begin, turned}
 use Rattle.tx_world.specs.Stepping.{IsAnswered}
-use Rattle.tx_world.proofs.StillTied.{named_elsewhere, turned_tied}
+use Rattle.tx_world.proofs.StillTied.{is_restarting, named_elsewhere, turned_tied}
 use Rattle.dtx_model.specs.Log.{first_of}
 use Rattle.world_laws.specs.Left.{steps_left}
+use Rattle.tx_cells.specs.Cell.{untouched}
+use Rattle.tx_cells.proofs.Kept.{turned_calls}
 use Rattle.script_runner.specs.LogRun.{LogGoes, LogStays}
 use Rattle.script_runner.specs.Objects.{DoesGiven}
-use Rattle.script_runner.specs.RunState.{Advances, AreNumbered, GoesWith, HaveSameCalls, Holds, IsRecordKept, IsTied, RunState, Tells, state_of, untouched}
-use Rattle.script_runner.proofs.Deeds.{is_done, is_restarts, untelling_block, untelling_commit}
+use Rattle.script_runner.specs.RunState.{Advances, AreNumbered, GoesWith, HaveSameCalls, Holds, IsRecordKept, IsTied, RunState, Tells, state_of}
+use Rattle.script_runner.proofs.Deeds.{is_done, untelling_block, untelling_commit}
 use Rattle.script_runner.proofs.Fitting.{fits_turn, goes_turn, had_turn}
 use Rattle.script_runner.proofs.Goes.{MayTurn, acts_running, answered_down, answered_up, goes_step, named_in_replay, named_turn}
 use Rattle.script_runner.proofs.Noting.{history_there, trace_noted}
 use Rattle.script_runner.proofs.Numbered.{is_it, state_here, state_there, state_unreached}
 use Rattle.script_runner.proofs.Telling.{is_untelling, tells_block, tells_done}
-use Rattle.script_runner.proofs.Turns.{IsOwn, MayGive, has_stepped, is_stopping, named_here, pending_here, right_here, turn_here, turned_calls, turned_past, written}
+use Rattle.script_runner.proofs.Turns.{IsOwn, MayGive, has_stepped, named_here, pending_here, right_here, turn_here, turned_past, written}
 use Rattle.script_runner.proofs.Tying.{given_same, right_written, tied_noted}
 
 -- What a step of a run is about: it is the k-th that was pending in transaction t of the run, whose world is y after it.
@@ -97,11 +98,6 @@ pub record IsStepAt {D : Type 0} (faults : D → ℕ) (honest : Bool) (image : D
 abbrev pub IsStep : {D : Type 0} → (D → ℕ) → Bool → (D → List ℕ → Type 0) → StepOf D → Type 0
 IsStep faults honest image a = IsStepAt faults honest image a (was a)
 
--- a step that is no call enters none
-none_entered : (ks : List EnteredCall) (m : Step) → is_no_call m ≡ true → entered m ks ≡ ks
-none_entered ks (Calls n a c k) q = absurd cc
-none_entered ks _ q = refl
-
 -- What it does of transaction t itself.
 pub record DidStep {D : Type 0} (faults : D → ℕ) (honest : Bool) (a : StepOf D) : Type 0 where
   pub own : IsOwn a.t (was a)
@@ -127,7 +123,7 @@ did_step faults honest image a d =
     let is : z.transaction ≡ a.t = d.numbered.numbered a.t in
     let world : a.y.world ≡ turned a.from.is_up a.t.value z.world m = d.does.done.world ∙ ap (λ (u : TxNo). turned a.from.is_up u.value z.world m) is in
     let calls : a.y.world.calls ≡ z.world.calls =
-    ap (λ (w : World). w.calls) world ∙ (turned_calls a.from.is_up a.t.value z.world m ∙ none_entered z.world.calls m (named_no_call z.world d.does.name m d.does.named)) in
+    ap (λ (w : World). w.calls) world ∙ (turned_calls a.from.is_up a.t.value z.world m ∙ no_call_entered z.world.calls m (named_no_call z.world d.does.name m d.does.named)) in
     let own : IsOwn a.t z = record { transaction = is; run = subst (λ (u : TxNo). IsOwnRun u.value z.world) is d.own } in
     let tied = d.holds.tied a.t in
     record {
@@ -208,12 +204,6 @@ pub same_up : (a b : Bool) → (a ≡ true → b ≡ true) → (b ≡ true → a
 same_up true b p q = sym (p refl)
 same_up false true p q = q refl
 same_up false false p q = refl
-
--- A log that was up at the end as it was at the start was so between, where none that isn't up comes up.
-pub up_between : (a b c : Bool) → (b ≡ true → a ≡ true) → (c ≡ true → b ≡ true) → c ≡ a → b ≡ a
-up_between a b true p q e = q refl ∙ e
-up_between a true false p q e = sym (p refl)
-up_between a false false p q e = e
 
 -- What holds of the run after it is noted,
 step_holds : {D : Type 0} (faults : D → ℕ) (honest : Bool) (image : D → List ℕ → Type 0) (a : StepOf D) (new : List Placed) → IsStep faults honest image a → (d : DidStep faults honest a)
@@ -310,14 +300,14 @@ untelling_stop [] k = refl
 untelling_stop (x ∷ es) k =
     and_both (is_untelling x) (each is_untelling (es ++ Stopped ∷ [])) (and_left (is_untelling x) (each is_untelling es) k) (untelling_stop es (and_right (is_untelling x) (each is_untelling es) k))
 
-pub untelling_written : (up : Bool) (t : ℕ) (w : World) (m : Step) → is_done m ≡ false → is_restarts m ≡ false → each is_untelling (written up t w m) ≡ true
+pub untelling_written : (up : Bool) (t : ℕ) (w : World) (m : Step) → is_done m ≡ false → is_restarting m ≡ false → each is_untelling (written up t w m) ≡ true
 untelling_written up t w m d r = by (sends_begin t w m && not up)
   where
     by : (b : Bool) → each is_untelling (if b then block_at t w m ++ Stopped ∷ [] else block_at t w m) ≡ true
     by true = untelling_stop (block_at t w m) (untelling_block t w m d r)
     by false = untelling_block t w m d r
 
-same_tells : {D : Type 0} (faults : D → ℕ) (honest : Bool) (image : D → List ℕ → Type 0) (start : LogState D) (a : StepOf D) (m : Step) → is_done m ≡ false → is_restarts m ≡ false → a.to ≡ a.from
+same_tells : {D : Type 0} (faults : D → ℕ) (honest : Bool) (image : D → List ℕ → Type 0) (start : LogState D) (a : StepOf D) (m : Step) → is_done m ≡ false → is_restarting m ≡ false → a.to ≡ a.from
     → (T : List Placed) → Tells faults honest image start a.from T → Tells faults honest image start a.to (onto T (placed a.t (written a.from.is_up a.t.value (was a).world m)))
 same_tells {D} faults honest image start a m d r same T tells =
     let es = written a.from.is_up a.t.value (was a).world m in

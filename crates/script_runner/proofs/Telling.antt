@@ -1,5 +1,5 @@
 -- What a trace tells of the log, as entries come to it.
-use Rattle.std.proofs.Common.{◌≡◌, ◌⊎◌, ◌≤◌, ◌<◌, ◌+◌, ◌-◌, ℕ, suc, Bool, true, false, not, List, [], ◌∷◌, Option, Some, None, refl, sym, ap, subst, ◌∙◌, inl, inr, arith, le_trans}
+use Rattle.std.proofs.Common.{◌≡◌, ◌⊎◌, ◌≤◌, ◌+◌, ◌-◌, ℕ, Bool, true, false, not, List, [], ◌∷◌, Option, Some, None, refl, sym, ap, subst, ◌∙◌, inl, inr, arith}
 use Rattle.outside.specs.Faults.{Rose}
 use Rattle.dtx_values.specs.declared.Image.{Image}
 use Rattle.dtx_values.specs.declared.entry.Answer.TheVariants.{Fine}
@@ -10,7 +10,7 @@ use Rattle.dtx_values.specs.declared.number.ActorNo.{ActorNo}
 use Rattle.dtx_values.specs.declared.number.TxNo.{TxNo}
 use Rattle.dtx_values.specs.declared.trace.Place.TheVariants.{Context, Log, Transaction}
 use Rattle.dtx_model.specs.Words.{each, has, onto}
-use Rattle.dtx_model.specs.AtLog.{act_calls, armed, at_log, calls_of, faults as faults_told, found_behind, is_called, is_met, is_reached, is_unarmed, made, one_if, opens_right, stop_right, stops_right}
+use Rattle.dtx_model.specs.AtLog.{act_calls, armed, at_log, calls_of, found_behind, is_called, is_met, is_reached, made, opens_right, stop_right, stops_right}
 use Rattle.dtx_model.specs.Replay.{at_the_log, put_at}
 use Rattle.dtx_model.specs.Traces.{Placed, noted, placed}
 use Rattle.dtx_model.proofs.Bools.{and_left, and_right, not_false, or_right}
@@ -18,7 +18,11 @@ use Rattle.coordinator_log.specs.Slots.{open_records}
 use Rattle.coordinator_log.specs.State.{LogState}
 use Rattle.coordinator_log.specs.Stop.{after_calls, stop_in}
 use Rattle.coordinator_log.specs.declared.stop.ArmedStop.{ArmedStop}
-use Rattle.script_runner.specs.LogRun.{IsCounted, LAST, LogGoes, is_left, is_no_log_answer}
+use Rattle.tx_cells.specs.LogCell.{AreCounted}
+use Rattle.tx_cells.specs.LogAnswers.{is_no_log_answer}
+use Rattle.tx_cells.proofs.LogKept.{counted_armed}
+use Rattle.tx_cells.proofs.LogStep.{counted_stopped}
+use Rattle.script_runner.specs.LogRun.{IsCounted, LogGoes}
 use Rattle.script_runner.specs.RunState.{Tells}
 use Rattle.script_runner.proofs.TellingStops.{counted_at, met, open_on, same_count, still_armed, stop_by, stop_on, unmet}
 
@@ -47,8 +51,7 @@ untelling_found t x k = refl
 -- Where the same stands at the log, and as many calls were made, the same is counted.
 pub counted_same : (b n : ℕ) (stop : Option ArmedStop) (T U : List Placed) → at_log U ≡ at_log T → made U ≡ made T → (stop_right [] T ≡ true → stop_right [] U ≡ true) → IsCounted b n stop T → IsCounted b n stop U
 counted_same b n stop T U l m s k = record {
-  grows = k.grows;
-  told = λ less. rw l (k.told less);
+  count = subst (AreCounted b n stop) (sym l) k.count;
   stops = λ same less. s (k.stops same less);
   armed = λ same less. ap armed l ∙ (k.armed same less ∙ ap (λ i. counted_at i stop) (sym m));
 }
@@ -88,8 +91,7 @@ tells_put faults honest image start log T (u ∷ us) c =
 counted_done : (b n m : ℕ) (old new : Option ArmedStop) (T : List Placed) (x : Placed) → at_log (x ∷ T) ≡ at_log T → made (x ∷ T) ≡ m + made T → stops_right [] T x ≡ not (is_met T m)
     → stop_in m old ≡ None → new ≡ after_calls m old → IsCounted b n old T → IsCounted b n new (x ∷ T)
 counted_done b n m old new T x l calls s passes left k = record {
-  grows = k.grows;
-  told = λ less. rw (l, left, still_armed m old (armed (at_log T)) passes) (k.told less);
+  count = record { grows = k.count.grows; told = λ less. rw (l, left, still_armed m old (armed (at_log T)) passes) (k.count.told less) };
   stops = λ same less.
       let free : is_met T m ≡ false = ap (λ a. is_reached a (made T + m)) (k.armed same less) ∙ unmet m (made T) old passes in
       stop_on x T (s ∙ not_false (is_met T m) free) (k.stops same less);
@@ -128,44 +130,19 @@ pub tells_done : {D : Type 0} (faults : D → ℕ) (honest : Bool) (image : D �
 tells_done faults honest image start from to T t x n es which quiet goes same passes left k =
     tells_block faults honest image start to ((Transaction t, x) ∷ T) t es quiet (done_entry faults honest image start from to T t x n which goes same passes left k)
 
--- A count that doesn't fall, and one that rose
-not_fewer : (b m n f : ℕ) → m ≤ n → b + f ≤ m → b + f ≤ n
-not_fewer b m n f le was = omega arith
-
-one_more : (b m n f : ℕ) → n < LAST → b + f ≤ m → Rose m n → b + suc f ≤ n
-one_more b m n f less was rose = omega arith
-
--- What a stop of the log adds to the faults that are told of, and to what is left armed, rose the count.
-told_stopped : (b m n : ℕ) (old new : Option ArmedStop) (past : List Entry) → is_called past ≡ false → m ≤ n → n < LAST → b + one_if (is_left old (armed past)) (faults_told past) ≤ m
-    → (old ≡ None → Rose m n) → Rose m n ⊎ (new ≡ None) → (old ≡ None → new ≡ None) → b + one_if (is_left new (armed (Stopped ∷ past))) (faults_told (Stopped ∷ past)) ≤ n
-told_stopped b m n old new past uncalled le less was cause used unarmed = rw uncalled (count (armed past) (faults_told past) old new was cause used unarmed)
-  where
-    count : (a : Option ℕ) (f : ℕ) (old new : Option ArmedStop) → b + one_if (is_left old a) f ≤ m → (old ≡ None → Rose m n) → Rose m n ⊎ (new ≡ None) → (old ≡ None → new ≡ None)
-        → b + one_if (is_left new None) (one_if (is_unarmed a) f) ≤ n
-    count (Some i) f None None was cause used unarmed = not_fewer b m n f le was
-    count (Some i) f (Some r) None was cause used unarmed = not_fewer b m n f le was
-    count (Some i) f None (Some s) was cause used unarmed = let none = unarmed refl in absurd cc
-    count (Some i) f (Some r) (Some s) was cause (inl rose) unarmed = one_more b m n f less was rose
-    count (Some i) f (Some r) (Some s) was cause (inr e) unarmed = absurd cc
-    count None f None None was cause used unarmed = one_more b m n f less was (cause refl)
-    count None f None (Some s) was cause used unarmed = let none = unarmed refl in absurd cc
-    count None f (Some r) None was cause used unarmed = not_fewer b m n (suc f) le was
-    count None f (Some r) (Some s) was cause (inl rose) unarmed = one_more b m n (suc f) less was rose
-    count None f (Some r) (Some s) was cause (inr e) unarmed = absurd cc
-
-counted_stopped : (b m n : ℕ) (old new : Option ArmedStop) (T : List Placed) (t : TxNo) → is_called (at_log T) ≡ false → m ≤ n → (stop_in (act_calls t.value T) old ≡ None → Rose m n)
+-- A stop of the log.
+stop_counted : (b m n : ℕ) (old new : Option ArmedStop) (T : List Placed) (t : TxNo) → is_called (at_log T) ≡ false → m ≤ n → (stop_in (act_calls t.value T) old ≡ None → Rose m n)
     → Rose m n ⊎ (new ≡ None) → (old ≡ None → new ≡ None) → IsCounted b m old T → IsCounted b n new ((Transaction t, Stopped) ∷ (Log, Stopped) ∷ T)
-counted_stopped b m n old new T t uncalled le cause used unarmed k = record {
-  grows = le_trans k.grows le;
-  told = λ less. told_stopped b m n old new (at_log T) uncalled le less (k.told (omega arith)) (λ e. cause (ap (stop_in (act_calls t.value T)) e)) used unarmed;
+stop_counted b m n old new T t uncalled le cause used unarmed k = record {
+  count = counted_stopped b m n old new (at_log T) uncalled le (λ e. cause (ap (stop_in (act_calls t.value T)) e)) used unarmed k.count;
   stops = λ same less.
       let calls = act_calls t.value T in
-      let flat : m ≡ b = omega (arith, k.grows) in
-      let calm : Rose m n → ⊥ = λ rose. omega (arith, k.grows) in
+      let flat : m ≡ b = omega (arith, k.count.grows) in
+      let calm : Rose m n → ⊥ = λ rose. omega (arith, k.count.grows) in
       let reached : is_met T calls ≡ true = ap (λ a. is_reached a (made T + calls)) (k.armed flat (omega arith)) ∙ met calls (made T) old (λ e. calm (cause e)) in
       stop_by (Transaction t, Stopped) (Log, Stopped) T refl (or_right (is_called (at_log T)) (is_met T calls) reached) (k.stops flat (omega arith));
   armed = λ same less.
-      let calm : Rose m n → ⊥ = λ rose. omega (arith, k.grows) in
+      let calm : Rose m n → ⊥ = λ rose. omega (arith, k.count.grows) in
       let none : new ≡ None = elim used [ inl rose ↦ absurd (calm rose) | inr e ↦ e ] in
       rw uncalled (sym (ap (λ o. counted_at (made ((Transaction t, Stopped) ∷ (Log, Stopped) ∷ T)) o) none));
 }
@@ -176,7 +153,7 @@ pub tells_stopped : {D : Type 0} (faults : D → ℕ) (honest : Bool) (image : D
     → Tells faults honest image start from T → Tells faults honest image start to (put_at (λ u. Stopped) us (onto (at_the_log Stopped T) (placed t (Stopped ∷ []))))
 tells_stopped faults honest image start from to T t us uncalled goes cause used unarmed k =
     tells_put faults honest image start to ((Transaction t, Stopped) ∷ (Log, Stopped) ∷ T) us (record {
-      counted = counted_stopped (faults start.disk) (faults from.disk) (faults to.disk) from.armed to.armed T t uncalled goes.grows cause used unarmed k.counted;
+      counted = stop_counted (faults start.disk) (faults from.disk) (faults to.disk) from.armed to.armed T t uncalled goes.grows cause used unarmed k.counted;
       foreign = λ is. goes.foreign is (open_records start.slots) (k.foreign is);
       opens = λ is empty. open_on (Transaction t, Stopped) ((Log, Stopped) ∷ T) refl refl (open_on (Log, Stopped) T refl refl (k.opens is empty));
       unlike = k.unlike;
@@ -192,24 +169,19 @@ tells_grown faults honest image start from to T goes same left k = record {
 }
 
 -- A stop was armed at the log.
-counted_armed : (b m : ℕ) (old : Option ArmedStop) (T : List Placed) (n : ℕ) (a : ActorNo) (k : ℕ) (i : Image) → 1 ≤ k → IsCounted b m old T
+arm_counted : (b m : ℕ) (old : Option ArmedStop) (T : List Placed) (n : ℕ) (a : ActorNo) (k : ℕ) (i : Image) → 1 ≤ k → IsCounted b m old T
     → IsCounted b m (Some (record { passes = k - 1; image = i })) ((Log, LogWord (Armed k i)) ∷ (Log, Called n a Fine) ∷ T)
-counted_armed b m old T n a k i first c = record {
-  grows = c.grows;
-  told = λ less. fewer (is_left old (armed (at_log T))) (c.told less);
+arm_counted b m old T n a k i first c = record {
+  count = counted_armed b m old (record { passes = k - 1; image = i }) (at_log T) n a k i c.count;
   stops = λ same less. stop_on (Log, LogWord (Armed k i)) ((Log, Called n a Fine) ∷ T) refl (stop_on (Log, Called n a Fine) T refl (c.stops same less));
   armed = λ same less. ap Some (omega arith);
 }
-  where
-    fewer : (l : Bool) → b + one_if l (faults_told (at_log T)) ≤ m → b + faults_told (at_log T) ≤ m
-    fewer true le = omega arith
-    fewer false le = le
 
 pub tells_armed : {D : Type 0} (faults : D → ℕ) (honest : Bool) (image : D → List ℕ → Type 0) (start from to : LogState D) (T : List Placed) (n : ℕ) (a : ActorNo) (k : ℕ) (i : Image) → 1 ≤ k → LogGoes faults honest image from to → faults to.disk ≡ faults from.disk
     → to.armed ≡ Some (record { passes = k - 1; image = i }) → Tells faults honest image start from T → Tells faults honest image start to (at_the_log (LogWord (Armed k i)) (at_the_log (Called n a Fine) T))
 tells_armed faults honest image start from to T n a k i first goes same left c = record {
   counted = counted_at_log (faults start.disk) (faults from.disk) (faults to.disk) to.armed ((Log, LogWord (Armed k i)) ∷ (Log, Called n a Fine) ∷ T) same
-      (subst (λ o. IsCounted (faults start.disk) (faults from.disk) o ((Log, LogWord (Armed k i)) ∷ (Log, Called n a Fine) ∷ T)) (sym left) (counted_armed (faults start.disk) (faults from.disk) from.armed T n a k i first c.counted));
+      (subst (λ o. IsCounted (faults start.disk) (faults from.disk) o ((Log, LogWord (Armed k i)) ∷ (Log, Called n a Fine) ∷ T)) (sym left) (arm_counted (faults start.disk) (faults from.disk) from.armed T n a k i first c.counted));
   foreign = λ is. goes.foreign is (open_records start.slots) (c.foreign is);
   opens = λ is empty. open_on (Log, LogWord (Armed k i)) ((Log, Called n a Fine) ∷ T) refl refl (open_on (Log, Called n a Fine) T refl refl (c.opens is empty));
   unlike = c.unlike;

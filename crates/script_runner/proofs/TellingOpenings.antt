@@ -20,7 +20,9 @@ use Rattle.outcome_law.proofs.PutAt.{log-put}
 use Rattle.coordinator_log.specs.Slots.{open_records}
 use Rattle.coordinator_log.specs.State.{LogState}
 use Rattle.coordinator_log.specs.declared.stop.ArmedStop.{ArmedStop}
-use Rattle.script_runner.specs.LogRun.{IsCounted, LAST, LogGoes, is_left, is_no_log_answer}
+use Rattle.tx_cells.specs.LogCell.{LAST, is_left}
+use Rattle.tx_cells.specs.LogAnswers.{is_no_log_answer}
+use Rattle.script_runner.specs.LogRun.{IsCounted, LogGoes}
 use Rattle.script_runner.specs.RunState.{Tells}
 use Rattle.script_runner.proofs.Telling.{counted_same, tells_put}
 use Rattle.script_runner.proofs.TellingStops.{open_on, open_same, or_left, stop_on}
@@ -33,10 +35,12 @@ told_called b m n l false f le less was cause = le_trans was le
 
 counted_called : (b m n : ℕ) (o : Option ArmedStop) (T : List Placed) (i : ℕ) (a : ActorNo) (x : Answer) → m ≤ n → (is_fault_answer x ≡ true → Rose m n) → IsCounted b m o T → IsCounted b n o ((Log, Called i a x) ∷ T)
 counted_called b m n o T i a x le cause k = record {
-  grows = le_trans k.grows le;
-  told = λ less. told_called b m n (is_left o (armed (at_log T))) (is_fault_answer x) (faults_told (at_log T)) le less (k.told (omega arith)) cause;
-  stops = λ same less. stop_on (Log, Called i a x) T refl (k.stops (omega (arith, k.grows)) (omega arith));
-  armed = λ same less. k.armed (omega (arith, k.grows)) (omega arith);
+  count = record {
+    grows = le_trans k.count.grows le;
+    told = λ less. told_called b m n (is_left o (armed (at_log T))) (is_fault_answer x) (faults_told (at_log T)) le less (k.count.told (omega arith)) cause;
+  };
+  stops = λ same less. stop_on (Log, Called i a x) T refl (k.stops (omega (arith, k.count.grows)) (omega arith));
+  armed = λ same less. k.armed (omega (arith, k.count.grows)) (omega arith);
 }
 
 tells_called : {D : Type 0} (faults : D → ℕ) (honest : Bool) (image : D → List ℕ → Type 0) (start from to : LogState D) (T : List Placed) (i : ℕ) (a : ActorNo) (x : Answer) → LogGoes faults honest image from to
@@ -51,8 +55,7 @@ tells_called faults honest image start from to T i a x goes cause like left k = 
 -- The stop that the call brings
 counted_halted : (b m : ℕ) (o : Option ArmedStop) (T : List Placed) → is_called (at_log T) ≡ true → IsCounted b m o T → IsCounted b m o ((Log, Stopped) ∷ T)
 counted_halted b m o T called k = record {
-  grows = k.grows;
-  told = λ less. rw called (k.told less);
+  count = record { grows = k.count.grows; told = λ less. rw called (k.count.told less) };
   stops = λ same less. stop_on (Log, Stopped) T (or_left (is_called (at_log T)) false called) (k.stops same less);
   armed = λ same less. rw called (k.armed same less);
 }
@@ -70,8 +73,7 @@ tells_halted faults honest image start log T us called k =
 -- The opening, and what is found in it
 counted_opened : (b m : ℕ) (o : Option ArmedStop) (T : List Placed) (n : ℕ) → IsCounted b m o T → IsCounted b m o ((Log, LogWord (Opened n)) ∷ T)
 counted_opened b m o T n k = record {
-  grows = k.grows;
-  told = k.told;
+  count = record { grows = k.count.grows; told = k.count.told };
   stops = λ same less. stop_on (Log, LogWord (Opened n)) T refl (k.stops same less);
   armed = k.armed;
 }

@@ -11,7 +11,7 @@ use Rattle.dtx_model.specs.Traces.{Placed}
 use Rattle.dtx_model.proofs.Bools.{and_both, and_left, and_right}
 use Rattle.coordinator_log.specs.Stop.{after_calls, stop_in}
 use Rattle.coordinator_log.specs.declared.stop.ArmedStop.{ArmedStop}
-use Rattle.script_runner.specs.LogRun.{is_left}
+use Rattle.tx_cells.specs.LogCell.{is_left}
 
 -- Who stopped the log is told by the next entry alone,
 stopped_by_head : (past : List Placed) (x : Placed) (b c : List Placed) → is_stopped_by past (x ∷ b) ≡ is_stopped_by past (x ∷ c)

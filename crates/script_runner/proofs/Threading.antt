@@ -17,10 +17,10 @@ use Rattle.dtx_model.specs.Traces.{Placed, calls, history}
 use Rattle.dtx_model.specs.Words.{always, has, past_of}
 use Rattle.dtx_model.proofs.Bools.{and_both, and_left, and_right}
 use Rattle.call_order.specs.InOrder.{AreInActorOrder}
-use Rattle.thread_runs.specs.Run.{EndsOnThreads, IsRunOnThreads}
-use Rattle.script_runner.specs.LogRun.{is_no_log_answer}
+use Rattle.thread_runs.specs.Run.{AreTied, EndsOnThreads, IsRunOnThreads}
+use Rattle.tx_cells.specs.LogAnswers.{is_no_log_answer}
 use Rattle.script_runner.specs.Program.{IsReplayOf, IsThreadsOf}
-use Rattle.script_runner.specs.Run.{AreTied, IsRunOf}
+use Rattle.script_runner.specs.Run.{IsRunOf}
 use Rattle.script_runner.specs.Waits.{AreWaitsAnswered}
 
 -- what holds of each value of a result, where it is this one

@@ -1,31 +1,24 @@
 -- A step of a transaction, as its world does it and as the trace has it: a step that doesn't stop the log is a turn of the trace, whether the log is up or not.
-use Rattle.std.proofs.Common.{◌≡◌, ◌⊎◌, ◌-◌, ◌<◌, ℕ, suc, Bool, true, false, ◌&&◌, ◌||◌, not, List, [], ◌∷◌, ◌++◌, find, Option, None, Some, is_some, inl, inr, refl, ap, sym, subst, ◌∙◌, if◌then◌else◌}
+use Rattle.std.proofs.Common.{◌≡◌, ◌-◌, ◌<◌, ℕ, suc, Bool, true, false, ◌&&◌, not, List, [], ◌∷◌, ◌++◌, Option, None, Some, is_some, refl, ap, sym, subst, ◌∙◌, if◌then◌else◌}
 use Rattle.std.specs.Prelude.{IfSome, slice_index_or}
 use Rattle.dtx_values.specs.declared.call.Call.{Call}
 use Rattle.dtx_values.specs.declared.entry.Entry.{Entry}
 use Rattle.dtx_values.specs.declared.entry.Entry.TheVariants.{Stopped}
-use Rattle.dtx_values.specs.declared.message.Conn.{Conn}
 use Rattle.dtx_values.specs.declared.note.Note.{Note}
-use Rattle.dtx_values.specs.declared.note.Note.TheVariants.{Commit as CommitNote}
-use Rattle.dtx_values.specs.declared.note.Plan.{Plan}
 use Rattle.dtx_values.specs.declared.note.Reply.{Reply}
 use Rattle.dtx_values.specs.declared.number.ActorNo.{ActorNo}
 use Rattle.dtx_values.specs.declared.number.EnlNo.{EnlNo}
 use Rattle.dtx_values.specs.declared.number.RmNo.{RmNo}
 use Rattle.dtx_values.specs.declared.number.TxNo.{TxNo}
-use Rattle.dtx_values.specs.declared.row.Row.{Row}
 use Rattle.dtx_values.specs.declared.script.Line.{Line}
 use Rattle.dtx_values.specs.declared.trace.Place.TheVariants.{Transaction}
-use Rattle.dtx_values.specs.Row.{is_of}
-use Rattle.dtx_model.specs.Words.{has, kth, onto, or_else}
+use Rattle.dtx_model.specs.Words.{has, kth, onto}
 use Rattle.dtx_model.specs.Coordinated.{coordinate, follow, may_log}
 use Rattle.dtx_model.specs.Grammar.{are_named_well}
-use Rattle.dtx_model.specs.Observed.{Observed, observe}
-use Rattle.dtx_model.specs.Plans.{plan_of, planned as reply_planned}
-use Rattle.dtx_model.specs.Replies.{conn_due, due_of, note_of_conn, note_of_row, with_note}
-use Rattle.dtx_model.specs.Half.{is_gone}
+use Rattle.dtx_model.specs.Plans.{planned as reply_planned}
+use Rattle.dtx_model.specs.Replies.{due_of, with_note}
 use Rattle.dtx_model.specs.World.{World, core, half}
-use Rattle.dtx_model.specs.Steps.{StoppedNow, StoppedBefore, Step, Replies, Coordinates, Stops, StepName, ReplyOf, LocalAct, CoordinatorAct, Delivery, after, appended, block_at, entered, freed, pending}
+use Rattle.dtx_model.specs.Steps.{StoppedNow, StoppedBefore, Step, Replies, Coordinates, Stops, StepName, ReplyOf, LocalAct, CoordinatorAct, Delivery, after, appended, block_at, freed, pending}
 use Rattle.dtx_model.specs.Caused.{HasStepped, IsCallOf, IsIn, IsNamed, IsOwnRun, IsRun, entered_in, has_object, is_begin_sent, is_up_to, may_coordinate, may_stop_after, plans_of, stopped_if, world_of}
 use Rattle.dtx_model.specs.Traces.{Placed, placed}
 use Rattle.dtx_model.specs.AtLog.{is_log_up}
@@ -33,14 +26,10 @@ use Rattle.dtx_model.specs.Replay.{after_turn, block_in, stop_if, world_at}
 use Rattle.dtx_model.proofs.Histories.{onto-append}
 use Rattle.dtx_model.proofs.Lifting.{lift_ran}
 use Rattle.outcome_law.specs.LineCalls.{AreCalls}
-use Rattle.outcome_law.proofs.Makers.{ran_made}
-use Rattle.outcome_law.proofs.Planned.{plan_same}
-use Rattle.outcome_law.proofs.Told.{maker_called}
 use Rattle.outcome_law.proofs.ReplayRuns.{named_same}
 use Rattle.outcome_law.proofs.ReplaySame.{block_same, pending_same}
-use Rattle.outcome_law.proofs.Rule.{is_enlisted}
-use Rattle.outcome_law.proofs.ScriptCalls.{plans_same, ran_calls}
-use Rattle.outcome_law.proofs.TableRows.{enlisted_in_rows}
+use Rattle.outcome_law.proofs.ReplayTurns.{is_stopping}
+use Rattle.outcome_law.proofs.ScriptCalls.{ran_calls}
 use Rattle.script_calls.specs.Managers.{AreManagers}
 use Rattle.script_calls.proofs.RightReplies.{IsReplyRight, free_to, reply_to}
 use Rattle.script_calls.proofs.Unsilent.{unsilent}
@@ -50,6 +39,7 @@ use Rattle.tx_world.specs.Stepping.{Does, IsToPlan, reply_in}
 use Rattle.tx_world.proofs.Begun.{stopped_begun}
 use Rattle.tx_world.proofs.LeftSteps.{step_nearer}
 use Rattle.world_laws.specs.Left.{steps_left}
+use Rattle.tx_cells.proofs.Stepped.{planned_here}
 use Rattle.script_runner.specs.Objects.{DoesGiven, MayReply}
 use Rattle.script_runner.specs.RunState.{AreNumbered, IsTied, state_of}
 
@@ -97,19 +87,7 @@ turned_past up t w m = by (sends_begin t w m && not up)
     by true = sym (onto-append w.past (block_at t w m) (Stopped ∷ []))
     by false = refl
 
-pub turned_calls : (up : Bool) (t : ℕ) (w : World) (m : Step) → (turned up t w m).calls ≡ entered m w.calls
-unfolding after
-turned_calls up t w m = by (sends_begin t w m && not up)
-  where
-    by : (c : Bool) → (if c then after t (after t w m) Stops else after t w m).calls ≡ entered m w.calls
-    by true = refl
-    by false = refl
-
 -- It is placed at the end of the trace, and so it is a turn, where the step doesn't stop the log and the trace says whether that is up.
-abbrev pub is_stopping : Step → Bool
-is_stopping (Coordinates StoppedNow) = true
-is_stopping _ = false
-
 pub placed_more : (t : TxNo) (T : List Placed) (es fs : List Entry) → onto T (placed t (es ++ fs)) ≡ onto (onto T (placed t es)) (placed t fs)
 placed_more t T [] fs = refl
 placed_more t T (x ∷ es) fs = placed_more t ((Transaction t, x) ∷ T) es fs
@@ -159,54 +137,6 @@ acts_begun t w r may =
     let same : v ≡ after t w (Coordinates StoppedBefore) = ap (λ (es : List Entry). record { calls = w.calls; past = onto w.past es }) (sym (stop_block w (may_log (core w)))) in
     stopped_begun t v (Coordinates StoppedBefore ∷ r.0, (w, r.1, may, same)) refl
 
--- A log that is up isn't stopped.
-pub never_both : (b : Bool) → b ≡ true → b ≡ false → ⊥
-never_both b e f = let k : true ≡ false = sym e ∙ f in cc
-
--- A reply other than an acknowledgement is due of an enlistment that stands.
-found_stands : {A : Type 0} (p : A → Bool) (xs : List A) (x : A) → find p xs ≡ Some x → has p xs ≡ true
-found_stands p [] x e = absurd cc
-found_stands {A = A} p (y ∷ ys) x e = step (p y) y (find p ys) (has p ys) (found_stands p ys x) e
-  where
-    step : (b : Bool) (y : A) (o : Option A) (rest : Bool) → (o ≡ Some x → rest ≡ true) → (if b then Some y else o) ≡ Some x → (b || rest) ≡ true
-    step true y o rest ih h = refl
-    step false y o rest ih h = ih h
-
-due_stands : (o : Observed) (e : ℕ) (n : Note) → due_of o e ≡ Some n → (n ≡ CommitNote) ⊎ (has (is_of e) o.table ≡ true)
-unfolding due_of
-due_stands o e n d = by (is_gone o e) (find (is_of e) o.table) refl d
-  where
-    on_conn : (c : Option Conn) → note_of_conn c ≡ Some n → n ≡ CommitNote
-    on_conn (Some c) k = cc
-    on_conn None k = absurd cc
-
-    by : (b : Bool) (x : Option Row) → find (is_of e) o.table ≡ x → (if b then None else or_else (note_of_row o x) (note_of_conn (conn_due o e))) ≡ Some n
-        → (n ≡ CommitNote) ⊎ (has (is_of e) o.table ≡ true)
-    by true x f k = absurd cc
-    by false None f k = inl (on_conn (conn_due o e) k)
-    by false (Some x) f k = inr (found_stands (is_of e) o.table x f)
-
--- The plan of an enlistment that stands is the script's.
-plan_here : (s : List Line) (o : ℕ) (t : TxNo) (T : List Placed) (x : TxState) (e : ℕ) → are_named_well s ≡ true → IsTied s o t T x → IsOwn t x → has (is_enlisted e) x.world.past ≡ true
-    → plan_of x.world.calls e ≡ plans_of s e
-plan_here s o t T x e named tied own stands =
-    let w = x.world in
-    let run = by_script s t.value w tied.given own.run in
-    let m = ((ran_made (IsCallOf s t.value) t.value run.0 w run.1).enlisted e stands).0 in
-    ap (λ (p : ℕ → Plan). p e) (plans_same s t.value w.calls w.past (calls_by_script s t.value w tied.given own.run))
-    ∙ plan_same s t.value e w.past named (record { number = m.number; actor = m.actor; call = m.call; given = m.may; passes = maker_called e m.call m.passes; called = m.called })
-
--- So what its own calls plan to a note that is due is what the script plans.
-planned_here : (s : List Line) (o : ℕ) (t : TxNo) (T : List Placed) (x : TxState) (e : ℕ) (n : Note) → are_named_well s ≡ true → IsTied s o t T x → IsOwn t x → due_of (half x.world).seen e ≡ Some n
-    → reply_planned (plan_of x.world.calls e) n ≡ reply_planned (plans_of s e) n
-unfolding observe
-planned_here s o t T x e n named tied own due = elim (due_stands (half x.world).seen e n due) [
-  | inl is ↦ subst (λ (m : Note). reply_planned (plan_of x.world.calls e) m ≡ reply_planned (plans_of s e) m) (sym is) refl
-  | inr stands ↦
-      let enlisted : has (is_enlisted e) x.world.past ≡ true = sym (enlisted_in_rows e x.world.past) ∙ stands in
-      ap (λ (p : Plan). reply_planned p n) (plan_here s o t T x e named tied own enlisted)
-]
-
 -- What is asked of a reply that is given: it fits the note, and its manager has an object.
 abbrev pub MayGive : List Line → ℕ → World → ℕ → Option (EnlNo × Reply) → Type 0
 MayGive s o w k given = IfSome given (λ x. MayReply w k x.0 x.1 × (has_object s o x.0.value ≡ true))
@@ -249,10 +179,10 @@ pub right_here : {D : Type 0} (faults : D → ℕ) (s : List Line) (o : ℕ) (t 
 right_here faults s o t T x (Some (e, r)) k from y to named tied own (may, object) d =
     let there = reply_pending x.world e may.note (kth (pending x.world) k) may.due in
     let spoken : is_some (reply_planned (plans_of s e.value) may.note) ≡ true =
-    ap is_some (sym (planned_here s o t T x e.value may.note named tied own there.1)) ∙ unsilent x.world k e may.note there.0 there.1 in
+    ap is_some (sym (planned_here s t.value x.world e.value may.note named tied.given own.run there.1)) ∙ unsilent x.world k e may.note there.0 there.1 in
     subst (λ (m : Step). IsReplyRight (plans_of s) (has_object s o) m) (sym d.reply) (free_to (plans_of s) (has_object s o) e may.note r object may.fitting spoken)
 right_here faults s o t T x None k from y to named tied own may d = by d.step d.reply
   where
     by : (m : Step) → IsToPlan x.world m → IsReplyRight (plans_of s) (has_object s o) m
-    by (Replies e r) (n, due, plan) = reply_to (plans_of s) (has_object s o) e n r (sym (planned_here s o t T x e.value n named tied own due) ∙ plan)
+    by (Replies e r) (n, due, plan) = reply_to (plans_of s) (has_object s o) e n r (sym (planned_here s t.value x.world e.value n named tied.given own.run due) ∙ plan)
     by _ q = tt

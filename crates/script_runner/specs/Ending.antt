@@ -1,11 +1,11 @@
 -- The log at the end of a run.
-use Rattle.std.specs.Prelude.{ℕ, ◌==◌, ◌≡◌, ◌≤◌, ◌⊎◌, ◌&&◌, ◌||◌, Bool, true, false, IsTrue, List, [], ◌∷◌, filter, length, Ok, if◌then◌else◌}
+use Rattle.std.specs.Prelude.{ℕ, ◌==◌, ◌≡◌, ◌≤◌, ◌⊎◌, ◌&&◌, ◌||◌, Bool, true, false, IsTrue, List, [], ◌∷◌, filter, length, if◌then◌else◌}
 use Rattle.dtx_values.specs.declared.entry.Entry.{Entry}
 use Rattle.dtx_values.specs.declared.entry.Entry.TheVariants.{Restarted}
 use Rattle.dtx_values.specs.declared.message.Info.{Info}
 use Rattle.dtx_values.specs.declared.number.TxNo.{TxNo}
 use Rattle.dtx_model.specs.AtLog.{is_known, is_log_up}
-use Rattle.dtx_model.specs.Log.{CommitRecord, is_record_of, log_has}
+use Rattle.dtx_model.specs.Log.{CommitRecord, is_record_of}
 use Rattle.dtx_model.specs.Promotes.{identifier_of}
 use Rattle.dtx_model.specs.Entries.{is_record}
 use Rattle.dtx_model.specs.Observed.{observe}
@@ -17,11 +17,8 @@ use Rattle.coordinator_log.specs.Crash.{AllHold}
 use Rattle.coordinator_log.specs.Slots.{open_records}
 use Rattle.coordinator_log.specs.State.{LogState}
 use Rattle.tx_world.specs.Recorded.{record_after}
+use Rattle.thread_runs.specs.Run.{EachHolds, records_of}
 use Rattle.script_runner.specs.LogRun.{AreForeignSame}
-
--- the records of a transaction of this number
-abbrev pub records_of : ℕ → List CommitRecord → List CommitRecord
-records_of t rs = filter (is_record_of (identifier_of t)) rs
 
 -- no record is one of a script's transactions
 abbrev pub HasNone : List CommitRecord → Type 0
@@ -61,10 +58,6 @@ pub record MayBeRecorded (T : List Placed) (before rs : List CommitRecord) : Typ
   pub known : (t : TxNo) → is_known T t ≡ false → records_of t.value rs ≡ []
   pub found : (t : TxNo) → is_tied (history t.value T) (Restarted (has (is_record_of (identifier_of t.value)) rs)) ≡ true
   pub others : AreForeignSame before rs
-
--- each image that a crash can leave is a log whose records are so
-abbrev pub EachHolds : (List ℕ → Type 0) → (List CommitRecord → Type 0) → Type 0
-EachHolds image P = (c : List ℕ) → image c → (rs : List CommitRecord) × (log_has c ≡ Ok rs) × P rs
 
 -- The log at the end of a run over an honest disk: where it is up, each image has its records, and they are those of the trace; and where it is stopped, the records of each image are some that may be there.
 pub record EndsAs {D : Type 0} (image : D → List ℕ → Type 0) (before : List CommitRecord) (log : LogState D) (T : List Placed) : Type 0 where

@@ -1,35 +1,21 @@
 -- The log under a run: what of it the trace says, and what stays.
-use Rattle.std.specs.Prelude.{ℕ, ◌+◌, ◌-◌, ◌^◌, ◌≡◌, ◌<◌, ◌≤◌, ◌⊎◌, Bool, true, false, List, [], filter, Option, Some, None, Result, Ok, Err, IsTrue}
+use Rattle.std.specs.Prelude.{ℕ, ◌+◌, ◌≡◌, ◌<◌, ◌≤◌, ◌⊎◌, Bool, true, false, List, [], filter, Option, None, IsTrue}
 use Rattle.std.specs.Option.{option_map}
 use Rattle.dtx_values.specs.declared.number.TxNo.{TxNo}
 use Rattle.dtx_values.specs.declared.script.Body.{Body}
 use Rattle.dtx_values.specs.declared.script.Body.TheVariants.{Stop, Restart}
 use Rattle.dtx_values.specs.declared.script.Line.{Line}
-use Rattle.dtx_values.specs.declared.entry.Answer.{Answer}
-use Rattle.dtx_values.specs.declared.entry.Answer.TheVariants.{Fine, Fault, NotALog}
-use Rattle.dtx_values.specs.declared.entry.Entry.{Entry}
-use Rattle.dtx_values.specs.declared.entry.Entry.TheVariants.{Called}
 use Rattle.outside.specs.Faults.{Rose}
 use Rattle.dtx_model.specs.Words.{has}
-use Rattle.dtx_model.specs.AtLog.{armed, at_log, faults as faults_told, made, one_if, stop_right}
+use Rattle.dtx_model.specs.AtLog.{armed, at_log, made, stop_right}
 use Rattle.dtx_model.specs.Log.{CommitRecord, is_record_of}
 use Rattle.dtx_model.specs.Promotes.{identifier_of}
 use Rattle.dtx_model.specs.Traces.{Placed}
 use Rattle.coordinator_log.specs.Slots.{open_records}
 use Rattle.coordinator_log.specs.State.{LogState}
-use Rattle.coordinator_log.specs.declared.refusal.LogRefusal.{LogRefusal}
-use Rattle.coordinator_log.specs.declared.refusal.LogRefusal.TheVariants as Refusal
 use Rattle.coordinator_log.specs.declared.stop.ArmedStop.{ArmedStop}
 use Rattle.tx_world.specs.AtLog.{AreFit, AreLogs}
-
--- the last value of a count of faults, which doesn't rise any more
-abbrev pub LAST : ℕ
-LAST = 2 ^ 64 - 1
-
--- a stop is armed at the log that the trace has used up: a fault came in its place
-abbrev pub is_left : Option ArmedStop → Option ℕ → Bool
-is_left (Some s) None = true
-is_left _ _ = false
+use Rattle.tx_cells.specs.LogCell.{AreCounted, LAST}
 
 -- the stop that is armed, as the trace counts it: at which device call since it was armed
 abbrev pub armed_at : List Placed → Option ArmedStop → Option ℕ
@@ -39,8 +25,7 @@ armed_at T o = option_map (λ s. made T + (s.passes + 1)) o
 -- armed stop that is left over, rose the count, unless it stands at its last value. While it didn't rise, each stop stands exactly where its device call was reached, and what is armed is
 -- what the trace has armed.
 pub record IsCounted (before now : ℕ) (stop : Option ArmedStop) (T : List Placed) : Type 0 where
-  pub grows : before ≤ now
-  pub told : now < LAST → before + one_if (is_left stop (armed (at_log T))) (faults_told (at_log T)) ≤ now
+  pub count : AreCounted before now stop (at_log T)
   pub stops : now ≡ before → now < LAST → stop_right [] T ≡ true
   pub armed : now ≡ before → now < LAST → armed (at_log T) ≡ armed_at T stop
 
@@ -79,14 +64,3 @@ is_log_line _ = false
 
 abbrev pub has_log_line : List Line → Bool
 has_log_line s = has (λ l. is_log_line l.body) s
-
--- what a restart is answered: ok where the log was opened, `notalog` where its bytes are no log, and else `fault`
-abbrev pub restart_answer : Result ℕ LogRefusal → Answer
-restart_answer (Ok n) = Fine
-restart_answer (Err (Refusal.NotALog p)) = NotALog p
-restart_answer (Err r) = Fault
-
--- the call of a restart that found no log
-abbrev pub is_no_log_answer : Entry → Bool
-is_no_log_answer (Called n a (NotALog p)) = true
-is_no_log_answer _ = false

@@ -13,13 +13,14 @@ use Rattle.program_words.specs.declared.command.Command.{Command}
 use Rattle.program_words.specs.declared.command.Command.TheVariants.{Replay, Threads}
 use Rattle.program_words.specs.declared.command.Form.{Form}
 use Rattle.program_words.specs.declared.command.Form.TheVariants.{Plain, Wire, Json, Summary}
-use Rattle.thread_runs.specs.Run.{EndsOnThreads, IsRunOnThreads}
+use Rattle.thread_runs.specs.Run.{AreTied, EndsOnThreads, IsRunOnThreads}
 use Rattle.trace_text.specs.Forms.{json_text, wire_text}
 use Rattle.trace_text.specs.Summary.{summary_text}
 use Rattle.tx_cells.specs.Cell.{IsThreadable}
+use Rattle.tx_cells.specs.LogAnswers.{is_no_log_answer}
 use Rattle.script_runner.specs.Ending.{IsLogOf}
-use Rattle.script_runner.specs.LogRun.{has_log_line, is_no_log_answer}
-use Rattle.script_runner.specs.Run.{AreTied, IsRunOf}
+use Rattle.script_runner.specs.LogRun.{has_log_line}
+use Rattle.script_runner.specs.Run.{IsRunOf}
 use Rattle.script_runner.specs.Transfer.{IsPartWritten}
 use Rattle.script_runner.specs.Waits.{AreWaitsAnswered}
 

@@ -1,5 +1,5 @@
 -- A replay under way.
-use Rattle.std.specs.Prelude.{ℕ, ◌-◌, ◌<◌, ◌≤◌, ◌≡◌, nat_lt, Bool, true, false, ◌&&◌, not, List, [], length, Option, None, Some, is_some, IsTrue, slice_index_or, if◌then◌else◌}
+use Rattle.std.specs.Prelude.{ℕ, ◌-◌, ◌<◌, ◌≤◌, ◌≡◌, nat_lt, Bool, true, false, ◌&&◌, not, List, [], length, Option, Some, is_some, IsTrue, slice_index_or, if◌then◌else◌}
 use Rattle.dtx_values.specs.declared.entry.Entry.{Entry}
 use Rattle.dtx_values.specs.declared.number.ActorNo.{ActorNo}
 use Rattle.dtx_values.specs.declared.number.TxNo.{TxNo}
@@ -23,7 +23,8 @@ use Rattle.tx_world.specs.AtLog.{AreFit, Fits, IsHad, IsOurs, id_of}
 use Rattle.tx_world.specs.Prepared.{NamesPrepared}
 use Rattle.tx_world.specs.State.{TxState, is_hit_by, is_reached_by}
 use Rattle.tx_world.specs.Tried.{IsTried}
-use Rattle.script_runner.specs.LogRun.{IsCounted, IsForeignKept, is_no_log_answer}
+use Rattle.tx_cells.specs.LogAnswers.{is_no_log_answer}
+use Rattle.script_runner.specs.LogRun.{IsCounted, IsForeignKept}
 
 -- its script, how many managers have an object, the transactions by number up to the last that was called, the contexts of its actors, and its trace
 pub record RunState : Type 0 where
@@ -32,10 +33,6 @@ pub record RunState : Type 0 where
   pub worlds : List TxState
   pub contexts : List Standing
   pub trace : List Placed
-
--- a transaction to which nothing came yet
-abbrev pub untouched : TxNo → TxState
-untouched t = record { transaction = t; world = record { calls = []; past = [] }; ours = None; unsure = false; life = 0 }
 
 -- the transaction of this number, of these
 abbrev pub state_of : TxNo → List TxState → TxState
@@ -93,6 +90,10 @@ pub record Tells {D : Type 0} (faults : D → ℕ) (honest : Bool) (image : D �
   pub foreign : IsTrue honest → IsForeignKept image (open_records start.slots) log
   pub opens : IsTrue honest → open_records start.slots ≡ [] → open_right [] T ≡ true
   pub unlike : IsTrue honest → has is_no_log_answer (at_log T) ≡ false
+
+-- what the trace told of the log before a part of a run, it tells after it
+abbrev pub StillTells : {D : Type 0} → (D → ℕ) → Bool → (D → List ℕ → Type 0) → LogState D → LogState D → RunState → RunState → Type 0
+StillTells {D} faults honest image from to old new = (start : LogState D) → Tells faults honest image start from (past_of old.trace) → Tells faults honest image start to (past_of new.trace)
 
 -- each call that was entered is one of a line before this one
 abbrev pub IsBelow : ℕ → TxState → Type 0

@@ -23,19 +23,21 @@ ghost use Rattle.dtx_model.specs.History.{HasOneOutcome, IsComplete};
 ghost use Rattle.dtx_model.specs.Outcome.{is_empty};
 ghost use Rattle.dtx_model.specs.Grammar.{IsScript, are_named_well, is_in_range};
 ghost use Rattle.coordinator_log.specs.Slots.{open_records};
-ghost use Rattle.coordinator_log.specs.State.{LogState};
+ghost use Rattle.tx_cells.specs.LogAnswers.{is_no_log_answer};
+ghost use Rattle.tx_cells.specs.Cell.{untouched};
+ghost use Rattle.thread_runs.specs.Run.{AreTied};
 ghost use Rattle.script_runner.specs.Ending.{EndsAs, HasNone};
-ghost use Rattle.script_runner.specs.LogRun.{IsCounted, LogGoes, LogStays, has_log_line, is_log_line, is_no_log_answer, restart_answer};
+ghost use Rattle.script_runner.specs.LogRun.{IsCounted, LogGoes, LogStays, has_log_line, is_log_line};
 ghost use Rattle.script_runner.specs.Rights.{AreAppendsBacked, AreOutcomesWithheld, HasOneRight};
-ghost use Rattle.script_runner.specs.Run.{AreTied, IsRunOf};
-ghost use Rattle.script_runner.specs.RunState.{Advances, AreBelow, AreSettledBelow, HaveSameCalls, Holds, IsBelow, IsRecordKept, IsRoundAt, IsTied, IsToPlan, Settles, Tells, halted, record_in, reopened, state_of, untouched};
+ghost use Rattle.script_runner.specs.Run.{IsRunOf};
+ghost use Rattle.script_runner.specs.RunState.{Advances, AreBelow, AreSettledBelow, HaveSameCalls, Holds, IsBelow, IsRecordKept, IsRoundAt, IsTied, IsToPlan, Settles, StillTells, halted, record_in, reopened, state_of};
 ghost use Rattle.script_calls.specs.Scoped.{AreOnce, AreOpen, IsUnopened, calls_given, nothing_open, rollbacks, rolled_at, scopes_at};
 ghost use Rattle.script_runner.specs.Waits.{AreWaitsAnswered};
 ghost use Rattle.tx_world.specs.AtLog.{Fits};
 ghost use Rattle.world_laws.specs.Left.{steps_left};
 
 use crate::objects::{asked, do_kth};
-use coordinator_log::{Log, LogRefusal};
+use coordinator_log::Log;
 use dtx_values::{
     ActorNo, Answer, Body, Call, Entry, Image, Line, LogNote, Outbox, Place, Resource, RmNo,
     Script, TxNo,
@@ -47,6 +49,7 @@ use scope_context::Context;
 use script_calls::{Gives, Plans, act, call_of, contexts, managers_of};
 use std::alloc::{AllocError, Global};
 use std::marker::Model;
+use turn_parts::{reopened, restart_answer};
 use tx_world::{TxWorld, WorldError};
 use world_laws::{rights, untried};
 
@@ -176,7 +179,7 @@ impl<'a> Run<'a> {
         ensures script { self.new.script ≡ self.old.script }
         ensures objects { self.new.objects ≡ self.old.objects }
         ensures holds { OnOk result (Holds D.honest D.image log.now self.new) }
-        ensures tells { OnOk result ((start : LogState D) → Tells D.faults D.honest D.image start log.now (past_of self.old.trace) → Tells D.faults D.honest D.image start log.now (past_of self.new.trace)) }
+        ensures tells { OnOk result (StillTells D.faults D.honest D.image log.now log.now self.old self.new) }
         ensures others { (u : TxNo) → u ≢ t → state_of u self.new.worlds ≡ state_of u self.old.worlds }
         ensures entered { OnOk result (IsBelow (n + 1) (state_of t self.new.worlds)) }
         ensures done { OnOk result (past_of self.new.trace ≡ after_turn self.old.script t (Calls n actor c.now done) (past_of self.old.trace)) }
@@ -252,7 +255,7 @@ impl<'a> Run<'a> {
         ensures script { self.new.script ≡ self.old.script }
         ensures objects { self.new.objects ≡ self.old.objects }
         ensures holds { OnOk result (Holds D.honest D.image log.new self.new) }
-        ensures tells { OnOk result ((start : LogState D) → Tells D.faults D.honest D.image start log.old (past_of self.old.trace) → Tells D.faults D.honest D.image start log.new (past_of self.new.trace)) }
+        ensures tells { OnOk result (StillTells D.faults D.honest D.image log.old log.new self.old self.new) }
         ensures calls { HaveSameCalls self.old.worlds self.new.worlds }
         ensures stepped { result ≡ Ok true → (m : ℕ) (start : World) → HasStepped t.value k m start (state_of t self.old.worlds).world → HasStepped t.value k (suc m) start (state_of t self.new.worlds).world }
         ensures some { result ≡ Ok true → Advances self.old.script t k self.old.trace self.new.trace }
@@ -301,7 +304,7 @@ impl<'a> Run<'a> {
         ensures script { self.new.script ≡ self.old.script }
         ensures objects { self.new.objects ≡ self.old.objects }
         ensures holds { OnOk result (Holds D.honest D.image log.new self.new) }
-        ensures tells { OnOk result ((start : LogState D) → Tells D.faults D.honest D.image start log.old (past_of self.old.trace) → Tells D.faults D.honest D.image start log.new (past_of self.new.trace)) }
+        ensures tells { OnOk result (StillTells D.faults D.honest D.image log.old log.new self.old self.new) }
         ensures calls { HaveSameCalls self.old.worlds self.new.worlds }
         ensures did { IfOk result (λ m. HasDone t.value (state_of t self.new.worlds).world k n m) }
         ensures done { IfOk result (λ m. HasDoneAt self.old.script t k n m (past_of self.old.trace) (past_of self.new.trace)) }
@@ -323,7 +326,7 @@ impl<'a> Run<'a> {
         ensures script { self.new.script ≡ self.old.script }
         ensures objects { self.new.objects ≡ self.old.objects }
         ensures holds { OnOk result (Holds D.honest D.image log.new self.new) }
-        ensures tells { OnOk result ((start : LogState D) → Tells D.faults D.honest D.image start log.old (past_of self.old.trace) → Tells D.faults D.honest D.image start log.new (past_of self.new.trace)) }
+        ensures tells { OnOk result (StillTells D.faults D.honest D.image log.old log.new self.old self.new) }
         ensures calls { HaveSameCalls self.old.worlds self.new.worlds }
         ensures settled { OnOk result (pending (state_of t self.new.worlds).world ≡ []) }
         ensures done { OnOk result (Settles self.old.script t self.old.trace self.new.trace) }
@@ -345,7 +348,7 @@ impl<'a> Run<'a> {
         ensures script { self.new.script ≡ self.old.script }
         ensures objects { self.new.objects ≡ self.old.objects }
         ensures holds { OnOk result (Holds D.honest D.image log.new self.new) }
-        ensures tells { OnOk result ((start : LogState D) → Tells D.faults D.honest D.image start log.old (past_of self.old.trace) → Tells D.faults D.honest D.image start log.new (past_of self.new.trace)) }
+        ensures tells { OnOk result (StillTells D.faults D.honest D.image log.old log.new self.old self.new) }
         ensures turns { OnOk result ((start : List Placed) → IsRoundAt self.old.script start 1 (past_of self.old.trace) → IsRoundAt self.old.script start 1 (past_of self.new.trace)) }
         ensures settled { OnOk result (log.new.is_up ≡ log.old.is_up → AreSettledBelow self.old.script (TxNo.MAX + 1) (past_of self.new.trace)) }
     {
@@ -364,7 +367,7 @@ impl<'a> Run<'a> {
         ensures script { self.new.script ≡ self.old.script }
         ensures objects { self.new.objects ≡ self.old.objects }
         ensures holds { OnOk result (Holds D.honest D.image log.new self.new) }
-        ensures tells { OnOk result ((start : LogState D) → Tells D.faults D.honest D.image start log.old (past_of self.old.trace) → Tells D.faults D.honest D.image start log.new (past_of self.new.trace)) }
+        ensures tells { OnOk result (StillTells D.faults D.honest D.image log.old log.new self.old self.new) }
         ensures turns { OnOk result ((start : List Placed) → IsRoundAt self.old.script start 1 (past_of self.old.trace) → IsRoundAt self.old.script start 1 (past_of self.new.trace)) }
         ensures settled { OnOk result (AreSettledBelow self.old.script (TxNo.MAX + 1) (past_of self.new.trace)) }
     {
@@ -416,7 +419,7 @@ impl<'a> Run<'a> {
         ensures script { self.new.script ≡ self.old.script }
         ensures objects { self.new.objects ≡ self.old.objects }
         ensures holds { OnOk result (Holds D.honest D.image log.now self.new) }
-        ensures tells { OnOk result ((start : LogState D) → Tells D.faults D.honest D.image start log.now (past_of self.old.trace) → Tells D.faults D.honest D.image start log.now (past_of self.new.trace)) }
+        ensures tells { OnOk result (StillTells D.faults D.honest D.image log.now log.now self.old self.new) }
         ensures entered { OnOk result (AreBelow (n + 1) self.new.worlds) }
         ensures done { OnOk result (past_of self.new.trace ≡ after_calls self.old.script n actor (rollbacks (rolled_at actor self.old.contexts)) (past_of self.old.trace)) }
     {
@@ -439,7 +442,7 @@ impl<'a> Run<'a> {
         ensures script { self.new.script ≡ self.old.script }
         ensures objects { self.new.objects ≡ self.old.objects }
         ensures holds { OnOk result (Holds D.honest D.image log.now self.new) }
-        ensures tells { OnOk result ((start : LogState D) → Tells D.faults D.honest D.image start log.now (past_of self.old.trace) → Tells D.faults D.honest D.image start log.now (past_of self.new.trace)) }
+        ensures tells { OnOk result (StillTells D.faults D.honest D.image log.now log.now self.old self.new) }
         ensures entered { OnOk result (AreBelow (n + 1) self.new.worlds) }
         ensures done { OnOk result (past_of self.new.trace ≡ after_scope self.old.script n l.now (scopes_at l.now.actor self.old.contexts) (past_of self.old.trace)) }
         ensures scopes { OnOk result ((before : List Line) → AreOpen self.old.contexts before → AreOpen self.new.contexts (l.now ∷ before)) }
@@ -469,7 +472,7 @@ impl<'a> Run<'a> {
         ensures script { self.new.script ≡ self.old.script }
         ensures objects { self.new.objects ≡ self.old.objects }
         ensures holds { OnOk result (Holds D.honest D.image log.new self.new) }
-        ensures tells { OnOk result ((start : LogState D) → Tells D.faults D.honest D.image start log.old (past_of self.old.trace) → Tells D.faults D.honest D.image start log.new (past_of self.new.trace)) }
+        ensures tells { OnOk result (StillTells D.faults D.honest D.image log.old log.new self.old self.new) }
         ensures entered { OnOk result (AreBelow (n + 1) self.new.worlds) }
         ensures done { OnOk result (CallRan self.old.script actor n (Some (t, c.now)) (past_of self.old.trace) (past_of self.new.trace)) }
     {
@@ -504,7 +507,7 @@ impl<'a> Run<'a> {
         ensures script { self.new.script ≡ self.old.script }
         ensures objects { self.new.objects ≡ self.old.objects }
         ensures holds { OnOk result (Holds D.honest D.image log.new self.new) }
-        ensures tells { OnOk result ((start : LogState D) → Tells D.faults D.honest D.image start log.old (past_of self.old.trace) → Tells D.faults D.honest D.image start log.new (past_of self.new.trace)) }
+        ensures tells { OnOk result (StillTells D.faults D.honest D.image log.old log.new self.old self.new) }
         ensures done { OnOk result (past_of self.new.trace ≡ at_the_log (LogWord (Armed k image)) (at_the_log (Called n actor Fine) (past_of self.old.trace))) }
     {
         self.trace.reserve(2)?;
@@ -531,24 +534,22 @@ impl<'a> Run<'a> {
         ensures script { self.new.script ≡ self.old.script }
         ensures objects { self.new.objects ≡ self.old.objects }
         ensures holds { OnOk result (Holds D.honest D.image log.new self.new) }
-        ensures tells { OnOk result ((start : LogState D) → Tells D.faults D.honest D.image start log.old (past_of self.old.trace) → Tells D.faults D.honest D.image start log.new (past_of self.new.trace)) }
+        ensures tells { OnOk result (StillTells D.faults D.honest D.image log.old log.new self.old self.new) }
         ensures calls { HaveSameCalls self.old.worlds self.new.worlds }
         ensures done { OnOk result ((x : Reopening) × (past_of self.new.trace ≡ after_restart n actor x (past_of self.old.trace))) }
     {
         self.trace.reserve(3)?;
         let was_up = log.is_up();
         let life = log.life();
-        log.halt();
-        let reopened = log.reopen();
-        self.trace.push_reserved((
-            Place::Log,
-            Entry::Called(n, actor, restart_answer(&reopened)),
-        ));
+        let found = reopened(log);
+        self.trace.push_reserved((Place::Log, Entry::Called(n, actor, restart_answer(&found))));
         if was_up {
             self.trace.push_reserved((Place::Log, Entry::Stopped));
             self.stop_all(life)?;
         }
-        let Ok(records) = reopened else {
+        // A proof sees here that each image has the records of a log that is up.
+        let _ = log.is_up();
+        let Ok(records) = found else {
             return Ok(());
         };
         self.trace.reserve(1)?;
@@ -572,7 +573,7 @@ impl<'a> Run<'a> {
         ensures script { self.new.script ≡ self.old.script }
         ensures objects { self.new.objects ≡ self.old.objects }
         ensures holds { OnOk result (Holds D.honest D.image log.new self.new) }
-        ensures tells { OnOk result ((start : LogState D) → Tells D.faults D.honest D.image start log.old (past_of self.old.trace) → Tells D.faults D.honest D.image start log.new (past_of self.new.trace)) }
+        ensures tells { OnOk result (StillTells D.faults D.honest D.image log.old log.new self.old self.new) }
         ensures entered { OnOk result (AreBelow (n + 1) self.new.worlds) }
         ensures done { OnOk result ((before : List Line) → length before + 1 ≡ n → before ≡ lines_before self.old.script n → AreOpen self.old.contexts before → LineRan self.old.script before l.now (past_of self.old.trace) (past_of self.new.trace)) }
         ensures scopes { OnOk result ((before : List Line) → AreOpen self.old.contexts before → AreOpen self.new.contexts (l.now ∷ before)) }
@@ -600,7 +601,7 @@ impl<'a> Run<'a> {
         ensures script { self.new.script ≡ self.old.script }
         ensures objects { self.new.objects ≡ self.old.objects }
         ensures holds { OnOk result (Holds D.honest D.image log.new self.new) }
-        ensures tells { OnOk result ((start : LogState D) → Tells D.faults D.honest D.image start log.old (past_of self.old.trace) → Tells D.faults D.honest D.image start log.new (past_of self.new.trace)) }
+        ensures tells { OnOk result (StillTells D.faults D.honest D.image log.old log.new self.old self.new) }
         ensures ran { OnOk result (LinesRan self.old.script (past_of self.old.script) (past_of self.new.trace)) }
     {
         let lines = self.plans.lines();
@@ -618,17 +619,6 @@ impl<'a> Run<'a> {
         ensures numbered { (t : TxNo) → (state_of t self.entry.worlds).transaction ≡ t }
     {
         Trace::new(self.trace)
-    }
-}
-
-/// What a `restart` is answered.
-fn restart_answer(reopened: &Result<u16, LogRefusal>) -> Answer
-    ensures { result ≡ restart_answer reopened.now }
-{
-    match reopened {
-        Ok(_) => Answer::Fine,
-        Err(LogRefusal::NotALog(place)) => Answer::NotALog(*place),
-        Err(_) => Answer::Fault,
     }
 }
 

@@ -8,11 +8,11 @@ ghost use Rattle.dtx_model.specs.Words.{has, past_of};
 ghost use Rattle.coordinator_log.specs.Slots.{open_records};
 ghost use Rattle.coordinator_log.specs.declared.layout.TheConstants.{LOG_BYTES};
 ghost use Rattle.tx_cells.specs.Cell.{IsThreadable};
-ghost use Rattle.thread_runs.specs.Run.{EndsOnThreads, IsRunOnThreads};
+ghost use Rattle.tx_cells.specs.LogAnswers.{is_no_log_answer};
+ghost use Rattle.thread_runs.specs.Run.{AreTied, EndsOnThreads, IsRunOnThreads};
 ghost use Rattle.script_runner.specs.Ending.{AreOwnLogs, IsLog};
-ghost use Rattle.script_runner.specs.LogRun.{MetNoFault, has_log_line, is_no_log_answer};
+ghost use Rattle.script_runner.specs.LogRun.{MetNoFault, has_log_line};
 ghost use Rattle.script_runner.specs.Program.{IsReplayOf, IsThreadsOf};
-ghost use Rattle.script_runner.specs.Run.{AreTied};
 ghost use Rattle.script_runner.specs.Waits.{AreWaitsAnswered};
 
 use crate::formatting::{FormatStop, formatted};

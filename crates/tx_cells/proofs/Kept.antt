@@ -46,7 +46,7 @@ pub kept_new : (s : List Line) (k : ℕ) (honest : Bool) (t : TxNo) (rows : List
 kept_new s k honest t rows script named prefix = record { script = script; named = named; given = λ n a c i. absurd (none_in n a c i); in_order = prefix; planned = refl; sound = λ _. refl }
 
 -- the calls, and the replies, after a step, with the stop that may follow it
-turned_calls : (up : Bool) (t : ℕ) (w : World) (m : Step) → (turned up t w m).calls ≡ entered m w.calls
+pub turned_calls : (up : Bool) (t : ℕ) (w : World) (m : Step) → (turned up t w m).calls ≡ entered m w.calls
 unfolding after
 turned_calls up t w m = by (sends_begin t w m && not up)
   where
@@ -86,7 +86,7 @@ pub kept_step : (s : List Line) (k : ℕ) (honest up : Bool) (x y : TxState) (ro
 kept_step s k honest up x y rows m none q other t w kept = kept_tied s k honest up x y rows m none q (λ is. sound_step up x y m other w) t w kept
 
 -- and after a call that the script gives, with its row one further.
-given_more : (s : List Line) (t : ℕ) (k : EnteredCall) (ks : List EnteredCall) → IsCallOf s t k.line k.actor k.call → ((n : ℕ) (a : ActorNo) (c : Call) → IsIn ks n a c → IsCallOf s t n a c)
+pub given_more : (s : List Line) (t : ℕ) (k : EnteredCall) (ks : List EnteredCall) → IsCallOf s t k.line k.actor k.call → ((n : ℕ) (a : ActorNo) (c : Call) → IsIn ks n a c → IsCallOf s t n a c)
     → (n : ℕ) (a : ActorNo) (c : Call) → IsIn (k ∷ ks) n a c → IsCallOf s t n a c
 given_more s t k ks mine given n a c i = by i.place i.stands
   where
@@ -241,7 +241,7 @@ name_here (OfTransaction e) o k = absurd cc
 name_here (OfScope e) o k = absurd cc
 
 -- so both make the same
-same_made : (o : Option Name) (d : Call) → is_maker o d ≡ true → (x : Name) × (o ≡ Some x) × (made_by d ≡ Some x)
+pub same_made : (o : Option Name) (d : Call) → is_maker o d ≡ true → (x : Name) × (o ≡ Some x) × (made_by d ≡ Some x)
 same_made (Some x) d k = (x, refl, name_here x (made_by d) k)
 same_made None d k = absurd cc
 

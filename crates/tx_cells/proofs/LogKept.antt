@@ -46,7 +46,7 @@ fewer : (b m f : ℕ) (l : Bool) → b + one_if l f ≤ m → b + f ≤ m
 fewer b m f true le = omega arith
 fewer b m f false le = le
 
-counted_armed : (b m : ℕ) (old : Option ArmedStop) (s : ArmedStop) (past : List Entry) (n : ℕ) (a : ActorNo) (k : ℕ) (i : Image) → AreCounted b m old past → AreCounted b m (Some s) (stop_armed n a k i past)
+pub counted_armed : (b m : ℕ) (old : Option ArmedStop) (s : ArmedStop) (past : List Entry) (n : ℕ) (a : ActorNo) (k : ℕ) (i : Image) → AreCounted b m old past → AreCounted b m (Some s) (stop_armed n a k i past)
 counted_armed b m old s past n a k i c = record { grows = c.grows; told = λ less. fewer b m (faults_told past) (is_left old (armed past)) (c.told less) }
 
 -- What a restart writes leaves the armed stop as it was,

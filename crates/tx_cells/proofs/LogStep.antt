@@ -146,7 +146,7 @@ counted_calm b m n old new past le unarmed k = record {
     count (Some r) (Some s) None unarmed was = omega arith
     count (Some r) (Some s) (Some i) unarmed was = not_fewer b m n (faults_told past) le was
 
-counted_stopped : (b m n : ℕ) (old new : Option ArmedStop) (past : List Entry) → is_called past ≡ false → m ≤ n → (old ≡ None → Rose m n) → Rose m n ⊎ (new ≡ None) → (old ≡ None → new ≡ None) → AreCounted b m old past → AreCounted b n new (Stopped ∷ past)
+pub counted_stopped : (b m n : ℕ) (old new : Option ArmedStop) (past : List Entry) → is_called past ≡ false → m ≤ n → (old ≡ None → Rose m n) → Rose m n ⊎ (new ≡ None) → (old ≡ None → new ≡ None) → AreCounted b m old past → AreCounted b n new (Stopped ∷ past)
 counted_stopped b m n old new past uncalled le cause used unarmed k = record {
   grows = le_trans k.grows le;
   told = λ less. told_stopped b m n old new past uncalled le less (k.told (omega arith)) cause used unarmed;

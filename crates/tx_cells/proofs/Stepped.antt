@@ -7,11 +7,13 @@ use Rattle.dtx_values.specs.declared.note.Note.{Note}
 use Rattle.dtx_values.specs.declared.note.Note.TheVariants.{Commit as CommitNote, Promote}
 use Rattle.dtx_values.specs.declared.note.Plan.{Plan}
 use Rattle.dtx_values.specs.declared.note.Reply.{Reply}
+use Rattle.dtx_values.specs.declared.number.ActorNo.{ActorNo}
 use Rattle.dtx_values.specs.declared.number.EnlNo.{EnlNo}
 use Rattle.dtx_values.specs.declared.row.Row.{Row}
 use Rattle.dtx_values.specs.declared.script.Line.{Line}
 use Rattle.dtx_values.specs.Row.{is_of}
 use Rattle.dtx_model.specs.Words.{has, or_else}
+use Rattle.dtx_model.specs.Grammar.{are_named_well}
 use Rattle.dtx_model.specs.Observed.{Observed, observe}
 use Rattle.dtx_model.specs.Plans.{plan_of, planned as reply_planned}
 use Rattle.dtx_model.specs.Replies.{conn_due, due_of, fits, note_of_conn, note_of_row}
@@ -64,28 +66,30 @@ due_stands o e n d = by (is_gone o e) (find (is_of e) o.table) refl d
     by false (Some x) f k = inr (found_stands (is_of e) o.table x f)
 
 -- The plan of an enlistment that stands is the script's.
-plan_here : (s : List Line) (k : ℕ) (honest : Bool) (x : TxState) (rows : List (SeenRow Call)) (e : ℕ) → IsKept s k honest x rows → IsOwnRun x.transaction.value x.world → has (is_enlisted e) x.world.past ≡ true → plan_of x.world.calls e ≡ plans_of s e
-plan_here s k honest x rows e kept own stands =
-    let w = x.world in
-    let t = x.transaction.value in
-    let ran = lift_ran (IsIn w.calls) (IsCallOf s t) kept.given t own.0 w own.1 in
+plan_here : (s : List Line) (t : ℕ) (w : World) (e : ℕ) → are_named_well s ≡ true → ((n : ℕ) (a : ActorNo) (c : Call) → IsIn w.calls n a c → IsCallOf s t n a c) → IsOwnRun t w → has (is_enlisted e) w.past ≡ true → plan_of w.calls e ≡ plans_of s e
+plan_here s t w e named given own stands =
+    let ran = lift_ran (IsIn w.calls) (IsCallOf s t) given t own.0 w own.1 in
     let m = ((ran_made (IsCallOf s t) t own.0 w ran).enlisted e stands).0 in
     ap (λ (p : ℕ → Plan). p e) (plans_same s t w.calls w.past (ran_calls s t own.0 w ran))
-    ∙ plan_same s t e w.past kept.script.script.named (record { number = m.number; actor = m.actor; call = m.call; given = m.may; passes = maker_called e m.call m.passes; called = m.called })
+    ∙ plan_same s t e w.past named (record { number = m.number; actor = m.actor; call = m.call; given = m.may; passes = maker_called e m.call m.passes; called = m.called })
 
 -- So what it plans to a note to which a reply of it is due is the same by its calls as by the script.
-pub planned_here : (s : List Line) (k : ℕ) (honest : Bool) (x : TxState) (rows : List (SeenRow Call)) (e : ℕ) (n : Note) → IsKept s k honest x rows → IsOwnRun x.transaction.value x.world → due_of (half x.world).seen e ≡ Some n
-    → reply_planned (plan_of x.world.calls e) n ≡ reply_planned (plans_of s e) n
+pub planned_here : (s : List Line) (t : ℕ) (w : World) (e : ℕ) (n : Note) → are_named_well s ≡ true → ((n : ℕ) (a : ActorNo) (c : Call) → IsIn w.calls n a c → IsCallOf s t n a c) → IsOwnRun t w → due_of (half w).seen e ≡ Some n
+    → reply_planned (plan_of w.calls e) n ≡ reply_planned (plans_of s e) n
 unfolding observe
-planned_here s k honest x rows e n kept own due = elim (due_stands (half x.world).seen e n due) [
-  | inl is ↦ subst (λ (o : Note). reply_planned (plan_of x.world.calls e) o ≡ reply_planned (plans_of s e) o) (sym is) refl
+planned_here s t w e n named given own due = elim (due_stands (half w).seen e n due) [
+  | inl is ↦ subst (λ (o : Note). reply_planned (plan_of w.calls e) o ≡ reply_planned (plans_of s e) o) (sym is) refl
   | inr stands ↦
-      let enlisted : has (is_enlisted e) x.world.past ≡ true = sym (enlisted_in_rows e x.world.past) ∙ stands in
-      ap (λ (p : Plan). reply_planned p n) (plan_here s k honest x rows e kept own enlisted)
+      let enlisted : has (is_enlisted e) w.past ≡ true = sym (enlisted_in_rows e w.past) ∙ stands in
+      ap (λ (p : Plan). reply_planned p n) (plan_here s t w e named given own enlisted)
 ]
 
+planned_kept : (s : List Line) (k : ℕ) (honest : Bool) (x : TxState) (rows : List (SeenRow Call)) (e : ℕ) (n : Note) → IsKept s k honest x rows → IsOwnRun x.transaction.value x.world → due_of (half x.world).seen e ≡ Some n
+    → reply_planned (plan_of x.world.calls e) n ≡ reply_planned (plans_of s e) n
+planned_kept s k honest x rows e n kept own due = planned_here s x.transaction.value x.world e n kept.script.script.named kept.given own due
+
 to_plan : (s : List Line) (k : ℕ) (honest : Bool) (x : TxState) (rows : List (SeenRow Call)) (m : Step) → IsKept s k honest x rows → IsOwnRun x.transaction.value x.world → IsToPlan x.world m → IsReplyRight (plans_of s) (has_object s k) m
-to_plan s k honest x rows (Replies e r) kept own (n, due, plan) = reply_to (plans_of s) (has_object s k) e n r (sym (planned_here s k honest x rows e.value n kept own due) ∙ plan)
+to_plan s k honest x rows (Replies e r) kept own (n, due, plan) = reply_to (plans_of s) (has_object s k) e n r (sym (planned_kept s k honest x rows e.value n kept own due) ∙ plan)
 to_plan s k honest x rows m kept own q = tt
 
 -- So the cell keeps what it kept, after a pending step without the log, and after one with it.
@@ -103,7 +107,7 @@ reply_right : (s : List Line) (k : ℕ) (honest : Bool) (x : TxState) (rows : Li
     → IsReplyRight (plans_of s) (has_object s k) (Replies e r)
 reply_right s k honest x rows e n r kept own owed may = elim may.right [
   | inl free ↦
-      let unsilent : is_some (reply_planned (plans_of s e.value) n) ≡ true = ap is_some (sym (planned_here s k honest x rows e.value n kept own owed.due)) ∙ owed.unsilent in
+      let unsilent : is_some (reply_planned (plans_of s e.value) n) ≡ true = ap is_some (sym (planned_kept s k honest x rows e.value n kept own owed.due)) ∙ owed.unsilent in
       free_to (plans_of s) (has_object s k) e n r free may.fitting unsilent
   | inr plan ↦ reply_to (plans_of s) (has_object s k) e n r plan
 ]

@@ -2,7 +2,8 @@ use Rattle.std.proofs.Common.{◌≡◌, ◌+◌, ◌∷◌, [], ◌++◌, List,
 use Rattle.std.specs.Prelude.{IfSome}
 use Rattle.dtx_values.specs.declared.number.TxNo.{TxNo}
 use Rattle.tx_world.specs.State.{TxState}
-use Rattle.script_runner.specs.RunState.{state_of, untouched}
+use Rattle.tx_cells.specs.Cell.{untouched}
+use Rattle.script_runner.specs.RunState.{state_of}
 use Rattle.script_runner.proofs.Numbered.{state_pushed}
 use Rattle.script_runner.proofs.replay.reach.Goals as goal
 

@@ -13,13 +13,16 @@ use Rattle.coordinator_log.specs.Crash.{AllHold}
 use Rattle.coordinator_log.specs.Slots.{open_records}
 use Rattle.coordinator_log.specs.State.{LogState}
 use Rattle.scope_context.specs.Standing.{Standing}
-use Rattle.script_runner.specs.LogRun.{IsCounted, has_log_line, is_no_log_answer}
+use Rattle.tx_cells.specs.LogAnswers.{is_no_log_answer}
+use Rattle.script_runner.specs.LogRun.{IsCounted, has_log_line}
 use Rattle.script_runner.specs.RunState.{AreBelow, AreSettledBelow, Holds, IsRoundAt, IsToPlan, RunState, Tells}
 use Rattle.script_calls.specs.Scoped.{AreOpen}
 use Rattle.script_runner.proofs.Going.{goes_then, stays_then}
 use Rattle.script_calls.proofs.Openings.{open_none}
 use Rattle.script_runner.proofs.Recorded.{ends_as, holds_at_start, tells_at_start}
 use Rattle.script_runner.proofs.Rounds.{is_replayed, turn-first}
+use Rattle.script_runner.proofs.replay.trace_of.Given.{Over}
+use Rattle.script_runner.proofs.replay.trace_of.Goals.{In_ok-settle_all}
 use Rattle.script_runner.proofs.replay.trace_of.Goals as goal
 
 -- before the first step the trace tells of the log
@@ -93,25 +96,27 @@ returns-clause-planned g c t =
     (subst (λ (k : ℕ). IsToPlan end.script k (history t.value (past_of end.trace))) (c.settle_all.ensures.objects ∙ (c.lines.ensures.objects ∙ objects))
     (subst (λ (h : List Entry). IsToPlan end.script end.objects h) tied.past tied.planned)))
 
+-- so it does at the end
+told_at_end : (g : Over) (c : In_ok-settle_all g) → Tells g.D.Disk.faults g.D.Disk.honest g.D.Disk.image c.args.log.now c.settle_all.new.log (past_of c.settle_all.new.self.trace)
+told_at_end g c =
+    let log = c.args.log.now in
+    let told = told_first g.D.Disk.faults g.D.Disk.honest g.D.Disk.image log c.args.lines.now _ _ c.in_ok-run.run' c.in_ok-run.ensures c.requires.unarmed (λ k. c.is_up.ensures.images k c.requires.up) in
+    c.in_ok-settle_all.ensures.tells log (c.in_ok-lines.ensures.tells log told)
+
 pub returns-clause-counted : goal.returns-clause-counted
 returns-clause-counted g c =
     let log = c.args.log.now in
-    let told = told_first g.D.Disk.faults g.D.Disk.honest g.D.Disk.image log c.args.lines.now _ _ c.in_ok-run.run' c.in_ok-run.ensures c.requires.unarmed (λ k. c.is_up.ensures.images k c.requires.up) in
-    let end = c.in_ok-settle_all.ensures.tells log (c.in_ok-lines.ensures.tells log told) in
+    let end = told_at_end g (goal.at.returns-clause-counted g c).In_ok-settle_all in
     subst (λ (T : List Placed). IsCounted (g.D.Disk.faults log.disk) (g.D.Disk.faults c.settle_all.new.log.disk) c.settle_all.new.log.armed (past_of T)) (sym c.into_trace.ensures.trace) end.counted
 
 pub returns-clause-opens : goal.returns-clause-opens
 returns-clause-opens g c h empty =
-    let log = c.args.log.now in
-    let told = told_first g.D.Disk.faults g.D.Disk.honest g.D.Disk.image log c.args.lines.now _ _ c.in_ok-run.run' c.in_ok-run.ensures c.requires.unarmed (λ k. c.is_up.ensures.images k c.requires.up) in
-    let end = c.in_ok-settle_all.ensures.tells log (c.in_ok-lines.ensures.tells log told) in
+    let end = told_at_end g (goal.at.returns-clause-opens g c).In_ok-settle_all in
     ap (λ (T : List Placed). open_right [] (past_of T)) c.into_trace.ensures.trace ∙ end.opens h empty
 
 pub returns-clause-unlike : goal.returns-clause-unlike
 returns-clause-unlike g c h =
-    let log = c.args.log.now in
-    let told = told_first g.D.Disk.faults g.D.Disk.honest g.D.Disk.image log c.args.lines.now _ _ c.in_ok-run.run' c.in_ok-run.ensures c.requires.unarmed (λ k. c.is_up.ensures.images k c.requires.up) in
-    let end = c.in_ok-settle_all.ensures.tells log (c.in_ok-lines.ensures.tells log told) in
+    let end = told_at_end g (goal.at.returns-clause-unlike g c).In_ok-settle_all in
     ap (λ (T : List Placed). has is_no_log_answer (at_log (past_of T))) c.into_trace.ensures.trace ∙ end.unlike h
 
 pub returns-clause-tied : goal.returns-clause-tied
@@ -127,8 +132,7 @@ returns-clause-ends g c h =
     let image = g.D.Disk.image in
     let log = c.args.log.now in
     let last = c.settle_all.new.log in
-    let told = told_first g.D.Disk.faults g.D.Disk.honest image log c.args.lines.now _ _ c.in_ok-run.run' c.in_ok-run.ensures c.requires.unarmed (λ k. c.is_up.ensures.images k c.requires.up) in
-    let end = c.in_ok-settle_all.ensures.tells log (c.in_ok-lines.ensures.tells log told) in
+    let end = told_at_end g (goal.at.returns-clause-ends g c).In_ok-settle_all in
     let went = goes_then g.D.Disk.faults g.D.Disk.honest image log c.lines.new.log last c.lines.ensures.log c.settle_all.ensures.log in
     ends_as g.D.Disk.faults image log last c.settle_all.new.self c.into_trace.result c.into_trace.ensures.trace c.into_trace.ensures.numbered
     (subst (λ b. Holds b image last c.settle_all.new.self) h c.in_ok-settle_all.ensures.holds) (end.foreign h) (went.logs h (λ bytes among. (_, c.is_up.ensures.images h c.requires.up bytes among))) (c.is_up-2.ensures.images h)

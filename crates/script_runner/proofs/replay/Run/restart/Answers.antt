@@ -1,7 +1,6 @@
 use Rattle.std.proofs.Common.{◌≡◌, ◌<◌, ◌+◌, ℕ, true, false, List, [], Err, is_some, ap, arith, length, subst, sym, ◌∙◌, if◌then◌else◌}
 use Rattle.std.proofs.lemmas.Result.{IfErr-at_err, IfOk-at_ok, on_ok_weaker}
-use Rattle.std.specs.Prelude.{IsTrue, is_ok}
-use Rattle.outside.specs.Disk.{AreWithin}
+use Rattle.std.specs.Prelude.{is_ok}
 use Rattle.outside.specs.Faults.{Rose}
 use Rattle.dtx_values.specs.declared.entry.Answer.{Answer}
 use Rattle.dtx_values.specs.declared.entry.Answer.TheVariants.{Fine}
@@ -16,16 +15,16 @@ use Rattle.dtx_model.specs.Tied.{tied}
 use Rattle.dtx_model.specs.Traces.{Placed}
 use Rattle.dtx_model.specs.World.{core}
 use Rattle.coordinator_log.specs.Slots.{open_records}
-use Rattle.coordinator_log.specs.State.{LogState}
 use Rattle.coordinator_log.specs.declared.refusal.LogRefusal.TheVariants as Refusal
 use Rattle.tx_world.specs.AtLog.{Fits}
-use Rattle.script_runner.specs.LogRun.{LogGoes, restart_answer}
+use Rattle.turn_parts.specs.Reopening.{restart_answer}
+use Rattle.script_runner.specs.LogRun.{LogGoes}
 use Rattle.script_runner.specs.RunState.{Holds, IsRecordKept, RunState, Tells, halted, record_in, reopened, state_of}
 use Rattle.script_runner.proofs.Fitting.{fits_opened}
-use Rattle.script_runner.proofs.Reopening.{IsHalted, after_unopened, both_ok, down_err, goes_restart, halted_down, halted_up, halts_at, holds_opened, one_written, opened_just, opened_trace, tied_at_log, tied_move, two_written, unopened_by, unopened_just}
+use Rattle.script_runner.proofs.Reopening.{IsHalted, after_unopened, both_ok, goes_restart, halted_down, halted_log, halted_up, halts_at, holds_opened, one_written, opened_just, opened_trace, tied_at_log, tied_move, two_written, unopened_by, unopened_just}
 use Rattle.script_runner.proofs.TellingOpenings.{tells_restart}
 use Rattle.script_runner.proofs.replay.Run.restart.Given.{Over}
-use Rattle.script_runner.proofs.replay.Run.restart.Goals.{After-restart_all, After-restart_all-arg-1, In_default, then-was_up+in_ok-stop_all, else-was_up}
+use Rattle.script_runner.proofs.replay.Run.restart.Goals.{After-is_up, After-restart_all-arg-1, In_default, then-was_up+in_ok-stop_all, else-was_up}
 use Rattle.script_runner.proofs.replay.Run.restart.Goals as goal
 
 pub stop_all-requires-clause-tied : goal.stop_all-requires-clause-tied
@@ -39,9 +38,9 @@ stop_all-requires-clause-tied g c = λ t.
     (ap (λ (q : RunState). state_of t q.worlds) c.self.view_is)
     (tied_at_log r.script r.objects t (at_the_log a (past_of r.trace)) Stopped (state_of t r.worlds) (tied_at_log r.script r.objects t (past_of r.trace) a (state_of t r.worlds) (c.requires.holds.tied t)))
 
--- Where the log wasn't opened, it is down.
-unopened : (g : Over) (c : In_default g) → IsHalted g.D.Disk.honest g.D.Disk.image c.args.log.now c.args.n c.args.actor c.restart_answer.result c.args.self.now c.if-was_up.self
-unopened g c =
+-- So the run is stopped,
+halts : (g : Over) (c : After-is_up g) → IsHalted g.D.Disk.honest g.D.Disk.image c.args.log.now c.args.n c.args.actor c.restart_answer.result c.args.self.now c.if-was_up.self
+halts g c =
     elim c.if-was_up.branch [
       | then-was_up+in_ok-stop_all w ↦
           subst (λ (q : RunState). IsHalted g.D.Disk.honest g.D.Disk.image c.args.log.now c.args.n c.args.actor c.restart_answer.result c.args.self.now q) (sym w.self-is)
@@ -67,101 +66,61 @@ unopened g c =
           (λ t. ap (λ (r : RunState). (state_of t r.worlds).transaction) (sym c.self.view_is) ∙ c.self.invariant.0.numbered t) c.requires.holds
     ]
 
-same_disk : (g : Over) (c : In_default g) → c.halt.new.self.disk ≡ c.args.log.now.disk
-same_disk g c = ap (λ (l : LogState g.row.D.Denot). l.disk) c.halt.ensures
+held : (g : Over) (c : After-is_up g) → Holds g.D.Disk.honest g.D.Disk.image (halted_log c.args.log.now) c.if-was_up.self
+held g c = (halts g c).holds (halted_log c.args.log.now) refl refl (λ is b i. i)
 
-down : (g : Over) (c : In_default g) → c.reopen-reopened.new.self.is_up ≡ false
-down g c = down_err c.reopen-reopened.new.self.is_up c.reopen-reopened.result c.in_default.field-0 c.in_default.is c.reopen-reopened.ensures.up.0
+-- and the log goes on.
+went : (g : Over) (c : After-is_up g) → LogGoes g.D.Disk.faults g.D.Disk.honest g.D.Disk.image c.args.log.now c.reopened-found.new.log
+went g c =
+    let r = c.reopened-found.ensures in
+    goes_restart g.D.Disk.faults g.D.Disk.honest g.D.Disk.image g.D.Disk.seen c.args.log.now c.reopened-found.new.log c.reopened-found.result r.reopened r.grows r.among r.within
 
-goes : (g : Over) (c : In_default g) → LogGoes g.D.Disk.faults g.D.Disk.honest g.D.Disk.image c.args.log.now c.reopen-reopened.new.self
-goes g c =
-    goes_restart g.D.Disk.faults g.D.Disk.honest g.D.Disk.image g.D.Disk.seen c.args.log.now c.halt.new.self c.reopen-reopened.new.self c.halt.ensures c.reopen-reopened.ensures.grows c.reopen-reopened.ensures.within
-    (λ is up. absurd (let no = down g c in cc))
-
-ended : (g : Over) (c : In_default g) → past_of c.if-was_up.self.trace ≡ after_restart c.args.n c.args.actor (unopened_by c.in_default.field-0) (past_of c.args.self.now.trace)
-ended g c =
-    (unopened g c).trace
+-- Where the log wasn't opened, it is down.
+ended : (g : Over) (c : In_default g) → past_of c.if-was_up.self.trace ≡ after_halt c.args.n c.args.actor c.restart_answer.result (past_of c.args.self.now.trace)
+    → past_of c.if-was_up.self.trace ≡ after_restart c.args.n c.args.actor (unopened_by c.in_default.field-0) (past_of c.args.self.now.trace)
+ended g c halt =
+    halt
     ∙ (ap (λ (x : Answer). after_halt c.args.n c.args.actor x (past_of c.args.self.now.trace)) (c.restart_answer.ensures ∙ ap restart_answer c.in_default.is)
     ∙ after_unopened c.args.n c.args.actor c.in_default.field-0 (past_of c.args.self.now.trace))
 
 pub returns-in_default-clause-log : goal.returns-in_default-clause-log
-returns-in_default-clause-log g c = goes g (goal.at.returns-in_default-clause-log g c).In_default
+returns-in_default-clause-log g c = went g (goal.at.returns-in_default-clause-log g c).After-is_up
 
 pub returns-in_default-clause-holds : goal.returns-in_default-clause-holds
 returns-in_default-clause-holds g c =
-    let life : c.reopen-reopened.new.self.life ≡ c.args.log.now.life =
-    c.reopen-reopened.ensures.life ∙ (ap (λ r. if is_ok r then c.halt.new.self.life + 1 else c.halt.new.self.life) c.in_default.is ∙ ap (λ (l : LogState g.row.D.Denot). l.life) c.halt.ensures) in
-    (unopened g c).holds c.reopen-reopened.new.self (down g c) life
-    (λ is. subst (λ (d : g.row.D.Denot). AreWithin (g.D.Disk.image d) (g.D.Disk.image c.reopen-reopened.new.self.disk)) (same_disk g c) (c.reopen-reopened.ensures.within is))
+    let r = c.reopened-found.ensures in
+    let from = c.args.log.now in
+    (halts g (goal.at.returns-in_default-clause-holds g c).After-is_up).holds c.reopened-found.new.log (r.reopened.up ∙ ap is_ok c.in_default.is)
+    (r.reopened.life ∙ ap (λ f. if is_ok f then from.life + 1 else from.life) c.in_default.is) r.within
 
 pub returns-in_default-clause-tells : goal.returns-in_default-clause-tells
 returns-in_default-clause-tells g c = λ start told.
+    let at = goal.at.returns-in_default-clause-tells g c in
     let from = c.args.log.now in
-    let to = c.reopen-reopened.new.self in
+    let to = c.reopened-found.new.log in
+    let r = c.reopened-found.ensures in
     let e = c.in_default.field-0 in
     let T = past_of c.args.self.now.trace in
-    let armed : to.armed ≡ from.armed = c.reopen-reopened.ensures.armed ∙ ap (λ (l : LogState g.row.D.Denot). l.armed) c.halt.ensures in
-    let only = IfErr-at_err _ c.in_default.is c.reopen-reopened.ensures.only in
-    let fault : e ≡ Refusal.Fault → Rose (g.D.Disk.faults from.disk) (g.D.Disk.faults to.disk) =
-    λ k. subst (λ (d : g.row.D.Denot). Rose (g.D.Disk.faults d) (g.D.Disk.faults to.disk)) (same_disk g c) (c.reopen-reopened.ensures.fault (c.in_default.is ∙ ap Err k)) in
-    subst (λ (U : List Placed). Tells g.D.Disk.faults g.D.Disk.honest g.D.Disk.image start to U) (sym (ended g c))
-    (tells_restart g.D.Disk.faults g.D.Disk.honest g.D.Disk.image start from to T c.args.n c.args.actor (unopened_by e) (goes g c) armed
-    (unopened_just g.D.Disk.honest (open_records start.slots ≡ []) (Rose (g.D.Disk.faults from.disk) (g.D.Disk.faults to.disk)) (after_halt c.args.n c.args.actor Fine T) e only fault
-    (λ is p k. c.reopen-reopened.ensures.never is p (c.in_default.is ∙ ap Err k))) told)
+    let only = IfErr-at_err _ c.in_default.is r.only in
+    subst (λ (U : List Placed). Tells g.D.Disk.faults g.D.Disk.honest g.D.Disk.image start to U) (sym (ended g at.In_default (halts g at.After-is_up).trace))
+    (tells_restart g.D.Disk.faults g.D.Disk.honest g.D.Disk.image start from to T c.args.n c.args.actor (unopened_by e) (went g at.After-is_up) r.reopened.armed
+    (unopened_just g.D.Disk.honest (open_records start.slots ≡ []) (Rose (g.D.Disk.faults from.disk) (g.D.Disk.faults to.disk)) (after_halt c.args.n c.args.actor Fine T) e only (λ k. r.reopened.fault (c.in_default.is ∙ ap Err k))
+    (λ is p k. r.reopened.never is p (c.in_default.is ∙ ap Err k))) told)
 
 pub returns-in_default-clause-calls : goal.returns-in_default-clause-calls
-returns-in_default-clause-calls g c = (unopened g (goal.at.returns-in_default-clause-calls g c).In_default).calls
+returns-in_default-clause-calls g c = (halts g (goal.at.returns-in_default-clause-calls g c).After-is_up).calls
 
 pub returns-in_default-clause-done : goal.returns-in_default-clause-done
-returns-in_default-clause-done g c = (unopened_by c.in_default.field-0, ended g c)
+returns-in_default-clause-done g c =
+    let at = goal.at.returns-in_default-clause-done g c in
+    (unopened_by c.in_default.field-0, ended g at.In_default (halts g at.After-is_up).trace)
 
 -- Where it was, the transactions are told what was found.
-opened : (g : Over) (c : After-restart_all-arg-1 g) → IsHalted g.D.Disk.honest g.D.Disk.image c.args.log.now c.args.n c.args.actor c.restart_answer.result c.args.self.now c.if-was_up.self
-opened g c =
-    elim c.if-was_up.branch [
-      | then-was_up+in_ok-stop_all w ↦
-          subst (λ (q : RunState). IsHalted g.D.Disk.honest g.D.Disk.image c.args.log.now c.args.n c.args.actor c.restart_answer.result c.args.self.now q) (sym w.self-is)
-          (halted_up g.D.Disk.honest g.D.Disk.image c.args.log.now c.args.n c.args.actor c.restart_answer.result c.args.self.now w.stop_all.new.self (sym c.is_up-was_up.ensures.up ∙ w.if-was_up.true)
-          (w.stop_all.ensures.script ∙ ap (λ (r : RunState). r.script) c.self.view_is) (w.stop_all.ensures.objects ∙ ap (λ (r : RunState). r.objects) c.self.view_is) (w.stop_all.ensures.contexts ∙ ap (λ (r : RunState). r.contexts) c.self.view_is)
-          (λ t. w.stop_all.ensures.calls t ∙ ap (λ (r : RunState). (state_of t r.worlds).world.calls) c.self.view_is)
-          (λ t.
-          w.in_ok-stop_all.ensures.worlds t
-          ∙ (ap (λ (l : ℕ). halted l (state_of t c.self.inside.worlds.items)) c.life-life.ensures ∙ ap (λ (r : RunState). halted c.args.log.now.life (state_of t r.worlds)) c.self.view_is))
-          (w.in_ok-stop_all.ensures.trace
-          ∙ ap (λ (T : List Placed). put_at (λ u. Stopped) (hit T) T)
-          (two_written c.args.self.now.trace c.reserve.new.self.items c.push_reserved.new.self.items w.push_reserved-then-was_up.new.self.items (Called c.args.n c.args.actor c.restart_answer.result) Stopped
-          (c.in_ok-reserve.ensures.items ∙ ap (λ (r : RunState). r.trace) c.self.view_is) c.push_reserved.ensures.items w.push_reserved-then-was_up.ensures.items))
-          (w.in_ok-stop_all.ensures.kept (λ t. subst (λ (r : RunState). IsRecordKept (state_of t r.worlds)) (sym c.self.view_is) (c.requires.holds.kept t)))
-          (λ t. ap (λ (r : RunState). (state_of t r.worlds).transaction) (sym c.self.view_is) ∙ c.self.invariant.0.numbered t) c.requires.holds)
-      | else-was_up w ↦
-          halted_down g.D.Disk.honest g.D.Disk.image c.args.log.now c.args.n c.args.actor c.restart_answer.result c.args.self.now c.if-was_up.self (sym c.is_up-was_up.ensures.up ∙ w.if-was_up.false)
-          (ap (λ (r : RunState). r.script) w.self-is ∙ ap (λ (r : RunState). r.script) c.self.view_is) (ap (λ (r : RunState). r.objects) w.self-is ∙ ap (λ (r : RunState). r.objects) c.self.view_is) (ap (λ (r : RunState). r.contexts) w.self-is ∙ ap (λ (r : RunState). r.contexts) c.self.view_is)
-          (ap (λ (r : RunState). r.worlds) w.self-is ∙ ap (λ (r : RunState). r.worlds) c.self.view_is)
-          (ap (λ (r : RunState). past_of r.trace) w.self-is
-          ∙ one_written c.args.self.now.trace c.reserve.new.self.items c.push_reserved.new.self.items (Called c.args.n c.args.actor c.restart_answer.result)
-          (c.in_ok-reserve.ensures.items ∙ ap (λ (r : RunState). r.trace) c.self.view_is) c.push_reserved.ensures.items)
-          (λ t. ap (λ (r : RunState). (state_of t r.worlds).transaction) (sym c.self.view_is) ∙ c.self.invariant.0.numbered t) c.requires.holds
-    ]
+is_there : (g : Over) (c : After-restart_all-arg-1 g) → c.reopened-found.new.log.is_up ≡ true
+is_there g c = c.reopened-found.ensures.reopened.up ∙ ap is_ok c.in-Ok.is
 
-halted_down_there : (g : Over) (c : After-restart_all-arg-1 g) → c.halt.new.self.is_up ≡ false
-halted_down_there g c = ap (λ (l : LogState g.row.D.Denot). l.is_up) c.halt.ensures
-
-disk_there : (g : Over) (c : After-restart_all-arg-1 g) → c.halt.new.self.disk ≡ c.args.log.now.disk
-disk_there g c = ap (λ (l : LogState g.row.D.Denot). l.disk) c.halt.ensures
-
-held : (g : Over) (c : After-restart_all-arg-1 g) → Holds g.D.Disk.honest g.D.Disk.image c.halt.new.self c.if-was_up.self
-held g c =
-    (opened g c).holds c.halt.new.self (halted_down_there g c) (ap (λ (l : LogState g.row.D.Denot). l.life) c.halt.ensures)
-    (λ is b i. subst (λ (d : g.row.D.Denot). g.D.Disk.image d b) (disk_there g c) i)
-
-is_there : (g : Over) (c : After-restart_all-arg-1 g) → c.reopen-reopened.new.self.is_up ≡ true
-is_there g c = c.reopen-reopened.ensures.up.1 (ap is_ok c.in-Ok.is)
-
-among : (g : Over) (c : After-restart_all-arg-1 g) → IsTrue g.D.Disk.honest → g.D.Disk.image c.halt.new.self.disk (g.D.Disk.seen c.halt.new.self.disk)
-among g c is = g.met.D.Disk.sees c.halt.new.self.disk is
-
-life_there : (g : Over) (c : After-restart_all-arg-1 g) → c.reopen-reopened.new.self.life ≡ c.halt.new.self.life + 1
-life_there g c = c.reopen-reopened.ensures.life ∙ ap (λ r. if is_ok r then c.halt.new.self.life + 1 else c.halt.new.self.life) c.in-Ok.is
+life_there : (g : Over) (c : After-restart_all-arg-1 g) → c.reopened-found.new.log.life ≡ c.args.log.now.life + 1
+life_there g c = c.reopened-found.ensures.reopened.life ∙ ap (λ f. if is_ok f then c.args.log.now.life + 1 else c.args.log.now.life) c.in-Ok.is
 
 pushed : (g : Over) (c : After-restart_all-arg-1 g) → past_of c.push_reserved-2.new.self.items ≡ at_the_log (LogWord (Opened c.in-Ok.records)) (past_of c.if-was_up.self.trace)
 pushed g c =
@@ -170,52 +129,53 @@ pushed g c =
 
 pub restart_all-requires-clause-tied : goal.restart_all-requires-clause-tied
 restart_all-requires-clause-tied g c = λ t.
+    let at = goal.at.restart_all-requires-clause-tied g c in
     let q = c.if-was_up.self in
     tied_move q.script c.self-2.inside.plans q.objects (length c.self-2.inside.resources.now) t (at_the_log (LogWord (Opened c.in-Ok.records)) (past_of q.trace)) (past_of c.push_reserved-2.new.self.items) (state_of t q.worlds) (state_of t c.self-2.inside.worlds.items)
-    (ap (λ (r : RunState). r.script) c.self-2.view_is) (ap (λ (r : RunState). r.objects) c.self-2.view_is) (pushed g c) (ap (λ (r : RunState). state_of t r.worlds) c.self-2.view_is)
-    (tied_at_log q.script q.objects t (past_of q.trace) (LogWord (Opened c.in-Ok.records)) (state_of t q.worlds) ((held g c).tied t))
+    (ap (λ (r : RunState). r.script) c.self-2.view_is) (ap (λ (r : RunState). r.objects) c.self-2.view_is) (pushed g at.After-restart_all-arg-1) (ap (λ (r : RunState). state_of t r.worlds) c.self-2.view_is)
+    (tied_at_log q.script q.objects t (past_of q.trace) (LogWord (Opened c.in-Ok.records)) (state_of t q.worlds) ((held g at.After-is_up).tied t))
 
 pub restart_all-requires-clause-fits : goal.restart_all-requires-clause-fits
 restart_all-requires-clause-fits g c = λ is t.
-    let b = (goal.at.restart_all-requires-clause-fits g c).After-restart_all-arg-1 in
-    let to = c.reopen-reopened.new.self in
-    subst (λ (r : RunState). Fits (state_of t r.worlds) (open_records to.slots)) (sym c.self-2.view_is)
-    ((fits_opened g.D.Disk.image g.D.Disk.seen c.halt.new.self to (state_of t c.if-was_up.self.worlds) (among g b is) (IfOk-at_ok _ c.in-Ok.is (c.reopen-reopened.ensures.records is)) (c.reopen-reopened.ensures.within is)
-    ((held g b).fits is t)).fits (is_there g b))
+    let at = goal.at.restart_all-requires-clause-fits g c in
+    let r = c.reopened-found.ensures in
+    let to = c.reopened-found.new.log in
+    subst (λ (q : RunState). Fits (state_of t q.worlds) (open_records to.slots)) (sym c.self-2.view_is)
+    ((fits_opened g.D.Disk.image g.D.Disk.seen (halted_log c.args.log.now) to (state_of t c.if-was_up.self.worlds) (r.among is) (IfOk-at_ok _ c.in-Ok.is (r.reopened.records is)) (r.within is)
+    ((held g at.After-is_up).fits is t)).fits (is_there g at.After-restart_all-arg-1))
 
 pub restart_all-requires-clause-stopped : goal.restart_all-requires-clause-stopped
 restart_all-requires-clause-stopped g c = λ t.
+    let b = (goal.at.restart_all-requires-clause-stopped g c).After-is_up in
     subst (λ (r : RunState). has is_begin_sent (state_of t r.worlds).world.past ≡ true → (core (state_of t r.worlds).world).stopped ≡ true) (sym c.self-2.view_is)
-    (λ begun. halts_at c.halt.new.self (state_of t c.if-was_up.self.worlds) (halted_down_there g c) ((held g c).goes t) ∙ begun)
+    (λ begun. halts_at (halted_log c.args.log.now) (state_of t c.if-was_up.self.worlds) refl ((held g b).goes t) ∙ begun)
 
 pub restart_all-requires-clause-lives : goal.restart_all-requires-clause-lives
 restart_all-requires-clause-lives g c = λ t.
-    let b = (goal.at.restart_all-requires-clause-lives g c).After-restart_all-arg-1 in
-    subst (λ (r : RunState). has is_begin_sent (state_of t r.worlds).world.past ≡ true → (state_of t r.worlds).life < c.reopen-reopened.new.self.life) (sym c.self-2.view_is)
-    (λ begun. let own = ((held g b).goes t).life begun in let next = life_there g b in omega (arith, own, next))
-
-went : (g : Over) (c : After-restart_all-arg-1 g) → LogGoes g.D.Disk.faults g.D.Disk.honest g.D.Disk.image c.args.log.now c.reopen-reopened.new.self
-went g c =
-    goes_restart g.D.Disk.faults g.D.Disk.honest g.D.Disk.image g.D.Disk.seen c.args.log.now c.halt.new.self c.reopen-reopened.new.self c.halt.ensures c.reopen-reopened.ensures.grows c.reopen-reopened.ensures.within
-    (λ is up. (among g c is, IfOk-at_ok _ c.in-Ok.is (c.reopen-reopened.ensures.records is)))
+    let at = goal.at.restart_all-requires-clause-lives g c in
+    subst (λ (r : RunState). has is_begin_sent (state_of t r.worlds).world.past ≡ true → (state_of t r.worlds).life < c.reopened-found.new.log.life) (sym c.self-2.view_is)
+    (λ begun. let own = ((held g at.After-is_up).goes t).life begun in let next = life_there g at.After-restart_all-arg-1 in omega (arith, own, next))
 
 pub returns-clause-log : goal.returns-clause-log
-returns-clause-log g c = went g (goal.at.returns-clause-log g c).After-restart_all-arg-1
+returns-clause-log g c = went g (goal.at.returns-clause-log g c).After-is_up
 
 pub returns-clause-holds : goal.returns-clause-holds
 returns-clause-holds g c =
-    let b = (goal.at.returns-clause-holds g c).After-restart_all-arg-1 in
+    let at = goal.at.returns-clause-holds g c in
+    let b = at.After-restart_all-arg-1 in
+    let h = held g at.After-is_up in
+    let r = c.reopened-found.ensures in
     let q = c.if-was_up.self in
-    let to = c.reopen-reopened.new.self in
+    let to = c.reopened-found.new.log in
     let found = λ (t : TxNo). Restarted (is_some (record_in to.slots t.value)) in
     on_ok_weaker c.restart_all.result
     (λ done.
-    holds_opened g.D.Disk.honest g.D.Disk.image g.D.Disk.seen c.halt.new.self to q c.restart_all.new.self c.in-Ok.records (halted_down_there g b) (is_there g b) (life_there g b) (among g b)
-    (λ is. IfOk-at_ok _ c.in-Ok.is (c.reopen-reopened.ensures.records is)) c.reopen-reopened.ensures.within (λ is. IfOk-at_ok _ c.in-Ok.is (c.reopen-reopened.ensures.images is)) (opened g b).numbered
-    (c.restart_all.ensures.script ∙ ap (λ (r : RunState). r.script) c.self-2.view_is) (c.restart_all.ensures.objects ∙ ap (λ (r : RunState). r.objects) c.self-2.view_is) (λ t. done.0.0 t ∙ ap (λ (r : RunState). reopened to (state_of t r.worlds)) c.self-2.view_is)
+    holds_opened g.D.Disk.honest g.D.Disk.image g.D.Disk.seen (halted_log c.args.log.now) to q c.restart_all.new.self c.in-Ok.records refl (is_there g b) (life_there g b) r.among
+    (λ is. IfOk-at_ok _ c.in-Ok.is (r.reopened.records is)) r.within (λ is. c.is_up.ensures.images is (is_there g b)) (halts g at.After-is_up).numbered
+    (c.restart_all.ensures.script ∙ ap (λ (p : RunState). p.script) c.self-2.view_is) (c.restart_all.ensures.objects ∙ ap (λ (p : RunState). p.objects) c.self-2.view_is) (λ t. done.0.0 t ∙ ap (λ (p : RunState). reopened to (state_of t p.worlds)) c.self-2.view_is)
     (done.0.1 ∙ ap (λ (T : List Placed). put_at found (known T) T) (pushed g b))
-    (done.1.0 (λ t. subst (λ (r : RunState). IsRecordKept (state_of t r.worlds)) (sym c.self-2.view_is) ((held g b).kept t)))
-    (λ is. done.1.1 is (λ t. subst (λ (r : RunState). tied (state_of t r.worlds).world.past ≡ true) (sym c.self-2.view_is) ((held g b).sound is t))) (held g b))
+    (done.1.0 (λ t. subst (λ (p : RunState). IsRecordKept (state_of t p.worlds)) (sym c.self-2.view_is) (h.kept t)))
+    (λ is. done.1.1 is (λ t. subst (λ (p : RunState). tied (state_of t p.worlds).world.past ≡ true) (sym c.self-2.view_is) (h.sound is t))) h)
     (both_ok _ _ c.restart_all.result (both_ok _ _ c.restart_all.result c.restart_all.ensures.worlds c.restart_all.ensures.trace) (both_ok _ _ c.restart_all.result c.restart_all.ensures.kept c.restart_all.ensures.sound))
 
 fine : (g : Over) (c : After-restart_all-arg-1 g) → c.restart_answer.result ≡ Fine
@@ -223,41 +183,44 @@ fine g c = c.restart_answer.ensures ∙ ap restart_answer c.in-Ok.is
 
 pub returns-clause-tells : goal.returns-clause-tells
 returns-clause-tells g c =
-    let b = (goal.at.returns-clause-tells g c).After-restart_all-arg-1 in
+    let at = goal.at.returns-clause-tells g c in
+    let b = at.After-restart_all-arg-1 in
+    let halt = halts g at.After-is_up in
+    let go = went g at.After-is_up in
+    let r = c.reopened-found.ensures in
     let from = c.args.log.now in
-    let to = c.reopen-reopened.new.self in
+    let to = c.reopened-found.new.log in
     let T = past_of c.args.self.now.trace in
     let n = c.args.n in
     let a = c.args.actor in
     let m = c.in-Ok.records in
     let found = λ (k : ℕ). is_some (record_in to.slots k) in
-    let armed : to.armed ≡ from.armed = c.reopen-reopened.ensures.armed ∙ ap (λ (l : LogState g.row.D.Denot). l.armed) c.halt.ensures in
     on_ok_weaker c.restart_all.result
     (λ put start told.
     subst (λ (U : List Placed). Tells g.D.Disk.faults g.D.Disk.honest g.D.Disk.image start to U)
-    (sym (opened_trace n a m found c.restart_answer.result T (past_of c.if-was_up.self.trace) (past_of c.push_reserved-2.new.self.items) (past_of c.restart_all.new.self.trace) put (pushed g b) (opened g b).trace (fine g b)))
-    (tells_restart g.D.Disk.faults g.D.Disk.honest g.D.Disk.image start from to T n a (Opens found m) (went g b) armed
+    (sym (opened_trace n a m found c.restart_answer.result T (past_of c.if-was_up.self.trace) (past_of c.push_reserved-2.new.self.items) (past_of c.restart_all.new.self.trace) put (pushed g b) halt.trace (fine g b)))
+    (tells_restart g.D.Disk.faults g.D.Disk.honest g.D.Disk.image start from to T n a (Opens found m) go r.reopened.armed
     (λ is empty.
-    opened_just g.D.Disk.faults g.D.Disk.honest g.D.Disk.image g.D.Disk.seen start from c.halt.new.self to c.args.self.now c.if-was_up.self n a c.restart_answer.result m T (after_halt n a Fine T) (halted_down_there g b)
-    (ap (λ (l : LogState g.row.D.Denot). l.life) c.halt.ensures) (disk_there g b) (is_there g b) (among g b) (λ h. IfOk-at_ok _ c.in-Ok.is (c.reopen-reopened.ensures.records h)) c.reopen-reopened.ensures.within
-    (IfOk-at_ok _ c.in-Ok.is c.reopen-reopened.ensures.count) (went g b) (opened g b) (ap (λ (x : Answer). after_halt n a x T) (sym (fine g b))) told is empty)
+    opened_just g.D.Disk.faults g.D.Disk.honest g.D.Disk.image g.D.Disk.seen start from to c.args.self.now c.if-was_up.self n a c.restart_answer.result m T (after_halt n a Fine T) (is_there g b) r.among
+    (λ h. IfOk-at_ok _ c.in-Ok.is (r.reopened.records h)) r.within (IfOk-at_ok _ c.in-Ok.is r.reopened.count) go halt (ap (λ (x : Answer). after_halt n a x T) (sym (fine g b))) told is empty)
     told))
     c.restart_all.ensures.trace
 
 pub returns-clause-calls : goal.returns-clause-calls
 returns-clause-calls g c =
-    let b = (goal.at.returns-clause-calls g c).After-restart_all-arg-1 in
-    λ t. c.restart_all.ensures.calls t ∙ (ap (λ (r : RunState). (state_of t r.worlds).world.calls) c.self-2.view_is ∙ (opened g b).calls t)
+    let b = (goal.at.returns-clause-calls g c).After-is_up in
+    λ t. c.restart_all.ensures.calls t ∙ (ap (λ (r : RunState). (state_of t r.worlds).world.calls) c.self-2.view_is ∙ (halts g b).calls t)
 
 pub returns-clause-done : goal.returns-clause-done
 returns-clause-done g c =
-    let b = (goal.at.returns-clause-done g c).After-restart_all-arg-1 in
-    let to = c.reopen-reopened.new.self in
+    let at = goal.at.returns-clause-done g c in
+    let b = at.After-restart_all-arg-1 in
+    let to = c.reopened-found.new.log in
     let found = λ (k : ℕ). is_some (record_in to.slots k) in
     on_ok_weaker c.restart_all.result
     (λ put. (
       Opens found c.in-Ok.records,
       opened_trace c.args.n c.args.actor c.in-Ok.records found c.restart_answer.result (past_of c.args.self.now.trace) (past_of c.if-was_up.self.trace) (past_of c.push_reserved-2.new.self.items) (past_of c.restart_all.new.self.trace) put
-          (pushed g b) (opened g b).trace (fine g b),
+          (pushed g b) (halts g at.After-is_up).trace (fine g b),
     ))
     c.restart_all.ensures.trace

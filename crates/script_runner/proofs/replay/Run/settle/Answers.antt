@@ -5,10 +5,12 @@ use Rattle.dtx_model.specs.Replay.{world_at}
 use Rattle.dtx_model.specs.Steps.{pending}
 use Rattle.dtx_model.specs.Traces.{history}
 use Rattle.dtx_model.specs.Words.{kth, past_of}
+use Rattle.run_endings.proofs.Settling.{none_first, up_between}
 use Rattle.script_runner.specs.RunState.{Advances, AreSettledBelow, IsRoundAt, RunState, Settles, state_of}
 use Rattle.script_runner.proofs.Going.{calls_then, goes_same, goes_then, stays_same, stays_then}
-use Rattle.script_runner.proofs.Rounds.{below-apart, below-next, none-first, settles-here, steps-more, turn-more, turn-next}
-use Rattle.script_runner.proofs.Steps.{up_between}
+use Rattle.script_runner.proofs.Rounds.{below-apart, below-next, settles-here, steps-more, turn-more, turn-next}
+use Rattle.script_runner.proofs.replay.Run.settle.Given.{Over}
+use Rattle.script_runner.proofs.replay.Run.settle.Goals.{In_ok-step}
 use Rattle.script_runner.proofs.replay.Run.settle.Goals as goal
 
 pub loop-init : goal.loop-init
@@ -54,29 +56,33 @@ loop-preserved g c =
 pub returns-in_err-step-clause-log : goal.returns-in_err-step-clause-log
 returns-in_err-step-clause-log g c = goes_then g.D.Disk.faults g.D.Disk.honest g.D.Disk.image c.args.log.now c.loop.log c.step.new.log c.loop.invariant.log c.step.ensures.log
 
+-- Where no first step is pending, t is settled.
+settled_there : (g : Over) (c : In_ok-step g) → c.step.result ≡ Ok false → Settled c.args.self.now.script (history c.args.t.value (past_of c.loop.self.trace))
+settled_there g c done =
+    let s = c.args.self.now.script in
+    let none : kth (pending (world_at s c.args.t (past_of c.loop.self.trace))) 1 ≡ None =
+    subst (λ (r : List Line). kth (pending (world_at r c.args.t (past_of c.loop.self.trace))) 1 ≡ None) c.loop.invariant.script (c.step.ensures.none_here done) in
+    none_first (pending (world_at s c.args.t (past_of c.loop.self.trace))) none
+
 pub returns-then-not-branch-clause-settled : goal.returns-then-not-branch-clause-settled
 returns-then-not-branch-clause-settled g c =
     let done : c.step.result ≡ Ok false = cc in
     let t = c.args.t in
-    subst (λ (r : RunState). pending (state_of t r.worlds).world ≡ []) (sym (c.step.ensures.unchanged done).0) (none-first (pending (state_of t c.loop.self.worlds).world) (c.step.ensures.none done))
+    subst (λ (r : RunState). pending (state_of t r.worlds).world ≡ []) (sym (c.step.ensures.unchanged done).0) (none_first (pending (state_of t c.loop.self.worlds).world) (c.step.ensures.none done))
 
 pub returns-then-not-branch-clause-done : goal.returns-then-not-branch-clause-done
 returns-then-not-branch-clause-done g c =
     let done : c.step.result ≡ Ok false = cc in
     let start = c.args.self.now in
     let did = c.loop.invariant.done in
-    let none : kth (pending (world_at start.script c.args.t (past_of c.loop.self.trace))) 1 ≡ None =
-    subst (λ (s : List Line). kth (pending (world_at s c.args.t (past_of c.loop.self.trace))) 1 ≡ None) c.loop.invariant.script (c.step.ensures.none_here done) in
     subst (λ (r : RunState). Settles start.script c.args.t start.trace r.trace) (sym (c.step.ensures.unchanged done).0)
-    (settles-here start.script c.args.t did.0 start.trace c.loop.self.trace did.1 (none-first (pending (world_at start.script c.args.t (past_of c.loop.self.trace))) none))
+    (settles-here start.script c.args.t did.0 start.trace c.loop.self.trace did.1 (settled_there g (goal.at.returns-then-not-branch-clause-done g c).In_ok-step done))
 
 pub returns-then-not-branch-clause-turns : goal.returns-then-not-branch-clause-turns
 returns-then-not-branch-clause-turns g c =
     let done : c.step.result ≡ Ok false = cc in
     let s = c.args.self.now.script in
-    let none : kth (pending (world_at s c.args.t (past_of c.loop.self.trace))) 1 ≡ None =
-    subst (λ (r : List Line). kth (pending (world_at r c.args.t (past_of c.loop.self.trace))) 1 ≡ None) c.loop.invariant.script (c.step.ensures.none_here done) in
-    let settled : Settled s (history c.args.t.value (past_of c.loop.self.trace)) = none-first (pending (world_at s c.args.t (past_of c.loop.self.trace))) none in
+    let settled = settled_there g (goal.at.returns-then-not-branch-clause-turns g c).In_ok-step done in
     λ first turn.
     subst (λ (r : RunState). IsRoundAt s first (c.args.t.value + 1) (past_of r.trace)) (sym (c.step.ensures.unchanged done).0)
     (turn-next s first c.args.t (past_of c.loop.self.trace) (c.loop.invariant.turns first turn) settled)
@@ -85,9 +91,7 @@ pub returns-then-not-branch-clause-below : goal.returns-then-not-branch-clause-b
 returns-then-not-branch-clause-below g c =
     let done : c.step.result ≡ Ok false = cc in
     let s = c.args.self.now.script in
-    let none : kth (pending (world_at s c.args.t (past_of c.loop.self.trace))) 1 ≡ None =
-    subst (λ (r : List Line). kth (pending (world_at r c.args.t (past_of c.loop.self.trace))) 1 ≡ None) c.loop.invariant.script (c.step.ensures.none_here done) in
-    let settled : Settled s (history c.args.t.value (past_of c.loop.self.trace)) = none-first (pending (world_at s c.args.t (past_of c.loop.self.trace))) none in
+    let settled = settled_there g (goal.at.returns-then-not-branch-clause-below g c).In_ok-step done in
     let same = c.step.ensures.unchanged done in
     λ up below.
     subst (λ (r : RunState). AreSettledBelow s (c.args.t.value + 1) (past_of r.trace)) (sym same.0)

@@ -2,9 +2,8 @@ use Rattle.std.proofs.Common.{◌≡◌, ℕ, List}
 use Rattle.dtx_model.specs.Traces.{Placed}
 use Rattle.dtx_model.specs.Words.{past_of}
 use Rattle.world_laws.specs.Left.{steps_left}
-use Rattle.coordinator_log.specs.State.{LogState}
 use Rattle.script_runner.specs.LogRun.{LogGoes, LogStays}
-use Rattle.script_runner.specs.RunState.{AreSettledBelow, HaveSameCalls, Holds, IsRoundAt, StepsDone, Tells, state_of}
+use Rattle.script_runner.specs.RunState.{AreSettledBelow, HaveSameCalls, Holds, IsRoundAt, StepsDone, StillTells, state_of}
 use Rattle.script_runner.proofs.replay.Run.settle.Given as goal
 
 abbrev pub invariant-loop : goal.invariant-loop
@@ -15,7 +14,7 @@ invariant-loop g l = record {
   log : LogGoes g.D.Disk.faults g.D.Disk.honest g.D.Disk.image l.initial.log l.log;
   stays : LogStays g.D.Disk.faults l.initial.log l.log;
   holds : Holds g.D.Disk.honest g.D.Disk.image l.log l.self;
-  tells : (start : LogState g.row.D.Denot) → Tells g.D.Disk.faults g.D.Disk.honest g.D.Disk.image start l.initial.log (past_of l.initial.self.trace) → Tells g.D.Disk.faults g.D.Disk.honest g.D.Disk.image start l.log (past_of l.self.trace);
+  tells : StillTells g.D.Disk.faults g.D.Disk.honest g.D.Disk.image l.initial.log l.log l.initial.self l.self;
   calls : HaveSameCalls l.initial.self.worlds l.self.worlds;
   done : (m : ℕ) × StepsDone l.initial.self.script l.t 1 m l.initial.self.trace l.self.trace;
   turns : (start : List Placed) → IsRoundAt l.initial.self.script start l.t.value (past_of l.initial.self.trace) → IsRoundAt l.initial.self.script start l.t.value (past_of l.self.trace);

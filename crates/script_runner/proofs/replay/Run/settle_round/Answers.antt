@@ -3,10 +3,10 @@ use Rattle.std.specs.Prelude.{IfSome}
 use Rattle.dtx_values.specs.declared.number.TxNo.{TxNo}
 use Rattle.dtx_values.specs.declared.script.Line.{Line}
 use Rattle.dtx_model.specs.Words.{past_of}
+use Rattle.run_endings.proofs.Settling.{up_between}
 use Rattle.script_runner.specs.RunState.{AreSettledBelow, IsRoundAt}
 use Rattle.script_runner.proofs.Going.{goes_same, goes_then, stays_same, stays_then}
 use Rattle.script_runner.proofs.Rounds.{below-first, turn-round}
-use Rattle.script_runner.proofs.Steps.{up_between}
 use Rattle.script_runner.proofs.replay.Run.settle_round.Goals as goal
 
 pub loop-n-init : goal.loop-n-init

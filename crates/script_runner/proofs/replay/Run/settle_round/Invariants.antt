@@ -1,9 +1,8 @@
 use Rattle.std.proofs.Common.{◌≡◌, List}
 use Rattle.dtx_model.specs.Traces.{Placed}
 use Rattle.dtx_model.specs.Words.{past_of}
-use Rattle.coordinator_log.specs.State.{LogState}
 use Rattle.script_runner.specs.LogRun.{LogGoes, LogStays}
-use Rattle.script_runner.specs.RunState.{AreSettledBelow, Holds, IsRoundAt, Tells}
+use Rattle.script_runner.specs.RunState.{AreSettledBelow, Holds, IsRoundAt, StillTells}
 use Rattle.script_runner.proofs.replay.Run.settle_round.Given as goal
 
 abbrev pub invariant-loop-n : goal.invariant-loop-n
@@ -13,7 +12,7 @@ invariant-loop-n g l = record {
   log : LogGoes g.D.Disk.faults g.D.Disk.honest g.D.Disk.image l.initial.log l.log;
   stays : LogStays g.D.Disk.faults l.initial.log l.log;
   holds : Holds g.D.Disk.honest g.D.Disk.image l.log l.self;
-  tells : (start : LogState g.row.D.Denot) → Tells g.D.Disk.faults g.D.Disk.honest g.D.Disk.image start l.initial.log (past_of l.initial.self.trace) → Tells g.D.Disk.faults g.D.Disk.honest g.D.Disk.image start l.log (past_of l.self.trace);
+  tells : StillTells g.D.Disk.faults g.D.Disk.honest g.D.Disk.image l.initial.log l.log l.initial.self l.self;
   turns : (start : List Placed) → IsRoundAt l.initial.self.script start 1 (past_of l.initial.self.trace) → IsRoundAt l.initial.self.script start l.n (past_of l.self.trace);
   settled : l.log.is_up ≡ l.initial.log.is_up → AreSettledBelow l.initial.self.script l.n (past_of l.self.trace);
 }

@@ -24,7 +24,7 @@ use Rattle.script_runner.proofs.StepStops.{is_stopping_step, step_stopped, stopp
 use Rattle.script_runner.proofs.Steps.{IsStep, IsStepAt, IsStepped, StepOf, calls_same, none_beyond, none_pending, run_with, step_done, step_log, step_past, was, worlds_after}
 use Rattle.script_runner.proofs.Turns.{MayGive, given_by, own_at}
 use Rattle.script_runner.proofs.replay.Run.step.Given.{Over}
-use Rattle.script_runner.proofs.replay.Run.step.Goals.{After-is_own_run, After-is_own_run-2, else-was_up-via-then-was_up+else-not-is_up, else-was_up-via-else-was_up}
+use Rattle.script_runner.proofs.replay.Run.step.Goals.{After-is_own_run, After-is_own_run-2, In_ok-note, else-was_up-via-then-was_up+else-not-is_up, else-was_up-via-else-was_up}
 use Rattle.script_runner.proofs.replay.Run.step.Goals as goal
 
 -- it was done
@@ -185,19 +185,23 @@ note-requires g c = longer g (goal.at.note-requires g c).After-is_own_run-2
 pub note-requires-2 : goal.note-requires-2
 note-requires-2 g c = longer g (goal.at.note-requires-2 g c).After-is_own_run-2
 
+-- where it stopped the log, that and its block were noted
+noted : (g : Over) (c : In_ok-note g) (x : TxState) → length x.world.past ≡ c.len-from.result → (es : List Entry) → c.do_kth.new.world.world.past ≡ onto x.world.past es
+    → c.note.new.trace.items ≡ (c.args.self.now.trace ++ (Log, Stopped) ∷ []) ++ placed c.args.t es
+noted g c x long es wrote =
+    c.in_ok-note.ensures x.world.past es long wrote
+    ∙ ap (λ (T : List Placed). T ++ placed c.args.t es)
+    (c.push_reserved.ensures.items ∙ ap (λ (T : List Placed). T ++ (Log, Stopped) ∷ []) (c.reserve.ensures.items ∙ ap (λ (r : RunState). r.trace) c.self.view_is))
+
 pub stop_all-requires : goal.stop_all-requires
 stop_all-requires g c =
-    let b = (goal.at.stop_all-requires g c).After-is_own_run-2 in
+    let at = goal.at.stop_all-requires g c in
+    let b = at.After-is_own_run-2 in
     let a = about g b in
     let mid : List Placed = c.note.new.trace.items in
     let up : IsTrue a.from.is_up = sym c.is_up-was_up.ensures.up ∙ c.if-was_up.true in
     let down : IsFalse a.to.is_up = sym c.is_up.ensures.up ∙ c.if-not-is_up.true in
-    let noted : (es : List Entry) → a.y.world.past ≡ onto (was a).world.past es → mid ≡ (a.run.trace ++ (Log, Stopped) ∷ []) ++ placed a.t es =
-    λ es wrote.
-    c.in_ok-note.ensures (was a).world.past es (long g b) wrote
-    ∙ ap (λ (T : List Placed). T ++ placed a.t es)
-    (c.push_reserved.ensures.items ∙ ap (λ (T : List Placed). T ++ (Log, Stopped) ∷ []) (c.reserve.ensures.items ∙ ap (λ (r : RunState). r.trace) c.self.view_is)) in
-    let stops = is_stopping_step g.D.Disk.faults g.D.Disk.honest g.D.Disk.image a mid (done g b) up down noted in
+    let stops = is_stopping_step g.D.Disk.faults g.D.Disk.honest g.D.Disk.image a mid (done g b) up down (noted g at.In_ok-note (was a) (long g b)) in
     let now = sym (parts g b mid) in
     record {
       tied = subst (λ (r : RunState). (u : TxNo) → IsTied r.script r.objects u (past_of r.trace) (state_of u r.worlds)) now (stopping_ties g.D.Disk.faults g.D.Disk.honest g.D.Disk.image a mid (done g b) stops);
@@ -208,19 +212,15 @@ stop_all-requires g c =
 
 pub returns-then-not-is_up : goal.returns-then-not-is_up
 returns-then-not-is_up g c =
-    let b = (goal.at.returns-then-not-is_up g c).After-is_own_run-2 in
+    let at = goal.at.returns-then-not-is_up g c in
+    let b = at.After-is_own_run-2 in
     let a = about g b in
     let q = c.stop_all.new.self in
     let mid : List Placed = c.note.new.trace.items in
     let now = parts g b mid in
     let up : IsTrue a.from.is_up = sym c.is_up-was_up.ensures.up ∙ c.if-was_up.true in
     let down : IsFalse a.to.is_up = sym c.is_up.ensures.up ∙ c.if-not-is_up.true in
-    let noted : (es : List Entry) → a.y.world.past ≡ onto (was a).world.past es → mid ≡ (a.run.trace ++ (Log, Stopped) ∷ []) ++ placed a.t es =
-    λ es wrote.
-    c.in_ok-note.ensures (was a).world.past es (long g b) wrote
-    ∙ ap (λ (T : List Placed). T ++ placed a.t es)
-    (c.push_reserved.ensures.items ∙ ap (λ (T : List Placed). T ++ (Log, Stopped) ∷ []) (c.reserve.ensures.items ∙ ap (λ (r : RunState). r.trace) c.self.view_is)) in
-    let stops = is_stopping_step g.D.Disk.faults g.D.Disk.honest g.D.Disk.image a mid (done g b) up down noted in
+    let stops = is_stopping_step g.D.Disk.faults g.D.Disk.honest g.D.Disk.image a mid (done g b) up down (noted g at.In_ok-note (was a) (long g b)) in
     let d : IsStepped g.D.Disk.faults g.D.Disk.honest g.D.Disk.image a q =
     step_stopped g.D.Disk.faults g.D.Disk.honest g.D.Disk.image a mid q (done g b) stops up down (c.stop_all.ensures.script ∙ ap (λ (r : RunState). r.script) c.self.view_is)
     (c.stop_all.ensures.objects ∙ objects g b)

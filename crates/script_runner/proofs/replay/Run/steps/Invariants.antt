@@ -1,9 +1,7 @@
 use Rattle.std.proofs.Common.{◌≡◌}
 use Rattle.dtx_model.specs.Caused.{HasStepped}
-use Rattle.dtx_model.specs.Words.{past_of}
-use Rattle.coordinator_log.specs.State.{LogState}
 use Rattle.script_runner.specs.LogRun.{LogGoes, LogStays}
-use Rattle.script_runner.specs.RunState.{HaveSameCalls, Holds, StepsDone, Tells, state_of}
+use Rattle.script_runner.specs.RunState.{HaveSameCalls, Holds, StepsDone, StillTells, state_of}
 use Rattle.script_runner.proofs.replay.Run.steps.Given as goal
 
 abbrev pub invariant-loop-m : goal.invariant-loop-m
@@ -14,7 +12,7 @@ invariant-loop-m g l = record {
   log : LogGoes g.D.Disk.faults g.D.Disk.honest g.D.Disk.image l.initial.log l.log;
   stays : LogStays g.D.Disk.faults l.initial.log l.log;
   holds : Holds g.D.Disk.honest g.D.Disk.image l.log l.self;
-  tells : (start : LogState g.row.D.Denot) → Tells g.D.Disk.faults g.D.Disk.honest g.D.Disk.image start l.initial.log (past_of l.initial.self.trace) → Tells g.D.Disk.faults g.D.Disk.honest g.D.Disk.image start l.log (past_of l.self.trace);
+  tells : StillTells g.D.Disk.faults g.D.Disk.honest g.D.Disk.image l.initial.log l.log l.initial.self l.self;
   calls : HaveSameCalls l.initial.self.worlds l.self.worlds;
   did : HasStepped l.t.value l.k l.m (state_of l.t l.initial.self.worlds).world (state_of l.t l.self.worlds).world;
   done : StepsDone l.initial.self.script l.t l.k l.m l.initial.self.trace l.self.trace;
