@@ -6,22 +6,15 @@ ghost use Rattle.program_words.specs.declared.command.Command.{Command};
 ghost use Rattle.program_words.specs.declared.command.Form.{Form};
 
 use crate::command::{Command, Form};
-use line_tail::Tail;
-use trace_words::{number8, number16};
+use line_words::{number8_of, number16_of};
 
 /// The number from 1 to 256 that this word is, in decimal without sign or leading zero.
 fn count_of(word: &[u8]) -> Option<u16>
     ensures some { IfSome result (λ n. (word.now ≡ decimal n) × (is_count n ≡ true)) }
     ensures none { IfNone result ((n : ℕ) → is_count n ≡ true → word.now ≢ decimal n) }
 {
-    let n = number16(word);
-    let mut digits = Tail::new();
-    digits.put_number(u64::from(n));
-    if 1 <= n && n <= 256 && digits.as_slice() == word {
-        Some(n)
-    } else {
-        None
-    }
+    let n = number16_of(word)?;
+    if 1 <= n && n <= 256 { Some(n) } else { None }
 }
 
 /// The number from 1 to 16 that this word is, in decimal without sign or leading zero.
@@ -29,14 +22,8 @@ fn helpers_of(word: &[u8]) -> Option<u8>
     ensures some { IfSome result (λ h. (word.now ≡ decimal h) × (is_helpers h ≡ true)) }
     ensures none { IfNone result ((h : ℕ) → is_helpers h ≡ true → word.now ≢ decimal h) }
 {
-    let h = number8(word);
-    let mut digits = Tail::new();
-    digits.put_number(u64::from(h));
-    if 1 <= h && h <= 16 && digits.as_slice() == word {
-        Some(h)
-    } else {
-        None
-    }
+    let h = number8_of(word)?;
+    if 1 <= h && h <= 16 { Some(h) } else { None }
 }
 
 /// The form that this word asks for.

@@ -1,6 +1,5 @@
 pub mod Arrays
 pub mod Framed
-pub mod Identifier
 pub mod OneTrace
 pub mod Plain
 pub mod Printing

@@ -5,8 +5,8 @@ use Rattle.dtx_model.specs.Words.{each}
 use Rattle.dtx_model.specs.Traces.{Placed}
 use Rattle.dtx_model.specs.TraceText.{entry_text, lines_from, place_text, trace_line, trace_text}
 use Rattle.dtx_model.proofs.Bools.{and_left, and_right}
-use Rattle.trace_words.proofs.Cuts.{cut_same}
-use Rattle.trace_words.proofs.Numbers.{without_decimal}
+use Rattle.line_tail.proofs.CutLemmas.{cut_same}
+use Rattle.line_words.proofs.Without.{without_decimal}
 use Rattle.trace_text.specs.OneTrace.{is_carried_at, is_typed_at, named_at, told_at}
 use Rattle.trace_text.specs.ReadTrace.{line_body}
 use Rattle.trace_text.proofs.ReadLines.{body_without, line-append, place_apart}

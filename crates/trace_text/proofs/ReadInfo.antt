@@ -10,7 +10,7 @@ use Rattle.dtx_values.specs.declared.trace.Place.{Place}
 use Rattle.dtx_values.specs.Lines.{is_enlist_up, is_reenlist_up}
 use Rattle.dtx_model.specs.TraceText.{id_at, is_message_fit, message_text}
 use Rattle.dtx_model.proofs.Bools.{and_left, and_right}
-use Rattle.trace_words.specs.Cuts.{front}
+use Rattle.line_tail.specs.Cut.{front}
 use Rattle.dtx_model.specs.Faults.{same_bytes}
 use Rattle.dtx_model.proofs.SameNumbers.{same_enlistment, same_manager}
 

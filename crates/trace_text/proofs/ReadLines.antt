@@ -40,11 +40,10 @@ use Rattle.dtx_model.specs.Grammar.{actor_name, connection_word, iso_word, kind_
 use Rattle.dtx_model.specs.Traces.{Placed}
 use Rattle.dtx_model.specs.TraceText.{ambient_text, answer_text, ask_text, cast_vote_text, cause_text, class_text, direction_text, entry_text, found_text, is_entry_fit, is_fit, id_text, message_text, outcome_text, party_text, place_text, promote_text, request_text, trace_line}
 use Rattle.trace_text.specs.ReadTrace.{line_body}
-use Rattle.line_tail.specs.Cut.{IsWithout}
-use Rattle.trace_words.specs.Cuts.{front, behind}
-use Rattle.trace_words.proofs.Cuts.{cut_same, front_cut, without_append}
-use Rattle.trace_words.proofs.Identifiers.{id_without}
-use Rattle.trace_words.proofs.Numbers.{name_without, without_decimal}
+use Rattle.line_tail.specs.Cut.{IsWithout, behind, front}
+use Rattle.line_tail.proofs.CutLemmas.{cut_same, front_cut, without_append}
+use Rattle.line_words.proofs.Identifiers.{id_without}
+use Rattle.line_words.proofs.Without.{name_without, without_decimal}
 use Rattle.trace_text.proofs.ReadPieces.{cut_spaced, cut_twice}
 
 -- a number has no LF

@@ -29,19 +29,18 @@ use Rattle.dtx_values.specs.declared.words.CloneKind.{CloneKind}
 use Rattle.dtx_values.specs.declared.words.Image.{Image}
 use Rattle.dtx_values.specs.declared.words.Outcome.{Outcome}
 use Rattle.dtx_values.specs.declared.words.Outcome.TheVariants.{Committed, Aborted, InDoubt}
-use Rattle.dtx_model.specs.Grammar.{actor_name, clone_name, connection_word, image_word, kind_word, scope_name, transaction_name}
+use Rattle.dtx_model.specs.Grammar.{actor_name, clone_name, connection_word, enlistment_name, image_word, kind_word, scope_name, transaction_name}
 use Rattle.dtx_values.specs.Lines.{has_line}
 use Rattle.dtx_model.specs.TraceText.{ambient_text, answer_text, cause_text, direction_text, entry_text, id_text, message_text, outcome_text, party_text, is_answer_fit, is_entry_fit, is_message_fit}
 use Rattle.dtx_model.proofs.Bools.{and_left, and_right, or_right}
 use Rattle.trace_text.specs.Printed.{is_event}
 use Rattle.trace_text.specs.ReadGroups.{is_of_enlistment, is_about_enlistment, is_of_word, is_of_words, is_call, is_plain_answer, is_refusal, is_detailed}
-use Rattle.line_tail.specs.Cut.{IsWithout}
-use Rattle.trace_words.specs.Cuts.{front, behind}
+use Rattle.line_tail.specs.Cut.{IsWithout, behind, front}
 use Rattle.dtx_model.specs.Faults.{same_bytes}
-use Rattle.trace_words.proofs.Cuts.{front_cut, behind_cut, front_whole, behind_whole}
-use Rattle.trace_words.proofs.Identifiers.{id_without}
+use Rattle.line_tail.proofs.CutLemmas.{front_cut, behind_cut, front_whole, behind_whole}
+use Rattle.line_words.proofs.Identifiers.{id_without}
 use Rattle.dtx_model.proofs.Digits.{digit_of_number}
-use Rattle.trace_words.proofs.Numbers.{name_without, without_decimal}
+use Rattle.line_words.proofs.Without.{name_without, without_decimal}
 
 -- the words of a text that is cut at its first space
 pub record AreCut (f l a r : List ℕ) : Type 0 where
@@ -93,8 +92,8 @@ late_found _ e s = absurd (cc s)
 
 -- an answer that names an enlistment is found
 pub connected_found : (x : Answer) (y : EnlNo) (rest : List ℕ) → same_bytes (codes "connected") (front 32 (answer_text x)) ≡ true → rest ≡ behind 32 (answer_text x)
-    → ((letter : ℕ) (e : EnlNo) → rest ≡ letter ∷ decimal e.value → y ≡ e) → Connected y ≡ x
-connected_found (Connected e) y rest s r hy = ap Connected (hy 101 e r)
+    → ((e : EnlNo) → rest ≡ enlistment_name e.value → y ≡ e) → Connected y ≡ x
+connected_found (Connected e) y rest s r hy = ap Connected (hy e r)
 connected_found (Ambient (Some t)) y rest s r hy = absurd (cc s)
 connected_found (OutcomeIs Committed) y rest s r hy = absurd (cc s)
 connected_found (OutcomeIs Aborted) y rest s r hy = absurd (cc s)
@@ -103,11 +102,11 @@ connected_found (Ambient None) y rest s r hy = absurd (cc s)
 connected_found _ y rest s r hy = absurd (cc s)
 
 -- where none of the others is, the answer is an ambient transaction
-pub ambient_found : (x : Answer) (y : TxNo) (key : List ℕ) → is_plain_answer x ≡ false → is_refusal x ≡ false → is_detailed x ≡ false → key ≢ codes "none" → key ≡ front 32 (answer_text x)
-    → ((t : TxNo) → key ≡ transaction_name t.value → y ≡ t) → Ambient (Some y) ≡ x
-ambient_found (Ambient (Some t)) y key a b d n k hy = ap (λ u. Ambient (Some u)) (hy t (k ∙ front_whole 32 (transaction_name t.value) (name_without 116 t.value (omega arith))))
-ambient_found (Ambient None) y key a b d n k hy = absurd (n k)
-ambient_found _ y key a b d n k hy = absurd (cc (a, b, d))
+pub ambient_found : (x : Answer) (y : Option TxNo) (key : List ℕ) → is_plain_answer x ≡ false → is_refusal x ≡ false → is_detailed x ≡ false → key ≡ front 32 (answer_text x)
+    → ((t : Option TxNo) → key ≡ ambient_text t → y ≡ t) → Ambient y ≡ x
+ambient_found (Ambient (Some t)) y key a b d k hy = ap Ambient (hy (Some t) (k ∙ front_whole 32 (transaction_name t.value) (name_without 116 t.value (omega arith))))
+ambient_found (Ambient None) y key a b d k hy = ap Ambient (hy None k)
+ambient_found _ y key a b d k hy = absurd (cc (a, b, d))
 
 -- a party has no space
 pub party_apart : (p : Party) → IsWithout 32 (party_text p)

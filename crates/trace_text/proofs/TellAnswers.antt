@@ -11,8 +11,7 @@ use Rattle.dtx_values.specs.declared.words.Outcome.TheVariants.{Committed, Abort
 use Rattle.dtx_model.specs.Grammar.{iso_word}
 use Rattle.dtx_model.specs.TraceText.{answer_text, is_answer_fit}
 use Rattle.dtx_model.proofs.Digits.{digit_of_number}
-use Rattle.line_tail.specs.Cut.{IsWithout}
-use Rattle.trace_words.specs.Cuts.{front, behind}
+use Rattle.line_tail.specs.Cut.{IsWithout, behind, front}
 use Rattle.trace_text.proofs.TellPieces.{of_two, two_are}
 use Rattle.trace_text.proofs.TellWords.{chosen, value, value_is, enlistment_of, enlistment_is, id_of, id_is, iso_of, iso_is, manager_of, manager_is, outcome_of, outcome_is, scope_of, scope_is, transaction_of, transaction_is}
 

@@ -13,9 +13,9 @@ use Rattle.dtx_values.specs.declared.message.Message.{Message}
 use Rattle.dtx_model.specs.Grammar.{actor_name, clone_name, connection_word, enlistment_name, image_word, kind_word, scope_name}
 use Rattle.dtx_model.specs.TraceText.{ambient_text, answer_text, ask_text, cast_vote_text, cause_text, class_text, direction_text, entry_text, id_text, is_answer_fit, message_text, outcome_text, party_text, promote_text, request_text, sent_text}
 use Rattle.dtx_model.proofs.Bools.{and_left, and_right}
-use Rattle.trace_words.specs.Cuts.{front, behind}
-use Rattle.trace_words.proofs.Identifiers.{id_without}
-use Rattle.trace_words.proofs.Numbers.{name_without, without_decimal}
+use Rattle.line_tail.specs.Cut.{behind, front}
+use Rattle.line_words.proofs.Identifiers.{id_without}
+use Rattle.line_words.proofs.Without.{name_without, without_decimal}
 use Rattle.trace_text.specs.OneTrace.{by_name, carrying, is_carried, is_cause_typed, is_typed, named, told}
 use Rattle.trace_text.proofs.ReadPieces.{connection_apart, direction_apart, party_apart}
 use Rattle.trace_text.proofs.TellAnswers.{answer_of, answer_is, digit_first}

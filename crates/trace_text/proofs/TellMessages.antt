@@ -10,7 +10,7 @@ use Rattle.dtx_values.specs.declared.message.Message.{Message}
 use Rattle.dtx_values.specs.declared.message.Message.TheVariants.{BeginBegin, BeginCommit, BeginAbort, BeginBegun, BeginCommitted, BeginAborted, VoterVoter, VoterYes, VoterNo, VoterCreated, VoterRefused, VoterAsk, VoterCommit, VoterAbort, EnlistEnlist, EnlistPrepared, EnlistNo, EnlistReadonly, EnlistAck, EnlistEnlisted, EnlistRefused, EnlistPrepare, EnlistCommit, EnlistAbort, ReenlistReenlist, ReenlistAck, ReenlistCommitted, ReenlistAborted}
 use Rattle.dtx_values.specs.Lines.{has_line}
 use Rattle.dtx_model.specs.TraceText.{message_text}
-use Rattle.trace_words.specs.Cuts.{front, behind}
+use Rattle.line_tail.specs.Cut.{behind, front}
 use Rattle.trace_text.specs.OneTrace.{by_name, carrying, is_cause_typed}
 use Rattle.trace_text.proofs.TellWords.{chosen, value, value_is}
 

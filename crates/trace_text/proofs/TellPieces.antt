@@ -1,7 +1,6 @@
 -- Words with spaces between them, read back one by one.
 use Rattle.std.proofs.Common.{◌≡◌, ℕ, List, ◌++◌, codes, refl, ap, ◌∙◌}
-use Rattle.line_tail.specs.Cut.{IsWithout}
-use Rattle.trace_words.specs.Cuts.{front, behind}
+use Rattle.line_tail.specs.Cut.{IsWithout, behind, front}
 use Rattle.trace_text.proofs.ReadPieces.{cut_spaced, cut_twice}
 
 -- what two words say, each read by its reader

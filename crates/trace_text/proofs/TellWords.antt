@@ -42,7 +42,7 @@ use Rattle.dtx_model.specs.Grammar.{actor_name, clone_name, connection_word, enl
 use Rattle.dtx_model.specs.TraceText.{ambient_text, ask_text, cast_vote_text, cause_text, class_text, direction_text, found_text, id_text, outcome_text, party_text, place_text, promote_text, request_text}
 use Rattle.dtx_model.proofs.Digits.{own}
 use Rattle.dtx_model.proofs.SameNumbers.{same_actor, same_clone, same_enlistment, same_manager, same_scope, same_transaction}
-use Rattle.trace_words.proofs.Identifiers.{id_parses}
+use Rattle.line_words.proofs.Identifiers.{id_parses}
 
 -- what stands beside this word in a table, and x where it isn't there
 abbrev pub chosen : {A : Type 0} → List ℕ → List (List ℕ × A) → A → A

@@ -1,8 +1,13 @@
 //! Texts of traces.
 #![tactic(auto)]
 
+mod answer_words;
 mod answers;
 mod entries;
+mod entry_words;
+mod free_words;
+mod keys;
+mod message_words;
 mod messages;
 mod names;
 mod objects;
@@ -12,8 +17,8 @@ mod read_entries;
 mod read_messages;
 mod reader;
 mod tally;
+mod widths;
 mod wire;
-mod words;
 
 pub use dtx_values::Place;
 pub use entry_lists::{PlacedEntries, Trace};

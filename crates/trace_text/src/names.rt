@@ -1,55 +1,89 @@
-//! The places and identifiers of a trace.
-ghost use Rattle.std.specs.Prelude.{◌≡◌, ◌≤◌, ◌+◌, ◌++◌, length};
-ghost use Rattle.dtx_model.specs.TraceText.{ambient_text, id_text, party_text, place_text};
+//! The places, the parties and the ambient transactions of a trace.
+ghost use Rattle.std.specs.Prelude.{◌≡◌, ◌≤◌, ◌+◌, ◌++◌, Option, length};
+ghost use Rattle.dtx_values.specs.declared.entry.Party.{Party};
+ghost use Rattle.dtx_values.specs.declared.number.TxNo.{TxNo};
+ghost use Rattle.dtx_values.specs.declared.trace.Place.{Place};
+ghost use Rattle.dtx_model.specs.TraceText.{ambient_text, party_text, place_text};
+ghost use Rattle.line_tail.specs.declared.tail.TheConstants.{LINE_ROOM};
+ghost use Rattle.line_words.specs.declared.widths.TheConstants.{NAME_ROOM};
 
+use crate::free_words::{enlistment, transaction};
 use dtx_values::{Party, Place, TxNo};
-use line_tail::{Tail, put_actor, put_enlistment, put_transaction};
-use uuid::Uuid;
+use line_tail::Tail;
+use line_words::{actor_of, put_actor, put_enlistment, put_transaction};
+
+const LOG: &[u8] = b"log";
+
+const CLIENT: &[u8] = b"client";
+
+const NONE: &[u8] = b"none";
 
 /// Puts the place of an entry.
 pub fn put_place(tail: &mut Tail, p: Place)
-    requires { 21 + length tail.old ≤ 160 }
+    requires { NAME_ROOM + length tail.old ≤ LINE_ROOM }
     ensures text { tail.new ≡ place_text p ++ tail.old }
-    ensures length { length tail.new ≤ 21 + length tail.old }
+    ensures length { length tail.new ≤ NAME_ROOM + length tail.old }
 {
     match p {
         Place::Context(a) => put_actor(tail, a),
         Place::Transaction(t) => put_transaction(tail, t),
-        Place::Log => tail.put(b"log"),
+        Place::Log => tail.put(LOG),
+    }
+}
+
+/// Reads a place freely.
+pub fn place(word: &[u8]) -> Place
+    ensures { (p : Place) → word.now ≡ place_text p → result ≡ p }
+{
+    if word == LOG {
+        return Place::Log;
+    }
+    match actor_of(word) {
+        Some(a) => Place::Context(a),
+        None => Place::Transaction(transaction(word)),
     }
 }
 
 /// Puts who is told an outcome.
 pub fn put_party(tail: &mut Tail, p: Party)
-    requires { 21 + length tail.old ≤ 160 }
+    requires { NAME_ROOM + length tail.old ≤ LINE_ROOM }
     ensures text { tail.new ≡ party_text p ++ tail.old }
-    ensures length { length tail.new ≤ 21 + length tail.old }
+    ensures length { length tail.new ≤ NAME_ROOM + length tail.old }
 {
     match p {
-        Party::Client => tail.put(b"client"),
+        Party::Client => tail.put(CLIENT),
         Party::Enl(e) => put_enlistment(tail, e),
     }
 }
 
+/// Reads freely who is told an outcome.
+pub fn party(word: &[u8]) -> Party
+    ensures { (p : Party) → word.now ≡ party_text p → result ≡ p }
+{
+    if word == CLIENT {
+        return Party::Client;
+    }
+    Party::Enl(enlistment(word))
+}
+
 /// Puts the ambient transaction of a scope.
 pub fn put_ambient(tail: &mut Tail, t: Option<TxNo>)
-    requires { 21 + length tail.old ≤ 160 }
+    requires { NAME_ROOM + length tail.old ≤ LINE_ROOM }
     ensures text { tail.new ≡ ambient_text t ++ tail.old }
-    ensures length { length tail.new ≤ 21 + length tail.old }
+    ensures length { length tail.new ≤ NAME_ROOM + length tail.old }
 {
     match t {
         Some(t) => put_transaction(tail, t),
-        None => tail.put(b"none"),
+        None => tail.put(NONE),
     }
 }
 
-/// Puts an identifier in the hyphenated form.
-pub fn put_identifier(tail: &mut Tail, id: u128)
-    requires { 36 + length tail.old ≤ 160 }
-    ensures text { tail.new ≡ id_text id ++ tail.old }
-    ensures length { length tail.new ≤ 36 + length tail.old }
+/// Reads the ambient transaction of a scope freely.
+pub fn ambient(word: &[u8]) -> Option<TxNo>
+    ensures { (t : Option TxNo) → word.now ≡ ambient_text t → result ≡ t }
 {
-    let mut buffer = [0; 36];
-    let text = Uuid::from_u128(id).hyphenated().encode_lower(&mut buffer);
-    tail.put(text.as_bytes());
+    if word == NONE {
+        return None;
+    }
+    Some(transaction(word))
 }

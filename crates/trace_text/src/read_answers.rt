@@ -3,13 +3,16 @@ ghost use Rattle.std.specs.Prelude.{◌≡◌, ◌≢◌, true, IfSome, IfNone};
 ghost use Rattle.dtx_values.specs.declared.entry.Answer.{Answer};
 ghost use Rattle.dtx_model.specs.TraceText.{answer_text, is_answer_fit};
 ghost use Rattle.trace_text.specs.ReadGroups.{is_plain_answer, is_refusal, is_detailed};
-ghost use Rattle.trace_words.specs.Cuts.{front, behind};
+ghost use Rattle.line_tail.specs.Cut.{behind, front};
 
-use dtx_values::{Answer, Outcome};
-use trace_words::{
-    cut, enlistment, identifier, isolation, manager, number, number8, number16, outcome, scope,
-    transaction,
+use crate::answer_words;
+use crate::free_words::{
+    enlistment, identifier, isolation, manager, number, number8, number16, outcome, scope,
 };
+use crate::names::ambient;
+use dtx_values::Answer;
+use line_tail::parts;
+use line_words::outcome_of;
 
 /// Reads an answer of a call that goes on or ended.
 fn plain(key: &[u8]) -> Option<Answer>
@@ -17,34 +20,28 @@ fn plain(key: &[u8]) -> Option<Answer>
     ensures fit { IfSome result (λ y. is_answer_fit y ≡ true) }
     ensures none { IfNone result ((x : Answer) → is_plain_answer x ≡ true → key.now ≢ front 32 (answer_text x)) }
 {
-    if key == b"ok".as_slice() {
+    if key == answer_words::OK {
         return Some(Answer::Fine);
     }
-    if key == b"true".as_slice() {
+    if key == answer_words::TRUE {
         return Some(Answer::True);
     }
-    if key == b"false".as_slice() {
+    if key == answer_words::FALSE {
         return Some(Answer::False);
     }
-    if key == b"wait".as_slice() {
+    if key == answer_words::WAIT {
         return Some(Answer::Wait);
     }
-    if key == b"active".as_slice() {
+    if key == answer_words::ACTIVE {
         return Some(Answer::StillActive);
     }
-    if key == b"committed".as_slice() {
-        return Some(Answer::OutcomeIs(Outcome::Committed));
+    if let Some(o) = outcome_of(key) {
+        return Some(Answer::OutcomeIs(o));
     }
-    if key == b"aborted".as_slice() {
-        return Some(Answer::OutcomeIs(Outcome::Aborted));
-    }
-    if key == b"indoubt".as_slice() {
-        return Some(Answer::OutcomeIs(Outcome::InDoubt));
-    }
-    if key == b"open".as_slice() {
+    if key == answer_words::OPEN {
         return Some(Answer::StillOpen);
     }
-    if key == b"fault".as_slice() {
+    if key == answer_words::FAULT {
         return Some(Answer::Fault);
     }
     None
@@ -56,28 +53,28 @@ fn refusal(key: &[u8]) -> Option<Answer>
     ensures fit { IfSome result (λ y. is_answer_fit y ≡ true) }
     ensures none { IfNone result ((x : Answer) → is_refusal x ≡ true → key.now ≢ front 32 (answer_text x)) }
 {
-    if key == b"notbegun".as_slice() {
+    if key == answer_words::NOT_BEGUN {
         return Some(Answer::NotBegun);
     }
-    if key == b"toolate".as_slice() {
+    if key == answer_words::TOO_LATE {
         return Some(Answer::TooLate);
     }
-    if key == b"nosuch".as_slice() {
+    if key == answer_words::NO_SUCH {
         return Some(Answer::NoSuch);
     }
-    if key == b"already".as_slice() {
+    if key == answer_words::ALREADY {
         return Some(Answer::Already);
     }
-    if key == b"finished".as_slice() {
+    if key == answer_words::FINISHED {
         return Some(Answer::Finished);
     }
-    if key == b"stopped".as_slice() {
+    if key == answer_words::STOPPED {
         return Some(Answer::Stopped);
     }
-    if key == b"deep".as_slice() {
+    if key == answer_words::DEEP {
         return Some(Answer::Deep);
     }
-    if key == b"noscope".as_slice() {
+    if key == answer_words::NO_SCOPE {
         return Some(Answer::NoScope);
     }
     None
@@ -89,32 +86,32 @@ fn detailed(key: &[u8], rest: &[u8]) -> Option<Answer>
     ensures fit { IfSome result (λ y. is_answer_fit y ≡ true) }
     ensures none { IfNone result ((x : Answer) → is_detailed x ≡ true → key.now ≢ front 32 (answer_text x)) }
 {
-    if key == b"id".as_slice() {
+    if key == answer_words::ID {
         return Some(Answer::Id(identifier(rest)));
     }
-    if key == b"did".as_slice() {
+    if key == answer_words::DID {
         return Some(Answer::Did(number16(rest)));
     }
-    if key == b"ended".as_slice() {
+    if key == answer_words::ENDED {
         return Some(Answer::Ended(outcome(rest)));
     }
-    if key == b"many".as_slice() {
+    if key == answer_words::MANY {
         return Some(Answer::Many(number8(rest)));
     }
-    if key == b"over".as_slice() {
+    if key == answer_words::OVER {
         return Some(Answer::Over(manager(rest)));
     }
-    if key == b"connected".as_slice() {
+    if key == answer_words::CONNECTED {
         return Some(Answer::Connected(enlistment(rest)));
     }
-    if key == b"isolation".as_slice() {
-        let (asked, ambient) = cut(rest, b' ');
+    if key == answer_words::ISOLATION {
+        let (asked, ambient) = parts(rest, b' ');
         return Some(Answer::Isolation(isolation(asked), isolation(ambient)));
     }
-    if key == b"nested".as_slice() {
+    if key == answer_words::NESTED {
         return Some(Answer::Nested(scope(rest)));
     }
-    if key == b"notalog".as_slice() {
+    if key == answer_words::NOT_A_LOG {
         return Some(Answer::NotALog(number(rest)));
     }
     None
@@ -125,7 +122,7 @@ pub fn answer(text: &[u8]) -> Answer
     ensures found { (x : Answer) → is_answer_fit x ≡ true → text.now ≡ answer_text x → result ≡ x }
     ensures fit { is_answer_fit result ≡ true }
 {
-    let (key, rest) = cut(text, b' ');
+    let (key, rest) = parts(text, b' ');
     if let Some(x) = plain(key) {
         return x;
     }
@@ -135,8 +132,5 @@ pub fn answer(text: &[u8]) -> Answer
     if let Some(x) = detailed(key, rest) {
         return x;
     }
-    if key == b"none".as_slice() {
-        return Answer::Ambient(None);
-    }
-    Answer::Ambient(Some(transaction(key)))
+    Answer::Ambient(ambient(key))
 }

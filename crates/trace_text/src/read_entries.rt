@@ -1,73 +1,24 @@
 //! Entries, read freely as the words are.
-ghost use Rattle.std.specs.Prelude.{◌≡◌, ◌≢◌, ◌∷◌, ◌++◌, ℕ, List, Option, true, false, codes, IfSome, IfNone};
+ghost use Rattle.std.specs.Prelude.{◌≡◌, ◌≢◌, ◌∷◌, ◌++◌, ℕ, List, true, false, codes, IfSome, IfNone};
 ghost use Rattle.dtx_values.specs.declared.entry.Entry.{Entry};
-ghost use Rattle.dtx_values.specs.declared.entry.Party.{Party};
-ghost use Rattle.dtx_values.specs.declared.message.Conn.{Conn};
 ghost use Rattle.dtx_values.specs.declared.number.EnlNo.{EnlNo};
-ghost use Rattle.dtx_values.specs.declared.number.TxNo.{TxNo};
 ghost use Rattle.dtx_values.specs.declared.trace.Place.{Place};
-ghost use Rattle.dtx_model.specs.Grammar.{enlistment_name, connection_word};
-ghost use Rattle.dtx_model.specs.TraceText.{ambient_text, entry_text, party_text, place_text, is_entry_fit};
+ghost use Rattle.dtx_model.specs.Grammar.{enlistment_name};
+ghost use Rattle.dtx_model.specs.TraceText.{entry_text, is_entry_fit};
 ghost use Rattle.trace_text.specs.Printed.{is_event};
 ghost use Rattle.trace_text.specs.ReadGroups.{is_of_enlistment, is_about_enlistment, is_of_word, is_of_words, is_call};
-ghost use Rattle.trace_words.specs.Cuts.{front, behind};
+ghost use Rattle.line_tail.specs.Cut.{behind, front};
 
+use crate::entry_words;
+use crate::free_words::{
+    actor, ask, cause, class, clone, connection, direction, enlistment, found, identifier, image,
+    kind, manager, number, number8, number16, number32, outcome, reply, request, scope, vote,
+};
+use crate::names::{ambient, party};
 use crate::read_answers::answer;
 use crate::read_messages::message;
-use dtx_values::{Conn, EnlNo, Entry, LogNote, Party, Place, ScopeNote, TxNo};
-use trace_words::{
-    actor, ask, cause, class, clone, cut, direction, enlistment, identifier, image, kind, manager,
-    number, number8, number16, number32, outcome, request, scope, transaction, vote,
-};
-
-/// Reads a place.
-pub fn place(word: &[u8]) -> Place
-    ensures { (p : Place) → word.now ≡ place_text p → result ≡ p }
-{
-    if word == b"log".as_slice() {
-        return Place::Log;
-    }
-    if !word.is_empty() && word[0] == b'a' {
-        return Place::Context(actor(word));
-    }
-    Place::Transaction(transaction(word))
-}
-
-/// Reads who is told.
-fn party(word: &[u8]) -> Party
-    ensures { (p : Party) → word.now ≡ party_text p → result ≡ p }
-{
-    if word == b"client".as_slice() {
-        return Party::Client;
-    }
-    Party::Enl(enlistment(word))
-}
-
-/// Reads a connection.
-fn connection(word: &[u8]) -> Conn
-    ensures { (c : Conn) → word.now ≡ connection_word c → result ≡ c }
-{
-    if word == b"b".as_slice() {
-        return Conn::Begin;
-    }
-    if word == b"v".as_slice() {
-        return Conn::Voter;
-    }
-    if !word.is_empty() && word[0] == b'e' {
-        return Conn::Enl(enlistment(word));
-    }
-    Conn::Again(enlistment(word))
-}
-
-/// Reads the ambient transaction.
-fn ambient(word: &[u8]) -> Option<TxNo>
-    ensures { (t : Option TxNo) → word.now ≡ ambient_text t → result ≡ t }
-{
-    if word == b"none".as_slice() {
-        return None;
-    }
-    Some(transaction(word))
-}
+use dtx_values::{EnlNo, Entry, LogNote, Place, ScopeNote};
+use line_tail::parts;
 
 /// Reads an entry of its keyword alone.
 fn event(key: &[u8]) -> Option<Entry>
@@ -75,37 +26,37 @@ fn event(key: &[u8]) -> Option<Entry>
     ensures fit { IfSome result (λ y. (p : Place) → is_entry_fit p y ≡ true) }
     ensures none { IfNone result ((x : Entry) → is_event x ≡ true → key.now ≢ entry_text x) }
 {
-    if key == b"commit".as_slice() {
+    if key == entry_words::COMMIT {
         return Some(Entry::CommitAsked);
     }
-    if key == b"rollback".as_slice() {
+    if key == entry_words::ROLLBACK {
         return Some(Entry::RollbackAsked);
     }
-    if key == b"timedout".as_slice() {
+    if key == entry_words::TIMED_OUT {
         return Some(Entry::TimedOut);
     }
-    if key == b"late".as_slice() {
+    if key == entry_words::LATE {
         return Some(Entry::Late);
     }
-    if key == b"sealed".as_slice() {
+    if key == entry_words::SEALED {
         return Some(Entry::Sealed);
     }
-    if key == b"yes".as_slice() {
+    if key == entry_words::YES {
         return Some(Entry::LocalYes);
     }
-    if key == b"promotionfailed".as_slice() {
+    if key == entry_words::PROMOTION_FAILED {
         return Some(Entry::PromotionFailed);
     }
-    if key == b"logged".as_slice() {
+    if key == entry_words::LOGGED {
         return Some(Entry::Logged);
     }
-    if key == b"logfull".as_slice() {
+    if key == entry_words::LOG_FULL {
         return Some(Entry::LogFull);
     }
-    if key == b"freed".as_slice() {
+    if key == entry_words::FREED {
         return Some(Entry::Freed);
     }
-    if key == b"stopped".as_slice() {
+    if key == entry_words::STOPPED {
         return Some(Entry::Stopped);
     }
     None
@@ -118,19 +69,19 @@ fn of_enlistment(key: &[u8], rest: &[u8]) -> Option<Entry>
     ensures none { IfNone result ((x : Entry) → is_of_enlistment x ≡ true → key.now ≢ front 32 (entry_text x)) }
 {
     let e = enlistment(rest);
-    if key == b"init".as_slice() {
+    if key == entry_words::INIT {
         return Some(Entry::Init(e));
     }
-    if key == b"hand".as_slice() {
+    if key == entry_words::HAND {
         return Some(Entry::Handed(e));
     }
-    if key == b"lost".as_slice() {
+    if key == entry_words::LOST {
         return Some(Entry::Lost(e));
     }
-    if key == b"reenlisted".as_slice() {
+    if key == entry_words::REENLISTED {
         return Some(Entry::Reenlisted(e));
     }
-    if key == b"acked".as_slice() {
+    if key == entry_words::ACKED {
         return Some(Entry::Acked(e));
     }
     None
@@ -141,7 +92,7 @@ fn leading(words: &[u8]) -> (EnlNo, &[u8])
     ensures name { (e : EnlNo) (r : List ℕ) → words.now ≡ enlistment_name e.value ++ codes " " ++ r → result.0 ≡ e }
     ensures behind { (e : EnlNo) (r : List ℕ) → words.now ≡ enlistment_name e.value ++ codes " " ++ r → result.1.now ≡ r }
 {
-    let (name, word) = cut(words, b' ');
+    let (name, word) = parts(words, b' ');
     (enlistment(name), word)
 }
 
@@ -152,22 +103,22 @@ fn about_enlistment(key: &[u8], rest: &[u8]) -> Option<Entry>
     ensures none { IfNone result ((x : Entry) → is_about_enlistment x ≡ true → key.now ≢ front 32 (entry_text x)) }
 {
     let (e, word) = leading(rest);
-    if key == b"enlisted".as_slice() {
+    if key == entry_words::ENLISTED {
         return Some(Entry::Enlisted(e, class(word)));
     }
-    if key == b"ask".as_slice() {
+    if key == entry_words::ASK {
         return Some(Entry::Asked(e, ask(word)));
     }
-    if key == b"vote".as_slice() {
+    if key == entry_words::VOTE {
         return Some(Entry::Voted(e, vote(word)));
     }
-    if key == b"promote".as_slice() {
-        return Some(Entry::PromoteReply(e, word == b"ok".as_slice()));
+    if key == entry_words::PROMOTE {
+        return Some(Entry::PromoteReply(e, reply(word)));
     }
-    if key == b"request".as_slice() {
+    if key == entry_words::REQUEST {
         return Some(Entry::Requested(e, request(word)));
     }
-    if key == b"owner".as_slice() {
+    if key == entry_words::OWNER {
         return Some(Entry::OwnerAnswered(e, outcome(word)));
     }
     None
@@ -179,31 +130,31 @@ fn of_word(key: &[u8], rest: &[u8]) -> Option<Entry>
     ensures fit { IfSome result (λ y. (p : Place) → is_entry_fit p y ≡ true) }
     ensures none { IfNone result ((x : Entry) → is_of_word x ≡ true → key.now ≢ front 32 (entry_text x)) }
 {
-    if key == b"began".as_slice() {
+    if key == entry_words::BEGAN {
         return Some(Entry::Began(number32(rest)));
     }
-    if key == b"completed".as_slice() {
+    if key == entry_words::COMPLETED {
         return Some(Entry::Completed(clone(rest)));
     }
-    if key == b"clock".as_slice() {
+    if key == entry_words::CLOCK {
         return Some(Entry::Clock(number(rest)));
     }
-    if key == b"decided".as_slice() {
+    if key == entry_words::DECIDED {
         return Some(Entry::Decided(outcome(rest)));
     }
-    if key == b"promoting".as_slice() {
+    if key == entry_words::PROMOTING {
         return Some(Entry::Promoting(cause(rest)));
     }
-    if key == b"restarted".as_slice() {
-        return Some(Entry::Restarted(rest == b"found".as_slice()));
+    if key == entry_words::RESTARTED {
+        return Some(Entry::Restarted(found(rest)));
     }
-    if key == b"recovered".as_slice() {
+    if key == entry_words::RECOVERED {
         return Some(Entry::Recovered(manager(rest)));
     }
-    if key == b"finished".as_slice() {
+    if key == entry_words::FINISHED {
         return Some(Entry::Scope(ScopeNote::Finished(scope(rest))));
     }
-    if key == b"closed".as_slice() {
+    if key == entry_words::CLOSED {
         return Some(Entry::Scope(ScopeNote::Closed(scope(rest))));
     }
     None
@@ -215,23 +166,23 @@ fn of_words(key: &[u8], rest: &[u8]) -> Option<Entry>
     ensures fit { IfSome result (λ y. (p : Place) → is_entry_fit p y ≡ true) }
     ensures none { IfNone result ((x : Entry) → is_of_words x ≡ true → key.now ≢ front 32 (entry_text x)) }
 {
-    let (first, last) = cut(rest, b' ');
-    if key == b"cloned".as_slice() {
+    let (first, last) = parts(rest, b' ');
+    if key == entry_words::CLONED {
         return Some(Entry::Cloned(clone(first), kind(last)));
     }
-    if key == b"told".as_slice() {
+    if key == entry_words::TOLD {
         return Some(Entry::Told(party(first), outcome(last)));
     }
-    if key == b"promoted".as_slice() {
+    if key == entry_words::PROMOTED {
         return Some(Entry::Promoted(identifier(first), cause(last)));
     }
-    if key == b"down".as_slice() {
+    if key == entry_words::DOWN {
         return Some(Entry::Down(connection(first), direction(last)));
     }
-    if key == b"armed".as_slice() {
+    if key == entry_words::ARMED {
         return Some(Entry::LogWord(LogNote::Armed(number8(first), image(last))));
     }
-    if key == b"opened".as_slice() {
+    if key == entry_words::OPENED {
         if last.is_empty() {
             return Some(Entry::LogWord(LogNote::Opened(number16(rest))));
         }
@@ -246,12 +197,12 @@ fn call(key: &[u8], rest: &[u8]) -> Option<Entry>
     ensures fit { IfSome result (λ y. (p : Place) → is_entry_fit p y ≡ true) }
     ensures none { IfNone result ((x : Entry) → is_call x ≡ true → key.now ≢ front 32 (entry_text x)) }
 {
-    let (first, last) = cut(rest, b' ');
-    if key == b"call".as_slice() {
-        let (name, text) = cut(last, b' ');
+    let (first, last) = parts(rest, b' ');
+    if key == entry_words::CALL {
+        let (name, text) = parts(last, b' ');
         return Some(Entry::Called(number32(first), actor(name), answer(text)));
     }
-    if key == b"answer".as_slice() {
+    if key == entry_words::ANSWER {
         return Some(Entry::Answered(number32(first), answer(last)));
     }
     None
@@ -263,15 +214,15 @@ fn crossing(at: Place, key: &[u8], rest: &[u8]) -> Entry
         is_of_words x ≡ false → is_call x ≡ false → key.now ≡ front 32 (entry_text x) → rest.now ≡ behind 32 (entry_text x) → result ≡ x }
     ensures fit { is_entry_fit at result ≡ true }
 {
-    let (first, last) = cut(rest, b' ');
+    let (first, last) = parts(rest, b' ');
     let conn = connection(first);
-    let (word, text) = cut(last, b' ');
-    if key == b"cut".as_slice() {
+    let (word, text) = parts(last, b' ');
+    if key == entry_words::CUT {
         return Entry::Cut(conn, number32(word), number32(text));
     }
     let d = direction(word);
     let m = message(at, conn, d, text);
-    if key == b"sent".as_slice() {
+    if key == entry_words::SENT {
         return Entry::Sent(conn, d, m);
     }
     Entry::Got(conn, d, m)
@@ -285,7 +236,7 @@ pub fn entry(at: Place, text: &[u8]) -> Entry
     if let Some(x) = event(text) {
         return x;
     }
-    let (key, rest) = cut(text, b' ');
+    let (key, rest) = parts(text, b' ');
     if let Some(x) = of_enlistment(key, rest) {
         return x;
     }

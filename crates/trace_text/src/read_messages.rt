@@ -5,10 +5,12 @@ ghost use Rattle.dtx_values.specs.declared.message.Message.{Message};
 ghost use Rattle.dtx_values.specs.declared.trace.Place.{Place};
 ghost use Rattle.dtx_values.specs.Lines.{is_begin_up, is_begin_down, is_voter_up, is_voter_down, is_enlist_up, is_enlist_down, is_reenlist_up, is_reenlist_down, has_line};
 ghost use Rattle.dtx_model.specs.TraceText.{id_at, is_message_fit, message_text};
-ghost use Rattle.trace_words.specs.Cuts.{front, behind};
+ghost use Rattle.line_tail.specs.Cut.{behind, front};
 
+use crate::free_words::number8;
+use crate::message_words;
 use dtx_values::{Conn, Dir, EnlNo, Info, Message, Place, RmNo};
-use trace_words::{cut, number8};
+use line_tail::parts;
 
 /// The node of the identifiers that messages have, in their upper 64 bits.
 const NODE: u128 = 18_446_744_073_709_551_616;
@@ -29,10 +31,10 @@ fn begin_up(name: &[u8]) -> Message
     ensures line { is_begin_up result ≡ true }
     ensures fit { (p : Place) (c : Conn) → is_message_fit p c result ≡ true }
 {
-    if name == b"begin".as_slice() {
+    if name == message_words::BEGIN {
         return Message::BeginBegin;
     }
-    if name == b"commit".as_slice() {
+    if name == message_words::COMMIT {
         return Message::BeginCommit;
     }
     Message::BeginAbort
@@ -44,10 +46,10 @@ fn begin_down(place: Place, name: &[u8]) -> Message
     ensures line { is_begin_down result ≡ true }
     ensures fit { is_message_fit place Conn.Begin result ≡ true }
 {
-    if name == b"begun".as_slice() {
+    if name == message_words::BEGUN {
         return Message::BeginBegun(identifier_at(place));
     }
-    if name == b"committed".as_slice() {
+    if name == message_words::COMMITTED {
         return Message::BeginCommitted;
     }
     Message::BeginAborted
@@ -59,10 +61,10 @@ fn voter_up(place: Place, name: &[u8]) -> Message
     ensures line { is_voter_up result ≡ true }
     ensures fit { is_message_fit place Conn.Voter result ≡ true }
 {
-    if name == b"voter".as_slice() {
+    if name == message_words::VOTER {
         return Message::VoterVoter(identifier_at(place));
     }
-    if name == b"yes".as_slice() {
+    if name == message_words::YES {
         return Message::VoterYes;
     }
     Message::VoterNo
@@ -74,16 +76,16 @@ fn voter_down(place: Place, name: &[u8], cause: &[u8]) -> Message
     ensures line { is_voter_down result ≡ true }
     ensures fit { is_message_fit place Conn.Voter result ≡ true }
 {
-    if name == b"created".as_slice() {
+    if name == message_words::CREATED {
         return Message::VoterCreated;
     }
-    if name == b"refused".as_slice() {
+    if name == message_words::REFUSED {
         return Message::VoterRefused(number8(cause));
     }
-    if name == b"ask".as_slice() {
+    if name == message_words::ASK {
         return Message::VoterAsk;
     }
-    if name == b"commit".as_slice() {
+    if name == message_words::COMMIT {
         return Message::VoterCommit;
     }
     Message::VoterAbort
@@ -108,16 +110,16 @@ fn enlist_up(place: Place, e: EnlNo, name: &[u8]) -> Message
     ensures line { is_enlist_up result ≡ true }
     ensures fit { is_message_fit place (Conn.Enl e) result ≡ true }
 {
-    if name == b"enlist".as_slice() {
+    if name == message_words::ENLIST {
         return Message::EnlistEnlist(info_at(place, e));
     }
-    if name == b"prepared".as_slice() {
+    if name == message_words::PREPARED {
         return Message::EnlistPrepared;
     }
-    if name == b"no".as_slice() {
+    if name == message_words::NO {
         return Message::EnlistNo;
     }
-    if name == b"readonly".as_slice() {
+    if name == message_words::READONLY {
         return Message::EnlistReadonly;
     }
     Message::EnlistAck
@@ -129,16 +131,16 @@ fn enlist_down(place: Place, e: EnlNo, name: &[u8], cause: &[u8]) -> Message
     ensures line { is_enlist_down result ≡ true }
     ensures fit { is_message_fit place (Conn.Enl e) result ≡ true }
 {
-    if name == b"enlisted".as_slice() {
+    if name == message_words::ENLISTED {
         return Message::EnlistEnlisted;
     }
-    if name == b"refused".as_slice() {
+    if name == message_words::REFUSED {
         return Message::EnlistRefused(number8(cause));
     }
-    if name == b"prepare".as_slice() {
+    if name == message_words::PREPARE {
         return Message::EnlistPrepare;
     }
-    if name == b"commit".as_slice() {
+    if name == message_words::COMMIT {
         return Message::EnlistCommit;
     }
     Message::EnlistAbort
@@ -150,7 +152,7 @@ fn reenlist_up(place: Place, e: EnlNo, name: &[u8]) -> Message
     ensures line { is_reenlist_up result ≡ true }
     ensures fit { is_message_fit place (Conn.Again e) result ≡ true }
 {
-    if name == b"ack".as_slice() {
+    if name == message_words::ACK {
         return Message::ReenlistAck;
     }
     Message::ReenlistReenlist(info_at(place, e))
@@ -162,7 +164,7 @@ fn reenlist_down(name: &[u8]) -> Message
     ensures line { is_reenlist_down result ≡ true }
     ensures fit { (p : Place) (c : Conn) → is_message_fit p c result ≡ true }
 {
-    if name == b"committed".as_slice() {
+    if name == message_words::COMMITTED {
         return Message::ReenlistCommitted;
     }
     Message::ReenlistAborted
@@ -174,7 +176,7 @@ pub fn message(place: Place, conn: Conn, dir: Dir, text: &[u8]) -> Message
     ensures line { has_line conn dir result ≡ true }
     ensures fit { is_message_fit place conn result ≡ true }
 {
-    let (name, cause) = cut(text, b' ');
+    let (name, cause) = parts(text, b' ');
     match (conn, dir) {
         (Conn::Begin, Dir::Up) => begin_up(name),
         (Conn::Begin, Dir::Down) => begin_down(place, name),

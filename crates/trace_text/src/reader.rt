@@ -7,13 +7,13 @@ ghost use Rattle.dtx_model.specs.Words.{each};
 ghost use Rattle.trace_text.specs.OneTrace.{is_carried_at, is_typed_at, named_at, told_at};
 ghost use Rattle.trace_text.specs.ReadTrace.{IsBadTrace, line_body};
 
+use crate::names::place;
 use crate::printer::put_line;
-use crate::read_entries::{entry, place};
+use crate::read_entries::entry;
 use dtx_values::{Entry, Place};
 use entry_lists::{PlacedEntries, Trace};
-use line_tail::Tail;
+use line_tail::{Tail, parts};
 use std::alloc::Global;
-use trace_words::cut;
 
 /// Why bytes aren't the text of a trace.
 #[derive(Clone, Copy, PartialEq, Eq, Debug)]
@@ -29,8 +29,8 @@ fn placed(text: &[u8]) -> (Place, Entry)
     ensures found { (n : ℕ) (x : Placed) → is_fit x ≡ true → text.now ≡ line_body n x → result ≡ x }
     ensures fit { is_fit result ≡ true }
 {
-    let (_, rest) = cut(text, b' ');
-    let (name, words) = cut(rest, b' ');
+    let (_, rest) = parts(text, b' ');
+    let (name, words) = parts(rest, b' ');
     let at = place(name);
     (at, entry(at, words))
 }
@@ -40,7 +40,7 @@ fn first_line(number: usize, bytes: &[u8]) -> Option<((Place, Entry), &[u8])>
     ensures some { IfSome result (λ r. (bytes.now ≡ trace_line number r.0 ++ r.1.now) × (is_fit r.0 ≡ true)) }
     ensures none { IfNone result ((x : Placed) (after : List ℕ) → is_fit x ≡ true → bytes.now ≢ trace_line number x ++ after) }
 {
-    let (text, _) = cut(bytes, b'\n');
+    let (text, _) = parts(bytes, b'\n');
     let x = placed(text);
     let mut tail = Tail::new();
     put_line(&mut tail, number, x);

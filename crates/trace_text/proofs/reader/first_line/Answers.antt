@@ -1,13 +1,13 @@
 use Rattle.std.proofs.Common.{◌≡◌, ◌≢◌, ◌∙◌, ◌≤◌, ap, arith, length, rules}
 use Rattle.dtx_model.specs.TraceText.{trace_line}
 use Rattle.trace_text.specs.ReadTrace.{line_body}
-use Rattle.trace_words.specs.Cuts.{front}
+use Rattle.line_tail.specs.Cut.{front}
 use Rattle.trace_text.proofs.ReadLines.{front_line, line_fits, line_taken}
 use Rattle.trace_text.proofs.reader.first_line.Goals as goal
 
 pub returns-then-bytes-line-clause-none : goal.returns-then-bytes-line-clause-none
 returns-then-bytes-line-clause-none c = λ x after f e.
-    let text : c.cut.result.0.now ≡ line_body c.args.number x = c.cut.ensures.front ∙ ap (λ t. front 10 t) e ∙ front_line c.args.number x after in
+    let text : c.parts.result.0.now ≡ line_body c.args.number x = c.parts.ensures.front ∙ ap (λ t. front 10 t) e ∙ front_line c.args.number x after in
     let same : c.placed-x.result ≡ x = c.placed-x.ensures.found c.args.number x f text in
     let printed : c.as_slice-line.result.now ≡ trace_line c.args.number c.placed-x.result = search rules in
     let line : c.as_slice-line.result.now ≡ trace_line c.args.number x = printed ∙ ap (λ y. trace_line c.args.number y) same in
@@ -16,7 +16,7 @@ returns-then-bytes-line-clause-none c = λ x after f e.
 
 pub returns-then-ne-clause-none : goal.returns-then-ne-clause-none
 returns-then-ne-clause-none c = λ x after f e.
-    let text : c.cut.result.0.now ≡ line_body c.args.number x = c.cut.ensures.front ∙ ap (λ t. front 10 t) e ∙ front_line c.args.number x after in
+    let text : c.parts.result.0.now ≡ line_body c.args.number x = c.parts.ensures.front ∙ ap (λ t. front 10 t) e ∙ front_line c.args.number x after in
     let same : c.placed-x.result ≡ x = c.placed-x.ensures.found c.args.number x f text in
     let printed : c.as_slice-line.result.now ≡ trace_line c.args.number c.placed-x.result = search rules in
     let line : c.as_slice-line.result.now ≡ trace_line c.args.number x = printed ∙ ap (λ y. trace_line c.args.number y) same in
