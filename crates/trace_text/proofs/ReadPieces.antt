@@ -1,5 +1,5 @@
 -- Answers and entries are found by their words.
-use Rattle.std.proofs.Common.{◌≡◌, ◌≢◌, ℕ, ◌^◌, ◌<◌, nat_le, ◌&&◌, ◌||◌, Bool, true, false, List, [], ◌∷◌, ◌++◌, codes, decimal, length, Option, Some, None, refl, ap, sym, ◌∙◌, arith, append_assoc}
+use Rattle.std.proofs.Common.{◌≡◌, ◌≢◌, ℕ, ◌^◌, ◌<◌, nat_le, ◌&&◌, ◌||◌, Bool, true, false, List, [], ◌∷◌, ◌++◌, codes, decimal, length, IfNone, Option, Some, None, refl, ap, sym, ◌∙◌, arith, append_assoc}
 use Rattle.std.specs.Int.{IsInRange}
 use Rattle.std.proofs.lemmas.Bool.{or_left}
 use Rattle.std.proofs.lemmas.Bool.Decides.{nat_tests}
@@ -59,6 +59,23 @@ pub cut_twice : (text first last a b r : List ℕ) → first ≡ front 32 text �
 cut_twice text first last a b r f l e h =
     cut_spaced text first last a (b ++ codes " " ++ r) f l (e ∙ ap (λ t. t ++ r) (append_assoc (a ++ codes " ") b (codes " ")) ∙ append_assoc (a ++ codes " ") (b ++ codes " ") r) h
 
+-- a fact holds where there is no value, where it holds at all
+pub if_none : {A : Type 0} (P : Type 0) (o : Option A) → P → IfNone o P
+if_none P (Some a) h = tt
+if_none P None h = h
+
+-- there is a value or there is none
+pub some_apart : {A : Type 0} (o : Option A) (a : A) → o ≡ Some a → o ≡ None → ⊥
+some_apart o a h k = cc
+
+-- of one option there is one value
+pub same_some : {A : Type 0} (o : Option A) (a b : A) → o ≡ Some a → o ≡ Some b → b ≡ a
+same_some o a b h k = cc
+
+-- no entry of this group has these words
+abbrev pub AreOfNone : (Entry → Bool) → List ℕ → List ℕ → Type 0
+AreOfNone g key rest = (p : Place) (x : Entry) → is_entry_fit p x ≡ true → g x ≡ true → key ≡ front 32 (entry_text x) → rest ≢ behind 32 (entry_text x)
+
 -- an entry of two values, with what the words say of each
 pub record IsOfTwo (A B : Type 0) (f : A → B → Entry) (P : A → Type 0) (Q : B → Type 0) (x : Entry) : Type 0 where
   pub one : A
@@ -66,6 +83,14 @@ pub record IsOfTwo (A B : Type 0) (f : A → B → Entry) (P : A → Type 0) (Q 
   pub is : x ≡ f one two
   pub first : P one
   pub last : Q two
+
+-- it is the one that is made of the values that are read
+pub two_found : {A B : Type 0} (f : A → B → Entry) (P : A → Type 0) (Q : B → Type 0) (x : Entry) (w : IsOfTwo A B f P Q x) (o : Option A) (q : Option B) (a : A) (b : B)
+    → o ≡ Some w.one → o ≡ Some a → q ≡ Some w.two → q ≡ Some b → f a b ≡ x
+two_found f P Q x w o q a b g h k l =
+    let first = same_some o w.one a g h in
+    let last = same_some q w.two b k l in
+    (λ i. f (first i) (last i)) ∙ sym w.is
 
 -- a name isn't spelled by letters
 not_named : (t : TxNo) (letter other : ℕ) (w : List ℕ) → 57 < other → letter ∷ other ∷ w ≡ 116 ∷ front 32 (decimal t.value) → ⊥
@@ -230,16 +255,16 @@ opened_cut p (LogWord (LogOpened a)) rest first last fit s e f l n =
 opened_cut p _ rest first last fit s e f l n = absurd (cc s)
 
 -- the words of a call's answer
-pub record IsCalled (x : Entry) (first name text : List ℕ) : Type 0 where
+pub record IsCalled (x : Entry) (u v w : List ℕ) : Type 0 where
   pub line : ℕ
   pub actor : ActorNo
   pub answer : Answer
   pub is : x ≡ Called line actor answer
   pub small : line < 2 ^ 32
   pub fit : is_answer_fit answer ≡ true
-  pub first : first ≡ decimal line
-  pub name : name ≡ actor_name actor.value
-  pub text : text ≡ answer_text answer
+  pub first : u ≡ decimal line
+  pub name : v ≡ actor_name actor.value
+  pub text : w ≡ answer_text answer
 
 pub called_cut : (p : Place) (x : Entry) (rest first last name text : List ℕ) → is_entry_fit p x ≡ true → same_bytes (codes "call") (front 32 (entry_text x)) ≡ true
     → rest ≡ behind 32 (entry_text x)
@@ -278,12 +303,12 @@ answered_cut p (LogWord o) rest first last fit s e f l = absurd (cc (log_key o (
 answered_cut p _ rest first last fit s e f l = absurd (cc s)
 
 -- the words of what is kept of a cut connection
-pub record IsKept (first word text : List ℕ) (c : Conn) (up down : ℕ) : Type 0 where
-  pub conn : first ≡ connection_word c
-  pub up_small : up < 2 ^ 32
-  pub up : word ≡ decimal up
-  pub down_small : down < 2 ^ 32
-  pub down : text ≡ decimal down
+pub record IsKept (u v w : List ℕ) (c : Conn) (i j : ℕ) : Type 0 where
+  pub conn : u ≡ connection_word c
+  pub up_small : i < 2 ^ 32
+  pub up : v ≡ decimal i
+  pub down_small : j < 2 ^ 32
+  pub down : w ≡ decimal j
 
 pub kept_cut : (c : Conn) (i j : ℕ) (rest first last word text : List ℕ) → (nat_le i 4294967295 && nat_le j 4294967295) ≡ true
     → rest ≡ connection_word c ++ codes " " ++ decimal i ++ codes " " ++ decimal j
@@ -298,10 +323,10 @@ kept_cut c i j rest first last word text fit e f l g m =
     record { conn = k.first; up_small = up_small; up = h.first; down_small = down_small; down = h.last }
 
 -- the words of a message on its connection
-pub record IsSent (conn dir name : List ℕ) (c : Conn) (d : Dir) (m : Message) : Type 0 where
-  pub conn : conn ≡ connection_word c
-  pub dir : dir ≡ direction_text d
-  pub name : name ≡ message_text m
+pub record IsSent (u v w : List ℕ) (c : Conn) (d : Dir) (m : Message) : Type 0 where
+  pub conn : u ≡ connection_word c
+  pub dir : v ≡ direction_text d
+  pub name : w ≡ message_text m
 
 pub sent_cut : (c : Conn) (d : Dir) (m : Message) (rest first last word text : List ℕ) → rest ≡ sent_text c d m
     → first ≡ front 32 rest → last ≡ behind 32 rest → word ≡ front 32 last → text ≡ behind 32 last → IsSent first word text c d m
