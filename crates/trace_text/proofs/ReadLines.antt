@@ -220,9 +220,9 @@ place_apart (Transaction t) = name_without 116 t.value (omega arith)
 place_apart Log = refl
 
 -- the words of a place and of an entry in their line
-pub record ArePlaced (name words : List ℕ) (x : Placed) : Type 0 where
-  pub name : name ≡ place_text x.0
-  pub words : words ≡ entry_text x.1
+pub record ArePlaced (v w : List ℕ) (x : Placed) : Type 0 where
+  pub name : v ≡ place_text x.0
+  pub words : w ≡ entry_text x.1
 
 -- are cut apart
 pub placed_cut : (n : ℕ) (x : Placed) (text rest name words : List ℕ) → text ≡ line_body n x → rest ≡ behind 32 text → name ≡ front 32 rest → words ≡ behind 32 rest → ArePlaced name words x

@@ -6,7 +6,7 @@ use Rattle.std.proofs.lemmas.Bool.Decides.{nat_tests}
 use Rattle.dtx_values.specs.declared.entry.Answer.{Answer}
 use Rattle.dtx_values.specs.declared.entry.Answer.TheVariants.{True, TooLate, Ambient, OutcomeIs}
 use Rattle.dtx_values.specs.declared.entry.Entry.{Entry}
-use Rattle.dtx_values.specs.declared.entry.Entry.TheVariants.{Called, Answered, Cloned, Told, Promoted, Down, Scope, LogWord}
+use Rattle.dtx_values.specs.declared.entry.Entry.TheVariants.{Called, Answered, Cloned, Told, Promoted, Cut, Down, Scope, LogWord}
 use Rattle.dtx_values.specs.declared.entry.LogNote.{LogNote}
 use Rattle.dtx_values.specs.declared.entry.LogNote.TheVariants.{Armed, Opened as LogOpened}
 use Rattle.dtx_values.specs.declared.entry.Party.{Party}
@@ -321,6 +321,14 @@ kept_cut c i j rest first last word text fit e f l g m =
     let k = cut_twice rest first last (connection_word c) (decimal i) (decimal j) f l e (connection_apart c) in
     let h = cut_spaced last word text (decimal i) (decimal j) g m k.last (without_decimal 32 i (omega arith)) in
     record { conn = k.first; up_small = up_small; up = h.first; down_small = down_small; down = h.last }
+
+-- what is kept of a cut connection is found
+pub cut_found : (p : Place) (x : Entry) (y : Option Entry) (rest : List ℕ) → is_entry_fit p x ≡ true → same_bytes (codes "cut") (front 32 (entry_text x)) ≡ true → rest ≡ behind 32 (entry_text x)
+    → ((c : Conn) (i j : ℕ) → is_entry_fit p (Cut c i j) ≡ true → rest ≡ connection_word c ++ codes " " ++ decimal i ++ codes " " ++ decimal j → y ≡ Some (Cut c i j)) → y ≡ Some x
+cut_found p (Cut c i j) y rest fit s e h = h c i j fit e
+cut_found p (Scope o) y rest fit s e h = absurd (cc (scope_key o (codes "cut") s))
+cut_found p (LogWord o) y rest fit s e h = absurd (cc (log_key o (codes "cut") s))
+cut_found p _ y rest fit s e h = absurd (cc s)
 
 -- the words of a message on its connection
 pub record IsSent (u v w : List ℕ) (c : Conn) (d : Dir) (m : Message) : Type 0 where
