@@ -121,11 +121,21 @@ late_found (Ambient None) e s = absurd (cc s)
 late_found _ e s = absurd (cc s)
 
 -- where none of the others is, the answer is an ambient transaction
+pub record IsAmbient (x : Answer) (y : Option (Option TxNo)) : Type 0 where
+  pub tx : Option TxNo
+  pub read : y ≡ Some tx
+  pub is : x ≡ Ambient tx
+
 pub ambient_found : (x : Answer) (y : Option (Option TxNo)) (key : List ℕ) → is_plain_answer x ≡ false → is_refusal x ≡ false → is_detailed x ≡ false → key ≡ front 32 (answer_text x)
-    → ((t : Option TxNo) → key ≡ ambient_text t → y ≡ Some t) → (t : Option TxNo) × ((y ≡ Some t) × (x ≡ Ambient t))
-ambient_found (Ambient (Some t)) y key a b d k hy = (Some t, (hy (Some t) (k ∙ front_whole 32 (transaction_name t.value) (name_without 116 t.value (omega arith))), refl))
-ambient_found (Ambient None) y key a b d k hy = (None, (hy None k, refl))
+    → ((t : Option TxNo) → key ≡ ambient_text t → y ≡ Some t) → IsAmbient x y
+ambient_found (Ambient (Some t)) y key a b d k hy =
+    record { tx = Some t; read = hy (Some t) (k ∙ front_whole 32 (transaction_name t.value) (name_without 116 t.value (omega arith))); is = refl }
+ambient_found (Ambient None) y key a b d k hy = record { tx = None; read = hy None k; is = refl }
 ambient_found _ y key a b d k hy = absurd (cc (a, b, d))
+
+-- it is that of the transaction that is read
+pub ambient_is : (x : Answer) (y : Option (Option TxNo)) (t : Option TxNo) → IsAmbient x y → y ≡ Some t → Some (Ambient t) ≡ Some x
+ambient_is x y t w h = cc (w.read, w.is, h)
 
 -- a party has no space
 pub party_apart : (p : Party) → IsWithout 32 (party_text p)

@@ -215,7 +215,7 @@ fn call(key: &[u8], rest: &[u8]) -> Option<Entry>
 
 /// Reads how many messages were kept upward and downward on a connection that was cut.
 fn cut_of(text: &[u8]) -> Option<Entry>
-    ensures some { IfSome result (λ y. (p : Place) → is_entry_fit p y ≡ true) }
+    ensures fit { IfSome result (λ y. (p : Place) → is_entry_fit p y ≡ true) }
     ensures of { (p : Place) (c : Conn) (up down : ℕ) → is_entry_fit p (Entry.Cut c up down) ≡ true
         → text.now ≡ connection_word c ++ codes " " ++ decimal up ++ codes " " ++ decimal down → result ≡ Some (Entry.Cut c up down) }
 {

@@ -1,4 +1,4 @@
-//! Reads traces: each line is read freely, printed again, and compared.
+//! Reads traces: each line is read, printed again, and compared.
 ghost use Rattle.std.specs.Prelude.{◌≡◌, ◌≢◌, ◌++◌, ℕ, List, map, true, IfOk, IfErr, IfSome, IfNone, Some};
 ghost use Rattle.dtx_values.specs.declared.message.Info.{Info};
 ghost use Rattle.dtx_model.specs.Traces.{Placed};

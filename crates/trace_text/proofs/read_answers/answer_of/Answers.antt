@@ -1,9 +1,8 @@
-use Rattle.std.proofs.Common.{◌≡◌, ◌∙◌, Some, false, ap, sym, rules}
-use Rattle.dtx_values.specs.declared.entry.Answer.TheVariants.{Ambient}
+use Rattle.std.proofs.Common.{◌≡◌, ◌∙◌, false, ap, rules}
 use Rattle.dtx_model.specs.TraceText.{answer_text}
 use Rattle.line_tail.specs.Cut.{behind, front}
 use Rattle.trace_text.specs.ReadGroups.{is_plain_answer, is_refusal, is_detailed}
-use Rattle.trace_text.proofs.ReadPieces.{ambient_found, same_some, some_apart}
+use Rattle.trace_text.proofs.ReadPieces.{ambient_found, ambient_is, some_apart}
 use Rattle.trace_text.proofs.read_answers.answer_of.Goals as goal
 
 pub returns-in_err-ambient_of-clause-of : goal.returns-in_err-ambient_of-clause-of
@@ -14,7 +13,7 @@ returns-in_err-ambient_of-clause-of c = λ x f e.
     let refusal : is_refusal x ≡ false = search rules in
     let detailed : is_detailed x ≡ false = search rules in
     let w = ambient_found x c.ambient_of.result c.parts.result.0.now plain refusal detailed key c.ambient_of.ensures in
-    absurd (some_apart c.ambient_of.result w.0 w.1.0 c.in_err-ambient_of.was)
+    absurd (some_apart c.ambient_of.result w.tx w.read c.in_err-ambient_of.was)
 
 pub returns-clause-of : goal.returns-clause-of
 returns-clause-of c = λ x f e.
@@ -24,4 +23,4 @@ returns-clause-of c = λ x f e.
     let refusal : is_refusal x ≡ false = search rules in
     let detailed : is_detailed x ≡ false = search rules in
     let w = ambient_found x c.ambient_of.result c.parts.result.0.now plain refusal detailed key c.ambient_of.ensures in
-    ap (λ t. Some (Ambient t)) (same_some c.ambient_of.result w.0 c.in_ok-ambient_of.field-0 w.1.0 c.in_ok-ambient_of.was) ∙ ap Some (sym w.1.1)
+    ambient_is x c.ambient_of.result c.in_ok-ambient_of.field-0 w c.in_ok-ambient_of.was
