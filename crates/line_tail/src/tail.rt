@@ -21,12 +21,13 @@ pub struct Tail {
 
 impl Model for Tail {
     ghost use Rattle.std.specs.Prelude.{ℕ, List, ◌≤◌, drop};
+    ghost use Rattle.line_tail.specs.declared.tail.TheConstants.{LINE_ROOM};
 
     ghost Value = { List ℕ };
 
     ghost view = { λ t. drop t.start t.bytes };
 
-    ghost invariant = { λ t. t.start ≤ 160 };
+    ghost invariant = { λ t. t.start ≤ LINE_ROOM };
 }
 
 impl Tail {

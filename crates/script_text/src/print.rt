@@ -3,7 +3,7 @@ ghost use Rattle.std.specs.Prelude.{◌≡◌, ◌≤◌, ◌+◌, [], ◌∷◌
 ghost use Rattle.std.specs.List.{join_with_byte};
 ghost use Rattle.dtx_values.specs.declared.script.Body.TheVariants.{Begin, Open, Volatile, Durable, Promotable, Clone, Tick, Do, Lose, Recovered, Stop};
 ghost use Rattle.line_tail.specs.declared.tail.TheConstants.{LINE_ROOM};
-ghost use Rattle.line_words.specs.declared.widths.TheConstants.{NAME_ROOM};
+ghost use Rattle.line_words.specs.declared.widths.TheConstants.{NAME_ROOM, WORD_ROOM};
 ghost use Rattle.script_text.specs.declared.print.TheConstants.{COMMAND_ROOM};
 ghost use Rattle.script_text.specs.Print.{is_simple};
 ghost use Rattle.dtx_model.specs.Grammar.{IsScript, Reads, asked_iso_word, command_words, line_text, scope_name, script_text, timeout_word, transaction_name};
@@ -65,7 +65,7 @@ fn put_begin(tail: &mut Tail, t: TxNo, d: Timeout)
 
 /// Puts the words of a scope that may make a transaction; `word` is that of its option.
 fn put_opened(tail: &mut Tail, s: ScopeNo, word: &[u8], t: TxNo, d: Timeout, i: IsoWord)
-    requires short { length word.now ≤ 11 }
+    requires short { length word.now ≤ WORD_ROOM }
     requires room { COMMAND_ROOM + length tail.old ≤ LINE_ROOM }
     ensures text { tail.new ≡ join_with_byte 32 (codes "open" ∷ scope_name s.value ∷ word.now ∷ transaction_name t.value ∷ timeout_word d ∷ asked_iso_word i ∷ []) ++ tail.old }
     ensures length { length tail.new ≤ COMMAND_ROOM + length tail.old }

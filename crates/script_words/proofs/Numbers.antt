@@ -1,14 +1,12 @@
 -- Words that are numbers.
-use Rattle.std.proofs.Common.{◌≡◌, ◌≢◌, ℕ, ◌+◌, ◌-◌, ◌*◌, ◌^◌, ◌<◌, ◌≤◌, true, false, List, []}
-use Rattle.std.proofs.Common.{◌∷◌, length, take, get_or, refl, ap, sym, ◌∙◌, subst, arith, decimal, Option, Some, None, IfNone, IsSome}
-use Rattle.std.proofs.lemmas.Bool.{false_from_ne_true, false≢true}
+use Rattle.std.proofs.Common.{◌≡◌, ℕ, ◌+◌, ◌-◌, ◌*◌, ◌^◌, ◌<◌, ◌≤◌, true, List, []}
+use Rattle.std.proofs.Common.{◌∷◌, refl, ap, sym, ◌∙◌, arith, decimal}
 use Rattle.std.specs.Char.{digit_value}
-use Rattle.std.specs.Str.Parse.{AllDigits, digits_value, digits_value_after}
+use Rattle.std.specs.Str.Parse.{AllDigits, digits_value_after}
 use Rattle.std.proofs.lemmas.Bool.Decides.{nat_tests}
-use Rattle.std.proofs.Math.Seq.{take-length}
-use Rattle.std.proofs.lemmas.Fmt.{digits_decimal, digits_value-decimal, decimal-digits_value, decimal_digit}
+use Rattle.std.proofs.lemmas.Fmt.{digits_decimal, digits_value-decimal}
 use Rattle.dtx_model.specs.Grammar.{is_from}
-use Rattle.dtx_model.specs.Faults.{same_bytes, value_from, writes}
+use Rattle.dtx_model.specs.Faults.{value_from, writes}
 use Rattle.dtx_model.proofs.Bools.{and_left, and_right}
 use Rattle.dtx_model.proofs.Digits.{digit_value-digit, own}
 use Rattle.line_tail.proofs.SameBytes.{same_bytes-refl, same_bytes-equal}

@@ -1,11 +1,11 @@
 -- Recovery information that is read.
-use Rattle.std.proofs.Common.{◌≡◌, ◌≢◌, ℕ, ◌==◌, ◌&&◌, true, codes, refl, ap, sym, ◌∙◌, arith}
+use Rattle.std.proofs.Common.{◌≡◌, ℕ, ◌==◌, ◌&&◌, true, codes, ap, sym, ◌∙◌, arith}
 use Rattle.std.proofs.lemmas.Bool.Decides.{nat_tests}
 use Rattle.dtx_values.specs.declared.number.EnlNo.{EnlNo}
 use Rattle.dtx_values.specs.declared.message.Conn.TheVariants.{Enl, Again}
 use Rattle.dtx_values.specs.declared.message.Info.{Info}
 use Rattle.dtx_values.specs.declared.message.Message.{Message}
-use Rattle.dtx_values.specs.declared.message.Message.TheVariants.{EnlistEnlist, ReenlistReenlist, ReenlistAck}
+use Rattle.dtx_values.specs.declared.message.Message.TheVariants.{EnlistEnlist, ReenlistReenlist}
 use Rattle.dtx_values.specs.declared.trace.Place.{Place}
 use Rattle.dtx_values.specs.Lines.{is_enlist_up, is_reenlist_up}
 use Rattle.dtx_model.specs.TraceText.{id_at, is_message_fit, message_text}
@@ -35,7 +35,6 @@ enlist_found p _ e i a b d h f k = absurd (cc (h, k))
 
 -- and the one that reenlists
 pub reenlist_found : (p : Place) (m : Message) (e : EnlNo) (i : Info) → i.id ≡ id_at p → i.rm.value ≡ 1 → i.enl ≡ e → is_reenlist_up m ≡ true → is_message_fit p (Again e) m ≡ true
-    → codes "ack" ≢ front 32 (message_text m) → ReenlistReenlist i ≡ m
+    → same_bytes (codes "reenlist") (front 32 (message_text m)) ≡ true → ReenlistReenlist i ≡ m
 reenlist_found p (ReenlistReenlist j) e i a b d h f k = ap ReenlistReenlist (info_found (id_at p) i j e a b d f)
-reenlist_found p ReenlistAck e i a b d h f k = absurd (k refl)
-reenlist_found p _ e i a b d h f k = absurd (cc h)
+reenlist_found p _ e i a b d h f k = absurd (cc (h, k))

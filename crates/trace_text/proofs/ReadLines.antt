@@ -1,5 +1,5 @@
 -- A line holds no LF but the one at its end.
-use Rattle.std.proofs.Common.{◌≡◌, ℕ, Bool, true, false, List, [], ◌∷◌, ◌++◌, codes, decimal, Option, Some, None, refl, ap, subst, sym, ◌∙◌, arith, append_assoc, length, length-append, take, ◌≤◌}
+use Rattle.std.proofs.Common.{◌≡◌, ℕ, Bool, true, false, List, [], ◌∷◌, ◌++◌, codes, decimal, Option, Some, None, refl, ap, sym, ◌∙◌, arith, append_assoc, length, length-append, take, ◌≤◌}
 use Rattle.std.proofs.lemmas.List.{take_at}
 use Rattle.dtx_values.specs.declared.words.Outcome.{Outcome}
 use Rattle.dtx_values.specs.declared.words.Outcome.TheVariants.{Committed, Aborted, InDoubt}
@@ -38,7 +38,7 @@ use Rattle.dtx_values.specs.declared.trace.Place.{Place}
 use Rattle.dtx_values.specs.declared.trace.Place.TheVariants.{Context, Transaction, Log}
 use Rattle.dtx_model.specs.Grammar.{actor_name, connection_word, iso_word, kind_word, image_word}
 use Rattle.dtx_model.specs.Traces.{Placed}
-use Rattle.dtx_model.specs.TraceText.{ambient_text, answer_text, ask_text, cast_vote_text, cause_text, class_text, direction_text, entry_text, found_text, is_entry_fit, is_fit, id_text, message_text, outcome_text, party_text, place_text, promote_text, request_text, trace_line}
+use Rattle.dtx_model.specs.TraceText.{ambient_text, answer_text, ask_text, cast_vote_text, cause_text, class_text, direction_text, entry_text, found_text, id_text, message_text, outcome_text, party_text, place_text, promote_text, request_text, trace_line}
 use Rattle.trace_text.specs.ReadTrace.{line_body}
 use Rattle.line_tail.specs.Cut.{IsWithout, behind, front}
 use Rattle.line_tail.proofs.CutLemmas.{cut_same, front_cut, without_append}
@@ -219,15 +219,17 @@ place_apart (Context a) = name_without 97 a.value (omega arith)
 place_apart (Transaction t) = name_without 116 t.value (omega arith)
 place_apart Log = refl
 
--- the place and the entry of a line are found
-pub placed_found : (n : ℕ) (x : Placed) (at : Place) (y : Entry) (text rest name words : List ℕ) → text ≡ line_body n x → rest ≡ behind 32 text → name ≡ front 32 rest
-    → words ≡ behind 32 rest → is_fit x ≡ true
-    → ((p : Place) → name ≡ place_text p → at ≡ p) → ((z : Entry) → is_entry_fit at z ≡ true → words ≡ entry_text z → y ≡ z) → (at ≡ x.0) × (y ≡ x.1)
-placed_found n x at y text rest name words e r f l fit hp hy =
+-- the words of a place and of an entry in their line
+pub record ArePlaced (v w : List ℕ) (x : Placed) : Type 0 where
+  pub name : v ≡ place_text x.0
+  pub words : w ≡ entry_text x.1
+
+-- are cut apart
+pub placed_cut : (n : ℕ) (x : Placed) (text rest name words : List ℕ) → text ≡ line_body n x → rest ≡ behind 32 text → name ≡ front 32 rest → words ≡ behind 32 rest → ArePlaced name words x
+placed_cut n x text rest name words e r f l =
     let k = cut_twice text (front 32 text) rest (decimal n) (place_text x.0) (entry_text x.1) refl r e (without_decimal 32 n (omega arith)) in
     let j = cut_spaced rest name words (place_text x.0) (entry_text x.1) f l k.last (place_apart x.0) in
-    let same : at ≡ x.0 = hp x.0 j.first in
-    (same, hy x.1 (subst (λ (p : Place). is_entry_fit p x.1 ≡ true) (sym same) fit) j.last)
+    record { name = j.first; words = j.last }
 
 -- where a text begins with this entry's line, it is no shorter than that line, and begins with its bytes
 pub line_fits : (n : ℕ) (x : Placed) (b line after : List ℕ) → b ≡ trace_line n x ++ after → line ≡ trace_line n x → length line ≤ length b

@@ -5,7 +5,6 @@ mod answer_words;
 mod answers;
 mod entries;
 mod entry_words;
-mod free_words;
 mod keys;
 mod message_words;
 mod messages;

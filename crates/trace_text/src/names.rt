@@ -1,5 +1,5 @@
 //! The places, the parties and the ambient transactions of a trace.
-ghost use Rattle.std.specs.Prelude.{◌≡◌, ◌≤◌, ◌+◌, ◌++◌, Option, length};
+ghost use Rattle.std.specs.Prelude.{◌≡◌, ◌≤◌, ◌+◌, ◌++◌, Option, Some, length};
 ghost use Rattle.dtx_values.specs.declared.entry.Party.{Party};
 ghost use Rattle.dtx_values.specs.declared.number.TxNo.{TxNo};
 ghost use Rattle.dtx_values.specs.declared.trace.Place.{Place};
@@ -7,10 +7,11 @@ ghost use Rattle.dtx_model.specs.TraceText.{ambient_text, party_text, place_text
 ghost use Rattle.line_tail.specs.declared.tail.TheConstants.{LINE_ROOM};
 ghost use Rattle.line_words.specs.declared.widths.TheConstants.{NAME_ROOM};
 
-use crate::free_words::{enlistment, transaction};
 use dtx_values::{Party, Place, TxNo};
 use line_tail::Tail;
-use line_words::{actor_of, put_actor, put_enlistment, put_transaction};
+use line_words::{
+    actor_of, enlistment_of, put_actor, put_enlistment, put_transaction, transaction_of,
+};
 
 const LOG: &[u8] = b"log";
 
@@ -31,17 +32,17 @@ pub fn put_place(tail: &mut Tail, p: Place)
     }
 }
 
-/// Reads a place freely.
-pub fn place(word: &[u8]) -> Place
-    ensures { (p : Place) → word.now ≡ place_text p → result ≡ p }
+/// Reads a place.
+pub fn place_of(word: &[u8]) -> Option<Place>
+    ensures { (p : Place) → word.now ≡ place_text p → result ≡ Some p }
 {
     if word == LOG {
-        return Place::Log;
+        return Some(Place::Log);
     }
-    match actor_of(word) {
-        Some(a) => Place::Context(a),
-        None => Place::Transaction(transaction(word)),
+    if let Some(a) = actor_of(word) {
+        return Some(Place::Context(a));
     }
+    Some(Place::Transaction(transaction_of(word)?))
 }
 
 /// Puts who is told an outcome.
@@ -56,14 +57,14 @@ pub fn put_party(tail: &mut Tail, p: Party)
     }
 }
 
-/// Reads freely who is told an outcome.
-pub fn party(word: &[u8]) -> Party
-    ensures { (p : Party) → word.now ≡ party_text p → result ≡ p }
+/// Reads who is told an outcome.
+pub fn party_of(word: &[u8]) -> Option<Party>
+    ensures { (p : Party) → word.now ≡ party_text p → result ≡ Some p }
 {
     if word == CLIENT {
-        return Party::Client;
+        return Some(Party::Client);
     }
-    Party::Enl(enlistment(word))
+    Some(Party::Enl(enlistment_of(word)?))
 }
 
 /// Puts the ambient transaction of a scope.
@@ -78,12 +79,12 @@ pub fn put_ambient(tail: &mut Tail, t: Option<TxNo>)
     }
 }
 
-/// Reads the ambient transaction of a scope freely.
-pub fn ambient(word: &[u8]) -> Option<TxNo>
-    ensures { (t : Option TxNo) → word.now ≡ ambient_text t → result ≡ t }
+/// Reads the ambient transaction of a scope.
+pub fn ambient_of(word: &[u8]) -> Option<Option<TxNo>>
+    ensures { (t : Option TxNo) → word.now ≡ ambient_text t → result ≡ Some t }
 {
     if word == NONE {
-        return None;
+        return Some(None);
     }
-    Some(transaction(word))
+    Some(Some(transaction_of(word)?))
 }

@@ -1,18 +1,18 @@
-//! Answers, read freely as the words are.
-ghost use Rattle.std.specs.Prelude.{◌≡◌, ◌≢◌, true, IfSome, IfNone};
+//! Answers that are read.
+ghost use Rattle.std.specs.Prelude.{◌≡◌, ◌≢◌, Some, true, IfSome, IfNone};
 ghost use Rattle.dtx_values.specs.declared.entry.Answer.{Answer};
 ghost use Rattle.dtx_model.specs.TraceText.{answer_text, is_answer_fit};
-ghost use Rattle.trace_text.specs.ReadGroups.{is_plain_answer, is_refusal, is_detailed};
 ghost use Rattle.line_tail.specs.Cut.{behind, front};
+ghost use Rattle.trace_text.specs.ReadGroups.{is_plain_answer, is_refusal, is_detailed};
 
 use crate::answer_words;
-use crate::free_words::{
-    enlistment, identifier, isolation, manager, number, number8, number16, outcome, scope,
-};
-use crate::names::ambient;
+use crate::names::ambient_of;
 use dtx_values::Answer;
 use line_tail::parts;
-use line_words::outcome_of;
+use line_words::{
+    enlistment_of, identifier_of, isolation_of, manager_of, number_of, number8_of, number16_of,
+    outcome_of, scope_of,
+};
 
 /// Reads an answer of a call that goes on or ended.
 fn plain(key: &[u8]) -> Option<Answer>
@@ -84,53 +84,53 @@ fn refusal(key: &[u8]) -> Option<Answer>
 fn detailed(key: &[u8], rest: &[u8]) -> Option<Answer>
     ensures some { IfSome result (λ y. (x : Answer) → is_answer_fit x ≡ true → key.now ≡ front 32 (answer_text x) → rest.now ≡ behind 32 (answer_text x) → y ≡ x) }
     ensures fit { IfSome result (λ y. is_answer_fit y ≡ true) }
-    ensures none { IfNone result ((x : Answer) → is_detailed x ≡ true → key.now ≢ front 32 (answer_text x)) }
+    ensures none { IfNone result ((x : Answer) → is_detailed x ≡ true → is_answer_fit x ≡ true → key.now ≡ front 32 (answer_text x) → rest.now ≢ behind 32 (answer_text x)) }
 {
     if key == answer_words::ID {
-        return Some(Answer::Id(identifier(rest)));
+        return Some(Answer::Id(identifier_of(rest)?));
     }
     if key == answer_words::DID {
-        return Some(Answer::Did(number16(rest)));
+        return Some(Answer::Did(number16_of(rest)?));
     }
     if key == answer_words::ENDED {
-        return Some(Answer::Ended(outcome(rest)));
+        return Some(Answer::Ended(outcome_of(rest)?));
     }
     if key == answer_words::MANY {
-        return Some(Answer::Many(number8(rest)));
+        return Some(Answer::Many(number8_of(rest)?));
     }
     if key == answer_words::OVER {
-        return Some(Answer::Over(manager(rest)));
+        return Some(Answer::Over(manager_of(rest)?));
     }
     if key == answer_words::CONNECTED {
-        return Some(Answer::Connected(enlistment(rest)));
+        return Some(Answer::Connected(enlistment_of(rest)?));
     }
     if key == answer_words::ISOLATION {
         let (asked, ambient) = parts(rest, b' ');
-        return Some(Answer::Isolation(isolation(asked), isolation(ambient)));
+        return Some(Answer::Isolation(isolation_of(asked)?, isolation_of(ambient)?));
     }
     if key == answer_words::NESTED {
-        return Some(Answer::Nested(scope(rest)));
+        return Some(Answer::Nested(scope_of(rest)?));
     }
     if key == answer_words::NOT_A_LOG {
-        return Some(Answer::NotALog(number(rest)));
+        return Some(Answer::NotALog(number_of(rest)?));
     }
     None
 }
 
 /// Reads an answer.
-pub fn answer(text: &[u8]) -> Answer
-    ensures found { (x : Answer) → is_answer_fit x ≡ true → text.now ≡ answer_text x → result ≡ x }
-    ensures fit { is_answer_fit result ≡ true }
+pub fn answer_of(text: &[u8]) -> Option<Answer>
+    ensures of { (x : Answer) → is_answer_fit x ≡ true → text.now ≡ answer_text x → result ≡ Some x }
+    ensures fit { IfSome result (λ y. is_answer_fit y ≡ true) }
 {
     let (key, rest) = parts(text, b' ');
     if let Some(x) = plain(key) {
-        return x;
+        return Some(x);
     }
     if let Some(x) = refusal(key) {
-        return x;
+        return Some(x);
     }
     if let Some(x) = detailed(key, rest) {
-        return x;
+        return Some(x);
     }
-    Answer::Ambient(ambient(key))
+    Some(Answer::Ambient(ambient_of(key)?))
 }

@@ -1,5 +1,5 @@
-//! Messages, read freely as the words are.
-ghost use Rattle.std.specs.Prelude.{◌≡◌, true};
+//! Messages that are read, with what their texts leave out.
+ghost use Rattle.std.specs.Prelude.{◌≡◌, Some, true, IfSome};
 ghost use Rattle.dtx_values.specs.declared.message.Conn.{Conn};
 ghost use Rattle.dtx_values.specs.declared.message.Message.{Message};
 ghost use Rattle.dtx_values.specs.declared.trace.Place.{Place};
@@ -7,10 +7,10 @@ ghost use Rattle.dtx_values.specs.Lines.{is_begin_up, is_begin_down, is_voter_up
 ghost use Rattle.dtx_model.specs.TraceText.{id_at, is_message_fit, message_text};
 ghost use Rattle.line_tail.specs.Cut.{behind, front};
 
-use crate::free_words::number8;
 use crate::message_words;
 use dtx_values::{Conn, Dir, EnlNo, Info, Message, Place, RmNo};
 use line_tail::parts;
+use line_words::number8_of;
 
 /// The node of the identifiers that messages have, in their upper 64 bits.
 const NODE: u128 = 18_446_744_073_709_551_616;
@@ -26,69 +26,61 @@ pub fn identifier_at(place: Place) -> u128
 }
 
 /// Reads a message upward on b.
-fn begin_up(name: &[u8]) -> Message
-    ensures found { (m : Message) → is_begin_up m ≡ true → name.now ≡ front 32 (message_text m) → result ≡ m }
-    ensures line { is_begin_up result ≡ true }
-    ensures fit { (p : Place) (c : Conn) → is_message_fit p c result ≡ true }
+fn begin_up(name: &[u8]) -> Option<Message>
+    ensures of { (m : Message) → is_begin_up m ≡ true → name.now ≡ front 32 (message_text m) → result ≡ Some m }
+    ensures line { IfSome result (λ m. is_begin_up m ≡ true) }
+    ensures fit { IfSome result (λ m. (p : Place) (c : Conn) → is_message_fit p c m ≡ true) }
 {
-    if name == message_words::BEGIN {
-        return Message::BeginBegin;
+    match name {
+        message_words::BEGIN => Some(Message::BeginBegin),
+        message_words::COMMIT => Some(Message::BeginCommit),
+        message_words::ABORT => Some(Message::BeginAbort),
+        _ => None,
     }
-    if name == message_words::COMMIT {
-        return Message::BeginCommit;
-    }
-    Message::BeginAbort
 }
 
 /// Reads a message downward on b.
-fn begin_down(place: Place, name: &[u8]) -> Message
-    ensures found { (m : Message) → is_begin_down m ≡ true → is_message_fit place Conn.Begin m ≡ true → name.now ≡ front 32 (message_text m) → result ≡ m }
-    ensures line { is_begin_down result ≡ true }
-    ensures fit { is_message_fit place Conn.Begin result ≡ true }
+fn begin_down(place: Place, name: &[u8]) -> Option<Message>
+    ensures of { (m : Message) → is_begin_down m ≡ true → is_message_fit place Conn.Begin m ≡ true → name.now ≡ front 32 (message_text m) → result ≡ Some m }
+    ensures line { IfSome result (λ m. is_begin_down m ≡ true) }
+    ensures fit { IfSome result (λ m. is_message_fit place Conn.Begin m ≡ true) }
 {
-    if name == message_words::BEGUN {
-        return Message::BeginBegun(identifier_at(place));
+    match name {
+        message_words::BEGUN => Some(Message::BeginBegun(identifier_at(place))),
+        message_words::COMMITTED => Some(Message::BeginCommitted),
+        message_words::ABORTED => Some(Message::BeginAborted),
+        _ => None,
     }
-    if name == message_words::COMMITTED {
-        return Message::BeginCommitted;
-    }
-    Message::BeginAborted
 }
 
 /// Reads a message upward on v.
-fn voter_up(place: Place, name: &[u8]) -> Message
-    ensures found { (m : Message) → is_voter_up m ≡ true → is_message_fit place Conn.Voter m ≡ true → name.now ≡ front 32 (message_text m) → result ≡ m }
-    ensures line { is_voter_up result ≡ true }
-    ensures fit { is_message_fit place Conn.Voter result ≡ true }
+fn voter_up(place: Place, name: &[u8]) -> Option<Message>
+    ensures of { (m : Message) → is_voter_up m ≡ true → is_message_fit place Conn.Voter m ≡ true → name.now ≡ front 32 (message_text m) → result ≡ Some m }
+    ensures line { IfSome result (λ m. is_voter_up m ≡ true) }
+    ensures fit { IfSome result (λ m. is_message_fit place Conn.Voter m ≡ true) }
 {
-    if name == message_words::VOTER {
-        return Message::VoterVoter(identifier_at(place));
+    match name {
+        message_words::VOTER => Some(Message::VoterVoter(identifier_at(place))),
+        message_words::YES => Some(Message::VoterYes),
+        message_words::NO => Some(Message::VoterNo),
+        _ => None,
     }
-    if name == message_words::YES {
-        return Message::VoterYes;
-    }
-    Message::VoterNo
 }
 
 /// Reads a message downward on v, with the cause of a refusal.
-fn voter_down(place: Place, name: &[u8], cause: &[u8]) -> Message
-    ensures found { (m : Message) → is_voter_down m ≡ true → is_message_fit place Conn.Voter m ≡ true → name.now ≡ front 32 (message_text m) → cause.now ≡ behind 32 (message_text m) → result ≡ m }
-    ensures line { is_voter_down result ≡ true }
-    ensures fit { is_message_fit place Conn.Voter result ≡ true }
+fn voter_down(place: Place, name: &[u8], cause: &[u8]) -> Option<Message>
+    ensures of { (m : Message) → is_voter_down m ≡ true → is_message_fit place Conn.Voter m ≡ true → name.now ≡ front 32 (message_text m) → cause.now ≡ behind 32 (message_text m) → result ≡ Some m }
+    ensures line { IfSome result (λ m. is_voter_down m ≡ true) }
+    ensures fit { IfSome result (λ m. is_message_fit place Conn.Voter m ≡ true) }
 {
-    if name == message_words::CREATED {
-        return Message::VoterCreated;
+    match name {
+        message_words::CREATED => Some(Message::VoterCreated),
+        message_words::REFUSED => Some(Message::VoterRefused(number8_of(cause)?)),
+        message_words::ASK => Some(Message::VoterAsk),
+        message_words::COMMIT => Some(Message::VoterCommit),
+        message_words::ABORT => Some(Message::VoterAbort),
+        _ => None,
     }
-    if name == message_words::REFUSED {
-        return Message::VoterRefused(number8(cause));
-    }
-    if name == message_words::ASK {
-        return Message::VoterAsk;
-    }
-    if name == message_words::COMMIT {
-        return Message::VoterCommit;
-    }
-    Message::VoterAbort
 }
 
 /// The recovery information of manager r1 at this place and of this enlistment.
@@ -105,76 +97,68 @@ fn info_at(place: Place, e: EnlNo) -> Info
 }
 
 /// Reads a message upward on the connection of an enlistment.
-fn enlist_up(place: Place, e: EnlNo, name: &[u8]) -> Message
-    ensures found { (m : Message) → is_enlist_up m ≡ true → is_message_fit place (Conn.Enl e) m ≡ true → name.now ≡ front 32 (message_text m) → result ≡ m }
-    ensures line { is_enlist_up result ≡ true }
-    ensures fit { is_message_fit place (Conn.Enl e) result ≡ true }
+fn enlist_up(place: Place, e: EnlNo, name: &[u8]) -> Option<Message>
+    ensures of { (m : Message) → is_enlist_up m ≡ true → is_message_fit place (Conn.Enl e) m ≡ true → name.now ≡ front 32 (message_text m) → result ≡ Some m }
+    ensures line { IfSome result (λ m. is_enlist_up m ≡ true) }
+    ensures fit { IfSome result (λ m. is_message_fit place (Conn.Enl e) m ≡ true) }
 {
-    if name == message_words::ENLIST {
-        return Message::EnlistEnlist(info_at(place, e));
+    match name {
+        message_words::ENLIST => Some(Message::EnlistEnlist(info_at(place, e))),
+        message_words::PREPARED => Some(Message::EnlistPrepared),
+        message_words::NO => Some(Message::EnlistNo),
+        message_words::READONLY => Some(Message::EnlistReadonly),
+        message_words::ACK => Some(Message::EnlistAck),
+        _ => None,
     }
-    if name == message_words::PREPARED {
-        return Message::EnlistPrepared;
-    }
-    if name == message_words::NO {
-        return Message::EnlistNo;
-    }
-    if name == message_words::READONLY {
-        return Message::EnlistReadonly;
-    }
-    Message::EnlistAck
 }
 
 /// Reads a message downward on the connection of an enlistment, with the cause of a refusal.
-fn enlist_down(place: Place, e: EnlNo, name: &[u8], cause: &[u8]) -> Message
-    ensures found { (m : Message) → is_enlist_down m ≡ true → is_message_fit place (Conn.Enl e) m ≡ true → name.now ≡ front 32 (message_text m) → cause.now ≡ behind 32 (message_text m) → result ≡ m }
-    ensures line { is_enlist_down result ≡ true }
-    ensures fit { is_message_fit place (Conn.Enl e) result ≡ true }
+fn enlist_down(place: Place, e: EnlNo, name: &[u8], cause: &[u8]) -> Option<Message>
+    ensures of { (m : Message) → is_enlist_down m ≡ true → is_message_fit place (Conn.Enl e) m ≡ true → name.now ≡ front 32 (message_text m) → cause.now ≡ behind 32 (message_text m) → result ≡ Some m }
+    ensures line { IfSome result (λ m. is_enlist_down m ≡ true) }
+    ensures fit { IfSome result (λ m. is_message_fit place (Conn.Enl e) m ≡ true) }
 {
-    if name == message_words::ENLISTED {
-        return Message::EnlistEnlisted;
+    match name {
+        message_words::ENLISTED => Some(Message::EnlistEnlisted),
+        message_words::REFUSED => Some(Message::EnlistRefused(number8_of(cause)?)),
+        message_words::PREPARE => Some(Message::EnlistPrepare),
+        message_words::COMMIT => Some(Message::EnlistCommit),
+        message_words::ABORT => Some(Message::EnlistAbort),
+        _ => None,
     }
-    if name == message_words::REFUSED {
-        return Message::EnlistRefused(number8(cause));
-    }
-    if name == message_words::PREPARE {
-        return Message::EnlistPrepare;
-    }
-    if name == message_words::COMMIT {
-        return Message::EnlistCommit;
-    }
-    Message::EnlistAbort
 }
 
 /// Reads a message upward on the connection of a reenlistment.
-fn reenlist_up(place: Place, e: EnlNo, name: &[u8]) -> Message
-    ensures found { (m : Message) → is_reenlist_up m ≡ true → is_message_fit place (Conn.Again e) m ≡ true → name.now ≡ front 32 (message_text m) → result ≡ m }
-    ensures line { is_reenlist_up result ≡ true }
-    ensures fit { is_message_fit place (Conn.Again e) result ≡ true }
+fn reenlist_up(place: Place, e: EnlNo, name: &[u8]) -> Option<Message>
+    ensures of { (m : Message) → is_reenlist_up m ≡ true → is_message_fit place (Conn.Again e) m ≡ true → name.now ≡ front 32 (message_text m) → result ≡ Some m }
+    ensures line { IfSome result (λ m. is_reenlist_up m ≡ true) }
+    ensures fit { IfSome result (λ m. is_message_fit place (Conn.Again e) m ≡ true) }
 {
-    if name == message_words::ACK {
-        return Message::ReenlistAck;
+    match name {
+        message_words::REENLIST => Some(Message::ReenlistReenlist(info_at(place, e))),
+        message_words::ACK => Some(Message::ReenlistAck),
+        _ => None,
     }
-    Message::ReenlistReenlist(info_at(place, e))
 }
 
 /// Reads a message downward on the connection of a reenlistment.
-fn reenlist_down(name: &[u8]) -> Message
-    ensures found { (m : Message) → is_reenlist_down m ≡ true → name.now ≡ front 32 (message_text m) → result ≡ m }
-    ensures line { is_reenlist_down result ≡ true }
-    ensures fit { (p : Place) (c : Conn) → is_message_fit p c result ≡ true }
+fn reenlist_down(name: &[u8]) -> Option<Message>
+    ensures of { (m : Message) → is_reenlist_down m ≡ true → name.now ≡ front 32 (message_text m) → result ≡ Some m }
+    ensures line { IfSome result (λ m. is_reenlist_down m ≡ true) }
+    ensures fit { IfSome result (λ m. (p : Place) (c : Conn) → is_message_fit p c m ≡ true) }
 {
-    if name == message_words::COMMITTED {
-        return Message::ReenlistCommitted;
+    match name {
+        message_words::COMMITTED => Some(Message::ReenlistCommitted),
+        message_words::ABORTED => Some(Message::ReenlistAborted),
+        _ => None,
     }
-    Message::ReenlistAborted
 }
 
 /// Reads a message of this connection in this direction, with what its text leaves out.
-pub fn message(place: Place, conn: Conn, dir: Dir, text: &[u8]) -> Message
-    ensures found { (m : Message) → has_line conn dir m ≡ true → is_message_fit place conn m ≡ true → text.now ≡ message_text m → result ≡ m }
-    ensures line { has_line conn dir result ≡ true }
-    ensures fit { is_message_fit place conn result ≡ true }
+pub fn message_of(place: Place, conn: Conn, dir: Dir, text: &[u8]) -> Option<Message>
+    ensures of { (m : Message) → has_line conn dir m ≡ true → is_message_fit place conn m ≡ true → text.now ≡ message_text m → result ≡ Some m }
+    ensures line { IfSome result (λ m. has_line conn dir m ≡ true) }
+    ensures fit { IfSome result (λ m. is_message_fit place conn m ≡ true) }
 {
     let (name, cause) = parts(text, b' ');
     match (conn, dir) {

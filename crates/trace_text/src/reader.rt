@@ -1,5 +1,5 @@
-//! Reads traces: each line is read freely, printed again, and compared.
-ghost use Rattle.std.specs.Prelude.{◌≡◌, ◌≢◌, ◌++◌, ℕ, List, map, true, IfOk, IfErr, IfSome, IfNone};
+//! Reads traces: each line is read, printed again, and compared.
+ghost use Rattle.std.specs.Prelude.{◌≡◌, ◌≢◌, ◌++◌, ℕ, List, map, true, IfOk, IfErr, IfSome, IfNone, Some};
 ghost use Rattle.dtx_values.specs.declared.message.Info.{Info};
 ghost use Rattle.dtx_model.specs.Traces.{Placed};
 ghost use Rattle.dtx_model.specs.TraceText.{trace_line, trace_text, is_fit, IsTextOf, IsBadLine};
@@ -7,9 +7,9 @@ ghost use Rattle.dtx_model.specs.Words.{each};
 ghost use Rattle.trace_text.specs.OneTrace.{is_carried_at, is_typed_at, named_at, told_at};
 ghost use Rattle.trace_text.specs.ReadTrace.{IsBadTrace, line_body};
 
-use crate::names::place;
+use crate::names::place_of;
 use crate::printer::put_line;
-use crate::read_entries::entry;
+use crate::read_entries::entry_of;
 use dtx_values::{Entry, Place};
 use entry_lists::{PlacedEntries, Trace};
 use line_tail::{Tail, parts};
@@ -25,14 +25,14 @@ pub enum TraceError {
 }
 
 /// Reads the place and the entry of a line without its LF.
-fn placed(text: &[u8]) -> (Place, Entry)
-    ensures found { (n : ℕ) (x : Placed) → is_fit x ≡ true → text.now ≡ line_body n x → result ≡ x }
-    ensures fit { is_fit result ≡ true }
+fn placed(text: &[u8]) -> Option<(Place, Entry)>
+    ensures of { (n : ℕ) (x : Placed) → is_fit x ≡ true → text.now ≡ line_body n x → result ≡ Some x }
+    ensures fit { IfSome result (λ x. is_fit x ≡ true) }
 {
     let (_, rest) = parts(text, b' ');
     let (name, words) = parts(rest, b' ');
-    let at = place(name);
-    (at, entry(at, words))
+    let at = place_of(name)?;
+    Some((at, entry_of(at, words)?))
 }
 
 /// Reads the line of this number at the front, and gives what follows it.
@@ -41,7 +41,7 @@ fn first_line(number: usize, bytes: &[u8]) -> Option<((Place, Entry), &[u8])>
     ensures none { IfNone result ((x : Placed) (after : List ℕ) → is_fit x ≡ true → bytes.now ≢ trace_line number x ++ after) }
 {
     let (text, _) = parts(bytes, b'\n');
-    let x = placed(text);
+    let x = placed(text)?;
     let mut tail = Tail::new();
     put_line(&mut tail, number, x);
     let line = tail.as_slice();

@@ -5,7 +5,7 @@ use Rattle.trace_text.proofs.ReadPieces.{cut_spaced}
 use Rattle.trace_text.proofs.read_entries.leading.Goals as goal
 
 pub returns-clause-name : goal.returns-clause-name
-returns-clause-name c = λ e r h. c.enlistment.ensures e (cut_spaced c.args.words.now _ _ (enlistment_name e.value) r c.parts.ensures.front c.parts.ensures.behind h
+returns-clause-name c = λ e r h. c.enlistment_of.ensures.of e (cut_spaced c.args.words.now _ _ (enlistment_name e.value) r c.parts.ensures.front c.parts.ensures.behind h
     (name_without 101 e.value (omega arith))).first
 
 pub returns-clause-behind : goal.returns-clause-behind
