@@ -1,7 +1,8 @@
 //! What the caller does after the threads of a run ended.
-ghost use Rattle.std.specs.Prelude.{◌≡◌, OnOk, length};
+ghost use Rattle.std.specs.Prelude.{◌≡◌, Err, OnOk, length};
 ghost use Rattle.script_calls.specs.Managers.{AreManagers};
 ghost use Rattle.run_endings.specs.Finished.{AreFinished};
+ghost use Rattle.run_endings.specs.Stops.{AreAmiss};
 
 use crate::stop::RunStop;
 use dtx_values::{Resource, RmNo, Script};
@@ -24,7 +25,7 @@ use testing::test_all;
 ///
 /// # Errors
 ///
-/// [`RunStop::Memory`] where memory ran out, and [`RunStop::Differs`] where another transaction's state stands at a number, or what a transaction keeps doesn't tie with the log, or doesn't follow it.
+/// [`RunStop::Memory`] where memory ran out, and [`RunStop::Differs`] where the states that are there then aren't those of the script's transactions, by number, or one of them doesn't tie with the log, or doesn't follow it.
 pub fn finish<D: Disk, N: Run>(
     s: &Script,
     managers: &[Option<RmNo>],
@@ -36,6 +37,7 @@ pub fn finish<D: Disk, N: Run>(
     requires objects { length resources.old ≡ N.objects }
     requires managers { AreManagers N.script N.script managers.now }
     ensures finished { OnOk result (AreFinished N.script states.new log.new) }
+    ensures differs { result ≡ Err RunStop.Differs → AreAmiss N.script states.new log.new }
     ensures objects { length resources.new ≡ length resources.old }
 {
     follow_all(states, log)?;
