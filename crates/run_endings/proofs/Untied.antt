@@ -1,7 +1,10 @@
--- Where a turn isn't done since two kept values differ, one of the transactions doesn't tie with the log.
-use Rattle.std.proofs.Common.{◌≡◌, ◌⊎◌, ℕ, ◌<◌, Bool, true, false, List, Result, Ok, Err, length, set, get_or, inl, inr, refl, ap, sym, subst, ◌∙◌}
+-- Where a turn isn't done since two kept values differ, one of the transactions doesn't tie with the log; and what the test at the end finds.
+use Rattle.std.proofs.Common.{◌≡◌, ◌⊎◌, ℕ, ◌+◌, ◌<◌, ◌↔◌, IsTrue, Bool, true, false, List, Result, Ok, Err, length, set, take, get_or, inl, inr, refl, sym, subst, ◌∙◌}
 use Rattle.std.specs.Prelude.{Contains, IsErrAnd}
+use Rattle.std.specs.List.{All}
 use Rattle.std.proofs.lemmas.List.{get_or-set_same, length-set}
+use Rattle.std.proofs.lemmas.List.Elements.{All-more}
+use Rattle.dtx_values.specs.declared.script.Line.{Line}
 use Rattle.coordinator_log.specs.State.{LogState}
 use Rattle.tx_cells.specs.Cell.{Cell}
 use Rattle.tx_cells.specs.LogCell.{LogCell}
@@ -9,7 +12,8 @@ use Rattle.tx_cells.specs.Ties.{TiesWith}
 use Rattle.tx_cells.specs.declared.error.TurnError.{TurnError}
 use Rattle.tx_cells.specs.declared.error.TurnError.TheVariants.{Memory, Differs as TheyDiffer}
 use Rattle.tx_world.specs.State.{TxState}
-use Rattle.run_endings.specs.Stops.{HasUntied, IsReason, run_stop}
+use Rattle.run_endings.specs.Finished.{follows}
+use Rattle.run_endings.specs.Stops.{AreAmiss, HasUntied, IsReason, run_stop}
 use Rattle.run_endings.specs.declared.stop.RunStop.{RunStop}
 use Rattle.run_endings.specs.declared.stop.RunStop.TheVariants as Stop
 
@@ -29,6 +33,14 @@ pub untied_at : {A D : Type 0} (cells : List Cell) (i : ℕ) (y : Cell) (log : L
     → HasUntied (set cells i y) log
 untied_at cells i y log e r less why made is = (y, (i, subst (λ n. i < n) (sym (length-set cells i y)) less, get_or-set_same cells i y y less), differing y.tx log.log e why (stop_is r (run_stop e) made is))
 
--- a turn that isn't done since memory ran out doesn't make the run stop so
-pub not_memory : {A : Type 0} (e : TurnError) (r : Result A RunStop) → e ≡ Memory → IsErrAnd r (λ x. x ≡ run_stop e) → r ≡ Err Stop.Differs → ⊥
-not_memory e r memory made is = let clash : Stop.Memory ≡ Stop.Differs = sym (ap run_stop memory) ∙ stop_is r (run_stop e) made is in cc
+-- a transaction that isn't right is amiss
+pub amiss_at : {D : Type 0} (s : List Line) (cells : List Cell) (x : Cell) (log : LogCell D) (right : Bool) → Contains cells x → (IsTrue right ↔ (TiesWith x.tx log.log × (follows log.past x.tx.world.past ≡ true))) → right ≡ false → AreAmiss s cells log
+amiss_at s cells x log right among tells wrong = by (follows log.past x.tx.world.past) refl
+  where
+    by : (b : Bool) → follows log.past x.tx.world.past ≡ b → AreAmiss s cells log
+    by true e = inr (inl (x, among, λ ties. let clash : false ≡ true = sym wrong ∙ tells.1 (ties, e) in cc))
+    by false e = inr (inr (x, among, e))
+
+-- what is so of the items before this one, and of it, is so of one more
+pub all_more : {A : Type 0} (P : A → Type 0) (xs : List A) (i : ℕ) (x : A) → i < length xs → x ≡ get_or xs i x → All P (take i xs) → P x → All P (take (i + 1) xs)
+all_more P xs i x less here all is = All-more {P = P} xs i x less all (subst P here is)

@@ -9,6 +9,7 @@ use Rattle.tx_cells.specs.Cell.{Cell}
 use Rattle.tx_cells.specs.Entering.{next_of}
 use Rattle.run_endings.specs.Finishing.{HaveSameCalls, left_in, left_of}
 use Rattle.run_endings.proofs.Left.{on_ok, one_less_in, same_left, set_less, set_same}
+use Rattle.run_endings.proofs.Untied.{untied_at}
 use Rattle.run_endings.proofs.finishing.entering.enter_at.Goals as goal
 
 pub returns-clause-less : goal.returns-clause-less
@@ -47,3 +48,8 @@ returns-clause-others g c =
     let kept = same_left b (set states i y) c.follow_stop.new.states calls in
     omega (arith, one, at_log, kept))
     c.follow_stop.ensures.calls
+
+pub returns-in_err-enter-clause-differs : goal.returns-in_err-enter-clause-differs
+returns-in_err-enter-clause-differs g c = λ differs.
+    let due = c.requires.next in
+    untied_at c.args.states.now c.args.i c.enter.new.state c.enter.new.log c.in_err-enter.field-0.0 c.from_residual.result (slice_get_within c.args.states.now c.args.i due.0 due.1) c.in_err-enter.ensures.cause c.from_residual.ensures.1 differs

@@ -5,6 +5,7 @@ use Rattle.dtx_model.specs.Steps.{pending}
 use Rattle.dtx_model.specs.Words.{each}
 use Rattle.tx_cells.specs.Cell.{Cell}
 use Rattle.run_endings.proofs.Settling.{each_more_set, up_between}
+use Rattle.run_endings.proofs.Untied.{untied_at}
 use Rattle.run_endings.proofs.finishing.settling.settle_round.Goals as goal
 
 pub loop-i-preserved : goal.loop-i-preserved
@@ -26,3 +27,7 @@ loop-i-preserved g c =
       still = λ up. was.still (did.still up);
       objects = c.settle.ensures.objects ∙ was.objects;
     }
+
+pub returns-in_err-settle-clause-differs : goal.returns-in_err-settle-clause-differs
+returns-in_err-settle-clause-differs g c = λ differs.
+    untied_at c.loop-i.states c.loop-i.i c.settle.new.state c.settle.new.log c.in_err-settle.field-0.0 c.from_residual.result (omega arith) c.in_err-settle.ensures.cause c.from_residual.ensures.1 differs
