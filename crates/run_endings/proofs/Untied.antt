@@ -43,4 +43,4 @@ amiss_at s cells x log right among tells wrong = by (follows log.past x.tx.world
 
 -- what is so of the items before this one, and of it, is so of one more
 pub all_more : {A : Type 0} (P : A → Type 0) (xs : List A) (i : ℕ) (x : A) → i < length xs → x ≡ get_or xs i x → All P (take i xs) → P x → All P (take (i + 1) xs)
-all_more P xs i x less here all is = All-more {P = P} xs i x less all (subst P here is)
+all_more P xs i x less here all is = All-more P xs i x less all (subst P here is)
