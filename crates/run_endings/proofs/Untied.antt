@@ -1,5 +1,5 @@
 -- Where a turn isn't done since two kept values differ, one of the transactions doesn't tie with the log; and what the test at the end finds.
-use Rattle.std.proofs.Common.{◌≡◌, ◌⊎◌, ℕ, ◌+◌, ◌<◌, ◌↔◌, IsTrue, Bool, true, false, List, Result, Ok, Err, length, set, take, get_or, inl, inr, refl, sym, subst, ◌∙◌}
+use Rattle.std.proofs.Common.{◌≡◌, ◌⊎◌, ℕ, ◌+◌, ◌<◌, ◌↔◌, IsTrue, Bool, true, false, List, Result, Ok, Err, length, set, take, get_or, inl, inr, if◌then◌else◌, refl, ap, sym, subst, ◌∙◌}
 use Rattle.std.specs.Prelude.{Contains, IsErrAnd}
 use Rattle.std.specs.List.{All}
 use Rattle.std.proofs.lemmas.List.{get_or-set_same, length-set}
@@ -7,11 +7,13 @@ use Rattle.std.proofs.lemmas.List.Elements.{All-more}
 use Rattle.dtx_values.specs.declared.script.Line.{Line}
 use Rattle.coordinator_log.specs.State.{LogState}
 use Rattle.tx_cells.specs.Cell.{Cell}
+use Rattle.tx_cells.specs.Following.{followed, heard_opened, heard_stopped}
 use Rattle.tx_cells.specs.LogCell.{LogCell}
 use Rattle.tx_cells.specs.Ties.{TiesWith}
 use Rattle.tx_cells.specs.declared.error.TurnError.{TurnError}
 use Rattle.tx_cells.specs.declared.error.TurnError.TheVariants.{Memory, Differs as TheyDiffer}
-use Rattle.tx_world.specs.State.{TxState}
+use Rattle.tx_cells.specs.Turns.{with_tx}
+use Rattle.tx_world.specs.State.{TxState, is_hit_by, is_reached_by}
 use Rattle.run_endings.specs.Finished.{follows}
 use Rattle.run_endings.specs.Stops.{AreAmiss, HasUntied, IsReason, run_stop}
 use Rattle.run_endings.specs.declared.stop.RunStop.{RunStop}
@@ -44,3 +46,13 @@ amiss_at s cells x log right among tells wrong = by (follows log.past x.tx.world
 -- what is so of the items before this one, and of it, is so of one more
 pub all_more : {A : Type 0} (P : A → Type 0) (xs : List A) (i : ℕ) (x : A) → i < length xs → x ≡ get_or xs i x → All P (take i xs) → P x → All P (take (i + 1) xs)
 all_more P xs i x less here all is = All-more P xs i x less all (subst P here is)
+
+-- what a transaction hears of the log leaves it the same transaction
+pub same_followed : {D : Type 0} (x y : Cell) (log : LogState D) → y ≡ with_tx (followed x.tx log) x → y.tx.transaction ≡ x.tx.transaction
+same_followed x y log heard = ap (λ (c : Cell). c.tx.transaction) heard ∙ by log.is_up (is_reached_by log.life x.tx) (is_hit_by log.life x.tx)
+  where
+    by : (up reached hit : Bool) → (if up then (if reached then heard_opened x.tx log else x.tx) else (if hit then heard_stopped x.tx else x.tx)).transaction ≡ x.tx.transaction
+    by true true hit = refl
+    by true false hit = refl
+    by false reached true = refl
+    by false reached false = refl

@@ -2,6 +2,7 @@
 ghost use Rattle.std.specs.Prelude.{◌≡◌, Err, OnOk, length};
 ghost use Rattle.script_calls.specs.Managers.{AreManagers};
 ghost use Rattle.run_endings.specs.Finished.{AreFinished};
+ghost use Rattle.run_endings.specs.Finishing.{HaveSameNumbers};
 ghost use Rattle.run_endings.specs.Stops.{AreAmiss};
 
 use crate::stop::RunStop;
@@ -38,6 +39,7 @@ pub fn finish<D: Disk, N: Run>(
     requires managers { AreManagers N.script N.script managers.now }
     ensures finished { OnOk result (AreFinished N.script states.new log.new) }
     ensures differs { result ≡ Err RunStop.Differs → AreAmiss N.script states.new log.new }
+    ensures numbers { HaveSameNumbers states.old states.new }
     ensures objects { length resources.new ≡ length resources.old }
 {
     follow_all(states, log)?;

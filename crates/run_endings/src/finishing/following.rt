@@ -1,6 +1,6 @@
 //! What each transaction hears of the log's state.
 ghost use Rattle.std.specs.Prelude.{◌≡◌, Err, OnOk};
-ghost use Rattle.run_endings.specs.Finishing.{HaveSameCalls};
+ghost use Rattle.run_endings.specs.Finishing.{HaveSameCalls, HaveSameNumbers};
 ghost use Rattle.run_endings.specs.Stops.{HasUntied};
 
 use crate::stop::RunStop;
@@ -17,6 +17,7 @@ pub(super) fn follow_all<D: Disk, N: Run>(
     log: &LogState<D, N>,
 ) -> Result<(), RunStop>
     ensures calls { OnOk result (HaveSameCalls states.old states.new) }
+    ensures numbers { HaveSameNumbers states.old states.new }
     ensures differs { result ≡ Err RunStop.Differs → HasUntied states.new log.now }
 {
     for i in 0..states.len() {
@@ -33,6 +34,7 @@ pub(super) fn follow_stop<D: Disk, N: Run>(
 ) -> Result<(), RunStop>
     ensures calls { OnOk result (HaveSameCalls states.old states.new) }
     ensures same { log.now.log.is_up ≡ was_up → states.new ≡ states.old }
+    ensures numbers { HaveSameNumbers states.old states.new }
     ensures differs { result ≡ Err RunStop.Differs → HasUntied states.new log.now }
 {
     if was_up && !log.is_up() {

@@ -4,7 +4,7 @@ ghost use Rattle.dtx_model.specs.Outcome.{is_empty};
 ghost use Rattle.dtx_model.specs.Steps.{pending};
 ghost use Rattle.dtx_model.specs.Words.{each};
 ghost use Rattle.script_calls.specs.Managers.{AreManagers};
-ghost use Rattle.run_endings.specs.Finishing.{HaveSameCalls};
+ghost use Rattle.run_endings.specs.Finishing.{HaveSameCalls, HaveSameNumbers};
 ghost use Rattle.run_endings.specs.Stops.{HasUntied, IsReason};
 ghost use Rattle.tx_cells.specs.Cell.{MayReply};
 ghost use Rattle.world_laws.specs.Left.{steps_left};
@@ -50,6 +50,7 @@ fn step<D: Disk, N: Run>(
     ensures log_rows { OnOk result (log.new.rows ≡ log.old.rows) }
     ensures still { OnOk result (IsTrue log.new.log.is_up → IsTrue log.old.log.is_up) }
     ensures cause { IfErr result (λ e. IsReason state.old.tx log.old.log e × (state.new.tx ≡ state.old.tx) × (log.new ≡ log.old)) }
+    ensures transaction { state.new.tx.transaction ≡ state.old.tx.transaction }
     ensures objects { length resources.new ≡ length resources.old }
 {
     let Some((e, n)) = state.due_at(1) else {
@@ -76,6 +77,7 @@ pub(super) fn settle<D: Disk, N: Run>(
     ensures log_rows { OnOk result (log.new.rows ≡ log.old.rows) }
     ensures still { OnOk result (IsTrue log.new.log.is_up → IsTrue log.old.log.is_up) }
     ensures cause { IfErr result (IsReason state.new.tx log.new.log) }
+    ensures transaction { state.new.tx.transaction ≡ state.old.tx.transaction }
     ensures objects { length resources.new ≡ length resources.old }
 {
     loop {
@@ -96,6 +98,7 @@ fn settle_round<D: Disk, N: Run>(
     requires managers { AreManagers N.script N.script managers.now }
     ensures settled { OnOk result (log.new.log.is_up ≡ log.old.log.is_up → each (λ c. is_empty (pending c.tx.world)) states.new ≡ true) }
     ensures calls { OnOk result (HaveSameCalls states.old states.new) }
+    ensures numbers { HaveSameNumbers states.old states.new }
     ensures log_rows { OnOk result (log.new.rows ≡ log.old.rows) }
     ensures still { OnOk result (IsTrue log.new.log.is_up → IsTrue log.old.log.is_up) }
     ensures differs { result ≡ Err RunStop.Differs → HasUntied states.new log.new }
@@ -120,6 +123,7 @@ pub(super) fn settle_all<D: Disk, N: Run>(
     requires managers { AreManagers N.script N.script managers.now }
     ensures settled { OnOk result (each (λ c. is_empty (pending c.tx.world)) states.new ≡ true) }
     ensures calls { OnOk result (HaveSameCalls states.old states.new) }
+    ensures numbers { HaveSameNumbers states.old states.new }
     ensures log_rows { OnOk result (log.new.rows ≡ log.old.rows) }
     ensures differs { result ≡ Err RunStop.Differs → HasUntied states.new log.new }
     ensures objects { length resources.new ≡ length resources.old }
