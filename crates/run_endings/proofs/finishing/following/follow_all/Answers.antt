@@ -1,4 +1,4 @@
-use Rattle.std.proofs.Common.{◌∙◌, ap, arith, inr, subst, sym}
+use Rattle.std.proofs.Common.{◌∙◌, ap, arith, get_or, inr, subst, sym}
 use Rattle.std.proofs.Math.Seq.{map-set_same}
 use Rattle.tx_cells.specs.Cell.{Cell}
 use Rattle.tx_cells.specs.Ties.{IsCause}
@@ -13,7 +13,7 @@ loop-i-preserved g c =
     let heard = c.in_ok-follow_log.ensures.followed in
     record {
       calls = map-set_same (λ (z : Cell). z.rows) c.loop-i.states c.loop-i.i y x (ap (λ (z : Cell). z.rows) heard) ∙ was.calls;
-      numbers = map-set_same (λ (z : Cell). z.tx.transaction) c.loop-i.states c.loop-i.i y x (same_followed _ y c.args.log.now.log heard) ∙ was.numbers;
+      numbers = map-set_same (λ (z : Cell). z.tx.transaction) c.loop-i.states c.loop-i.i y x (same_followed (get_or c.loop-i.states c.loop-i.i x) y c.args.log.now.log heard) ∙ was.numbers;
     }
 
 pub returns-in_err-follow_log-clause-numbers : goal.returns-in_err-follow_log-clause-numbers

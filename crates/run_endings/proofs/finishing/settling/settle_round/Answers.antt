@@ -36,3 +36,8 @@ returns-in_err-settle-clause-differs g c = λ differs.
 pub returns-in_err-settle-clause-numbers : goal.returns-in_err-settle-clause-numbers
 returns-in_err-settle-clause-numbers g c =
     map-set_same (λ (z : Cell). z.tx.transaction) c.loop-i.states c.loop-i.i c.settle.new.state c.index-states-i.result c.settle.ensures.transaction ∙ c.loop-i.invariant.numbers
+
+pub returns-in_err-follow_stop-clause-numbers : goal.returns-in_err-follow_stop-clause-numbers
+returns-in_err-follow_stop-clause-numbers g c =
+    c.follow_stop.ensures.numbers
+    ∙ (map-set_same (λ (z : Cell). z.tx.transaction) c.loop-i.states c.loop-i.i c.settle.new.state c.index-states-i.result c.settle.ensures.transaction ∙ c.loop-i.invariant.numbers)
