@@ -1,5 +1,5 @@
 -- Why the caller's part of a run stops.
-use Rattle.std.specs.Prelude.{◌≡◌, ◌≢◌, ◌⊎◌, Bool, false, List, Contains, map}
+use Rattle.std.specs.Prelude.{◌≡◌, ◌≢◌, ◌⊎◌, false, List, Contains, map}
 use Rattle.dtx_values.specs.declared.script.Line.{Line}
 use Rattle.coordinator_log.specs.State.{LogState}
 use Rattle.tx_cells.specs.Board.{transactions_of}

@@ -22,7 +22,7 @@ use testing::test_all;
 
 /// Does the rest of a run after its threads ended, alone: each transaction hears of the log's state, each call that isn't entered yet is entered, each transaction is settled, and then each is tested.
 ///
-/// `managers` has the manager of each enlistment, and `resources` the objects of the first managers: each is asked for the replies of its enlistments. The states are those of the script's transactions, by number.
+/// `managers` has the manager of each enlistment, and `resources` the objects of the first managers: each is asked for the replies of its enlistments. The states are those of the script's transactions, by number. Each is of the same transaction afterwards, also after an error.
 ///
 /// # Errors
 ///
