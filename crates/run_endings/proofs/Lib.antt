@@ -1,3 +1,4 @@
 pub mod ByNumber
 pub mod Left
 pub mod Settling
+pub mod Untied

@@ -1,6 +1,6 @@
 -- What a round of the caller leaves settled.
-use Rattle.std.proofs.Common.{◌≡◌, ℕ, ◌+◌, ◌<◌, Bool, true, false, ◌&&◌, ◌||◌, IsTrue, List, [], ◌∷◌, ◌++◌, Option, Some, None, length, set, take, refl, ap, subst, sym, ◌∙◌}
-use Rattle.std.proofs.lemmas.List.{take_more_set}
+use Rattle.std.proofs.Common.{◌≡◌, ℕ, ◌+◌, ◌<◌, Bool, true, false, ◌&&◌, ◌||◌, IsTrue, List, [], ◌∷◌, ◌++◌, Option, Some, None, get_or, length, set, take, refl, ap, subst, sym, ◌∙◌}
+use Rattle.std.proofs.lemmas.List.{take_more, take_more_set}
 use Rattle.dtx_values.specs.declared.note.Note.{Note}
 use Rattle.dtx_values.specs.declared.note.Note.TheVariants.{Init, Prepare, Promote, Hand, Single, Commit, Rollback, InDoubt}
 use Rattle.dtx_values.specs.declared.number.EnlNo.{EnlNo}
@@ -42,6 +42,9 @@ each_push : {A : Type 0} (p : A → Bool) (xs : List A) (y : A) → each p xs �
 each_push p [] y all here = ap (λ b. b && true) here
 each_push p (x ∷ xs) y all here =
     ap (λ b. b && each p (xs ++ y ∷ [])) (and_left (p x) (each p xs) all) ∙ each_push p xs y (and_right (p x) (each p xs) all) here
+
+pub each_more : {A : Type 0} (p : A → Bool) (xs : List A) (i : ℕ) (x : A) → i < length xs → x ≡ get_or xs i x → each p (take i xs) ≡ true → p x ≡ true → each p (take (i + 1) xs) ≡ true
+each_more p xs i x less here all is = subst (λ (ys : List _). each p ys ≡ true) (sym (take_more xs i x less)) (each_push p (take i xs) (get_or xs i x) all (ap p (sym here) ∙ is))
 
 pub each_more_set : {A : Type 0} (p : A → Bool) (xs : List A) (i : ℕ) (y : A) → i < length xs → each p (take i xs) ≡ true → p y ≡ true → each p (take (i + 1) (set xs i y)) ≡ true
 each_more_set p xs i y less all here = subst (λ (ys : List _). each p ys ≡ true) (sym (take_more_set xs i y less)) (each_push p (take i xs) y all here)

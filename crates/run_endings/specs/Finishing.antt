@@ -14,6 +14,10 @@ use Rattle.tx_cells.specs.LogCell.{LogCell}
 abbrev pub HaveSameCalls : List Cell → List Cell → Type 0
 HaveSameCalls old new = map (λ c. c.rows) new ≡ map (λ c. c.rows) old
 
+-- They are of the same transactions.
+abbrev pub HaveSameNumbers : List Cell → List Cell → Type 0
+HaveSameNumbers old new = map (λ c. c.tx.transaction) new ≡ map (λ c. c.tx.transaction) old
+
 -- actor a has a next call at the cell of this place
 abbrev pub IsDueAt : ActorNo → List Cell → ℕ → Type 0
 IsDueAt a cells i = (c : Cell) × (slice_get cells i ≡ Some c) × IsSome (next_of a c)

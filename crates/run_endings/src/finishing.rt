@@ -1,7 +1,9 @@
 //! What the caller does after the threads of a run ended.
-ghost use Rattle.std.specs.Prelude.{◌≡◌, OnOk, length};
+ghost use Rattle.std.specs.Prelude.{◌≡◌, Err, OnOk, length};
 ghost use Rattle.script_calls.specs.Managers.{AreManagers};
 ghost use Rattle.run_endings.specs.Finished.{AreFinished};
+ghost use Rattle.run_endings.specs.Finishing.{HaveSameNumbers};
+ghost use Rattle.run_endings.specs.Stops.{AreAmiss};
 
 use crate::stop::RunStop;
 use dtx_values::{Resource, RmNo, Script};
@@ -20,11 +22,11 @@ use testing::test_all;
 
 /// Does the rest of a run after its threads ended, alone: each transaction hears of the log's state, each call that isn't entered yet is entered, each transaction is settled, and then each is tested.
 ///
-/// `managers` has the manager of each enlistment, and `resources` the objects of the first managers: each is asked for the replies of its enlistments. The states are those of the script's transactions, by number.
+/// `managers` has the manager of each enlistment, and `resources` the objects of the first managers: each is asked for the replies of its enlistments. The states are those of the script's transactions, by number. Each is of the same transaction afterwards, also after an error.
 ///
 /// # Errors
 ///
-/// [`RunStop::Memory`] where memory ran out, and [`RunStop::Differs`] where another transaction's state stands at a number, or what a transaction keeps doesn't tie with the log, or doesn't follow it.
+/// [`RunStop::Memory`] where memory ran out, and [`RunStop::Differs`] where the states that are there then aren't those of the script's transactions, by number, or one of them doesn't tie with the log, or doesn't follow it.
 pub fn finish<D: Disk, N: Run>(
     s: &Script,
     managers: &[Option<RmNo>],
@@ -36,6 +38,8 @@ pub fn finish<D: Disk, N: Run>(
     requires objects { length resources.old ≡ N.objects }
     requires managers { AreManagers N.script N.script managers.now }
     ensures finished { OnOk result (AreFinished N.script states.new log.new) }
+    ensures differs { result ≡ Err RunStop.Differs → AreAmiss N.script states.new log.new }
+    ensures numbers { HaveSameNumbers states.old states.new }
     ensures objects { length resources.new ≡ length resources.old }
 {
     follow_all(states, log)?;

@@ -23,7 +23,10 @@ impl From<AllocError> for RunStop {
 }
 
 impl From<TurnError> for RunStop {
-    ghost from_gives = { λ _ e. Unit {0} };
+    ghost use Rattle.std.specs.Prelude.{◌≡◌};
+    ghost use Rattle.run_endings.specs.Stops.{run_stop};
+
+    ghost from_gives = { λ error e. e ≡ run_stop error };
 
     fn from(error: TurnError) -> RunStop {
         match error {

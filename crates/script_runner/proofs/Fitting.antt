@@ -13,6 +13,7 @@ use Rattle.coordinator_log.specs.Slots.{open_records}
 use Rattle.coordinator_log.specs.State.{LogState}
 use Rattle.tx_world.specs.State.{TxState}
 use Rattle.tx_world.specs.AtLog.{Fits, IsFit, IsHad, KeepsLog, KeepsSlots, Tie, id_of, of_others}
+use Rattle.thread_runs.proofs.Ended.{found_so}
 use Rattle.script_runner.specs.LogRun.{AreForeignSame, IsForeignKept, LogGoes}
 use Rattle.script_runner.specs.RunState.{AreNumbered, FitsLog, state_of}
 use Rattle.script_runner.proofs.Numbered.{is_it, state_here, state_there}
@@ -139,14 +140,10 @@ pub had_as : {D : Type 0} (log : LogState D) (x y : TxState) → y.transaction �
 had_as log x y number ours had = λ up some none. had up (subst (λ (o : Option CommitRecord). is_some o ≡ true) ours some) (subst (λ (v : TxNo). first_of (identifier_of v.value) (open_records log.slots) ≡ None) number none)
 
 -- An opening of the log finds the records of one of the images before it: so they fit each transaction, in memory and in each image.
-pub found_fit : (P : List CommitRecord → Type 0) (r : Result (List CommitRecord) ℕ) (rs : List CommitRecord) → r ≡ Ok rs → IfOk r P → P rs
-found_fit P (Ok qs) rs e k = let same : qs ≡ rs = cc in subst P same k
-found_fit P (Err p) rs e k = absurd cc
-
 pub fits_opened : {D : Type 0} (image : D → List ℕ → Type 0) (seen : D → List ℕ) (from to : LogState D) (x : TxState) → image from.disk (seen from.disk) → IsOpened seen from.disk to → AreWithin (image from.disk) (image to.disk) → FitsLog image from x
     → FitsLog image to x
 fits_opened image seen from to x among opened within f =
-    record { fits = λ up. found_fit (Fits x) (log_has (seen from.disk)) (open_records to.slots) opened (f.imaged (seen from.disk) among); imaged = λ c i. f.imaged c (within c i) }
+    record { fits = λ up. found_so (Fits x) (log_has (seen from.disk)) (open_records to.slots) opened (f.imaged (seen from.disk) among); imaged = λ c i. f.imaged c (within c i) }
 
 -- What a step leaves of the records that are no transaction's,
 foreign_same : (x : TxState) (before rs qs : List CommitRecord) → of_others (id_of x) qs ≡ of_others (id_of x) rs → AreForeignSame before rs → AreForeignSame before qs
@@ -182,7 +179,7 @@ goes_opened faults honest image seen from to grows within found =
       grows = grows;
       logs = λ h are c i. are c (within h c i);
       foreign = λ h before f. record {
-        up = λ up. let there = found h up in found_fit (AreForeignSame before) (log_has (seen from.disk)) (open_records to.slots) there.1 (f.imaged (seen from.disk) there.0);
+        up = λ up. let there = found h up in found_so (AreForeignSame before) (log_has (seen from.disk)) (open_records to.slots) there.1 (f.imaged (seen from.disk) there.0);
         imaged = λ c i. f.imaged c (within h c i);
       };
     }

@@ -22,33 +22,23 @@ use Rattle.coordinator_log.specs.Slots.{open_records}
 use Rattle.coordinator_log.specs.State.{LogState}
 use Rattle.outcome_law.proofs.CoreStages.{recorded_mark}
 use Rattle.scope_context.specs.Standing.{Standing}
-use Rattle.tx_world.specs.AtLog.{AreLogs, AtMostOne, Fits, id_of}
+use Rattle.tx_world.specs.AtLog.{AreLogs, Fits, id_of}
 use Rattle.tx_world.specs.State.{TxState}
 use Rattle.tx_world.specs.Recorded.{record_after}
 use Rattle.tx_world.specs.Tried.{IsTried}
 use Rattle.tx_world.proofs.Begun.{recorded_begun}
 use Rattle.tx_world.proofs.Fitting.{none_found, one_found}
 use Rattle.tx_world.proofs.Records.{one_where_none}
+use Rattle.thread_runs.proofs.Ended.{found_so}
+use Rattle.thread_runs.proofs.Marked.{one_there}
 use Rattle.thread_runs.specs.Run.{records_of}
 use Rattle.tx_cells.specs.Cell.{untouched}
 use Rattle.script_runner.specs.Ending.{EndsAs, HasNone, MayBeRecorded, are_ever_named, are_named}
 use Rattle.script_runner.specs.LogRun.{AreForeignSame, IsForeignKept}
 use Rattle.script_runner.specs.RunState.{GoesWith, Holds, IsRecordKept, IsTied, RunState, Tells, state_of}
-use Rattle.script_runner.proofs.Fitting.{found_fit}
 use Rattle.script_runner.proofs.InRecords.{ever_there, named_there, named_up, written_there, written_up}
 
--- where there is at most one record of an identifier, there is one exactly where the first is found
-pub counted : (id : ℕ) (rs : List CommitRecord) → AtMostOne id rs → length (filter (is_record_of id) rs) ≡ (if is_some (first_of id rs) then 1 else 0)
-counted id [] k = refl
-counted id (r ∷ rs) k = step (is_record_of id r) k (counted id rs)
-  where
-    step : (b : Bool) → length (if b then r ∷ filter (is_record_of id) rs else filter (is_record_of id) rs) ≤ 1
-        → (AtMostOne id rs → length (filter (is_record_of id) rs) ≡ (if is_some (first_of id rs) then 1 else 0))
-        → length (if b then r ∷ filter (is_record_of id) rs else filter (is_record_of id) rs) ≡ (if is_some (if b then Some r else first_of id rs) then 1 else 0)
-    step true k ih = omega (arith, k)
-    step false k ih = ih k
-
--- there is one exactly where the first is found,
+-- there is a record of an identifier exactly where the first is found,
 pub has_first : (id : ℕ) (rs : List CommitRecord) → has (is_record_of id) rs ≡ is_some (first_of id rs)
 has_first id [] = refl
 has_first id (r ∷ rs) = step (is_record_of id r) (has_first id rs)
@@ -84,7 +74,7 @@ ours_mark x k s = k.ours.recorded s ∙ recorded_mark x.world.past
 recorded_there : (t : TxNo) (T : List Placed) (x : TxState) (rs : List CommitRecord) → x.transaction ≡ t → x.world.past ≡ history t.value T → IsRecordKept x → (core x.world).stopped ≡ false → Fits x rs
     → length (records_of t.value rs) ≡ (if has_mark (history t.value T) then 1 else 0)
 recorded_there t T x rs named past kept runs fits =
-    let there : length (filter (is_record_of (id_of x)) rs) ≡ (if is_some (first_of (id_of x) rs) then 1 else 0) = counted (id_of x) rs fits.one in
+    let there : length (filter (is_record_of (id_of x)) rs) ≡ (if is_some (first_of (id_of x) rs) then 1 else 0) = one_there (id_of x) rs fits.one in
     let found : is_some (first_of (id_of x) rs) ≡ has_mark (history t.value T) =
     ap (λ (o : Option CommitRecord). is_some o) (one_found (id_of x) x.ours x.unsure rs (kept.ours.sure runs) fits) ∙ ours_mark x kept runs ∙ ap has_mark past in
     subst (λ (u : TxNo). length (filter (is_record_of (identifier_of u.value)) rs) ≡ (if has_mark (history t.value T) then 1 else 0)) named (there ∙ ap (λ b. if b then 1 else 0) found)
@@ -177,7 +167,7 @@ ends_as {D} faults image start log r T same numbered holds foreign logs held =
 
     may_be : (c : List ℕ) → image log.disk c → (rs : List CommitRecord) → log_has c ≡ Ok rs → MayBeRecorded (past_of r.trace) (open_records start.slots) rs
     may_be c i rs e =
-        let fits : (t : TxNo) → Fits (state_of t r.worlds) rs = λ t. found_fit (Fits (state_of t r.worlds)) (log_has c) rs e ((holds.fits refl t).imaged c i) in
+        let fits : (t : TxNo) → Fits (state_of t r.worlds) rs = λ t. found_so (Fits (state_of t r.worlds)) (log_has c) rs e ((holds.fits refl t).imaged c i) in
         let named : (t : TxNo) → id_of (state_of t r.worlds) ≡ identifier_of t.value = λ t. ap (λ (u : TxNo). identifier_of u.value) (numbered t) in
         record {
           one = λ t. subst (λ id. length (filter (is_record_of id) rs) ≤ 1) (named t) (fits t).one;
@@ -201,7 +191,7 @@ ends_as {D} faults image start log r T same numbered holds foreign logs held =
           found = λ t. let x = state_of t r.worlds in
               subst (λ (h : List Entry). is_tied h (Restarted (has (is_record_of (identifier_of t.value)) rs)) ≡ true) (holds.tied t).past
               (subst (λ id. is_tied x.world.past (Restarted (has (is_record_of id) rs)) ≡ true) (named t) (found_tied x rs ((holds.kept t).tried (holds.sound refl t)) (fits t)));
-          others = found_fit (AreForeignSame (open_records start.slots)) (log_has c) rs e (foreign.imaged c i);
+          others = found_so (AreForeignSame (open_records start.slots)) (log_has c) rs e (foreign.imaged c i);
         }
 
 -- Before the first step: nothing is called,

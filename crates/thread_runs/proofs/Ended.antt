@@ -99,7 +99,7 @@ pub up_there : {D : Type 0} (faults : D → ℕ) (sure : Bool) (image : D → Li
 up_there faults sure image s k honest from ess log T g = sym g.kept.up ∙ ap is_up_by (sym g.at_the_log)
 
 -- What is so of the records of each image's bytes, where they are a log's, is so of these records.
-found_so : (P : List CommitRecord → Type 0) (r : Result (List CommitRecord) ℕ) (rs : List CommitRecord) → r ≡ Ok rs → IfOk r P → P rs
+pub found_so : (P : List CommitRecord → Type 0) (r : Result (List CommitRecord) ℕ) (rs : List CommitRecord) → r ≡ Ok rs → IfOk r P → P rs
 found_so P (Ok qs) rs e k = let same : qs ≡ rs = cc in subst P same k
 found_so P (Err p) rs e k = absurd cc
 

@@ -30,7 +30,7 @@ use Rattle.thread_runs.proofs.ByCell.{is_among}
 use Rattle.thread_runs.proofs.Standing.{IsDone, Stands}
 
 -- Of records of which at most one has an identifier there is one exactly where the first is found.
-one_there : (id : ℕ) (rs : List CommitRecord) → AtMostOne id rs → length (filter (is_record_of id) rs) ≡ (if is_some (first_of id rs) then 1 else 0)
+pub one_there : (id : ℕ) (rs : List CommitRecord) → AtMostOne id rs → length (filter (is_record_of id) rs) ≡ (if is_some (first_of id rs) then 1 else 0)
 one_there id [] k = refl
 one_there id (r ∷ rs) k = by (is_record_of id r) k (one_there id rs)
   where

@@ -1,12 +1,13 @@
 //! Entering the calls that the threads left.
-ghost use Rattle.std.specs.Prelude.{◌≡◌, ◌≢◌, ◌+◌, ◌⊎◌, IfNone, IfSome, IsSome, MatchOption, None, Ok, OnOk, Some, false, length, nat_lt, true};
+ghost use Rattle.std.specs.Prelude.{◌≡◌, ◌≢◌, ◌+◌, ◌⊎◌, Err, IfErr, IfNone, IfSome, IsSome, MatchOption, None, Ok, OnOk, Some, false, length, nat_lt, true};
 ghost use Rattle.dtx_values.specs.declared.number.ActorNo.{ActorNo};
 ghost use Rattle.dtx_model.specs.Words.{each};
 ghost use Rattle.script_calls.specs.Managers.{AreManagers};
 ghost use Rattle.dtx_values.specs.declared.call.Call.{Call};
 ghost use Rattle.script_calls.specs.declared.rows.Due.{Due};
 ghost use Rattle.script_calls.specs.Rows.{are_entered, further, row_at};
-ghost use Rattle.run_endings.specs.Finishing.{IsDueAt, is_await, left_among, left_of};
+ghost use Rattle.run_endings.specs.Finishing.{HaveSameNumbers, IsDueAt, is_await, left_among, left_of};
+ghost use Rattle.run_endings.specs.Stops.{HasUntied, IsReason};
 ghost use Rattle.tx_cells.specs.Entering.{next_of};
 ghost use Rattle.tx_cells.specs.LogEntering.{next_at_log};
 
@@ -93,6 +94,8 @@ fn enter<D: Disk, N: Run>(
     ensures row { OnOk result (row_at a state.new.rows ≡ further (row_at a state.old.rows)) }
     ensures others { OnOk result ((b : ActorNo) → b ≢ a → row_at b state.new.rows ≡ row_at b state.old.rows) }
     ensures log_rows { OnOk result (log.new.rows ≡ log.old.rows) }
+    ensures cause { IfErr result (IsReason state.new.tx log.new.log) }
+    ensures transaction { state.new.tx.transaction ≡ state.old.tx.transaction }
     ensures objects { length resources.new ≡ length resources.old }
 {
     let due = state.next(a).unwrap();
@@ -119,6 +122,8 @@ fn enter_at<D: Disk, N: Run>(
     requires next { IsDueAt a states.old i }
     ensures less { OnOk result (left_of a states.new log.new + 1 ≡ left_of a states.old log.old) }
     ensures others { OnOk result ((b : ActorNo) → b ≢ a → left_of b states.new log.new ≡ left_of b states.old log.old) }
+    ensures numbers { HaveSameNumbers states.old states.new }
+    ensures differs { result ≡ Err RunStop.Differs → HasUntied states.new log.new }
     ensures objects { length resources.new ≡ length resources.old }
 {
     let was_up = log.is_up();
@@ -135,6 +140,8 @@ fn enter_at_log<D: Disk, N: Run>(
     ensures none { result ≡ Ok false → (next_at_log a log.old ≡ None) × (states.new ≡ states.old) × (log.new ≡ log.old) }
     ensures less { result ≡ Ok true → left_of a states.new log.new + 1 ≡ left_of a states.old log.old }
     ensures others { OnOk result ((b : ActorNo) → b ≢ a → left_of b states.new log.new ≡ left_of b states.old log.old) }
+    ensures numbers { HaveSameNumbers states.old states.new }
+    ensures differs { result ≡ Err RunStop.Differs → HasUntied states.new log.new }
 {
     let Some(due) = log.next(a) else {
         return Ok(false);
@@ -157,6 +164,8 @@ fn enter_next<D: Disk, N: Run>(
     ensures none { result ≡ Ok false → left_of a states.new log.new ≡ 0 }
     ensures less { result ≡ Ok true → left_of a states.new log.new + 1 ≡ left_of a states.old log.old }
     ensures others { OnOk result ((b : ActorNo) → b ≢ a → left_of b states.new log.new ≡ left_of b states.old log.old) }
+    ensures numbers { HaveSameNumbers states.old states.new }
+    ensures differs { result ≡ Err RunStop.Differs → HasUntied states.new log.new }
     ensures objects { length resources.new ≡ length resources.old }
 {
     let Some((i, line)) = next_place(states, a) else {
@@ -181,6 +190,8 @@ fn enter_actor<D: Disk, N: Run>(
     requires managers { AreManagers N.script N.script managers.now }
     ensures none { OnOk result (left_of a states.new log.new ≡ 0) }
     ensures others { OnOk result ((b : ActorNo) → b ≢ a → left_of b states.new log.new ≡ left_of b states.old log.old) }
+    ensures numbers { HaveSameNumbers states.old states.new }
+    ensures differs { result ≡ Err RunStop.Differs → HasUntied states.new log.new }
     ensures objects { length resources.new ≡ length resources.old }
 {
     loop {
@@ -200,6 +211,8 @@ fn enter_actors<D: Disk, N: Run>(
     requires objects { length resources.old ≡ N.objects }
     requires managers { AreManagers N.script N.script managers.now }
     ensures none { OnOk result ((a : ActorNo) → left_of a states.new log.new ≡ 0) }
+    ensures numbers { HaveSameNumbers states.old states.new }
+    ensures differs { result ≡ Err RunStop.Differs → HasUntied states.new log.new }
     ensures objects { length resources.new ≡ length resources.old }
 {
     for n in 1..ActorNo::MAX + 1 {
@@ -230,6 +243,8 @@ pub(super) fn enter_all<D: Disk, N: Run>(
     requires managers { AreManagers N.script N.script managers.now }
     ensures entered { OnOk result (each (λ c. are_entered c.rows) states.new ≡ true) }
     ensures at_log { OnOk result (are_entered log.new.rows ≡ true) }
+    ensures numbers { HaveSameNumbers states.old states.new }
+    ensures differs { result ≡ Err RunStop.Differs → HasUntied states.new log.new }
     ensures objects { length resources.new ≡ length resources.old }
 {
     enter_actors(managers, resources, states, log)?;

@@ -1,10 +1,11 @@
 //! Settling the transactions, as a replay does.
-ghost use Rattle.std.specs.Prelude.{◌≡◌, ◌<◌, [], IfSome, IsTrue, Ok, OnOk, false, length, true};
+ghost use Rattle.std.specs.Prelude.{◌≡◌, ◌<◌, [], Err, IfErr, IfSome, IsTrue, Ok, OnOk, false, length, true};
 ghost use Rattle.dtx_model.specs.Outcome.{is_empty};
 ghost use Rattle.dtx_model.specs.Steps.{pending};
 ghost use Rattle.dtx_model.specs.Words.{each};
 ghost use Rattle.script_calls.specs.Managers.{AreManagers};
-ghost use Rattle.run_endings.specs.Finishing.{HaveSameCalls};
+ghost use Rattle.run_endings.specs.Finishing.{HaveSameCalls, HaveSameNumbers};
+ghost use Rattle.run_endings.specs.Stops.{HasUntied, IsReason};
 ghost use Rattle.tx_cells.specs.Cell.{MayReply};
 ghost use Rattle.world_laws.specs.Left.{steps_left};
 
@@ -48,6 +49,8 @@ fn step<D: Disk, N: Run>(
     ensures rows { OnOk result (state.new.rows ≡ state.old.rows) }
     ensures log_rows { OnOk result (log.new.rows ≡ log.old.rows) }
     ensures still { OnOk result (IsTrue log.new.log.is_up → IsTrue log.old.log.is_up) }
+    ensures cause { IfErr result (λ e. IsReason state.old.tx log.old.log e × (state.new.tx ≡ state.old.tx) × (log.new ≡ log.old)) }
+    ensures transaction { state.new.tx.transaction ≡ state.old.tx.transaction }
     ensures objects { length resources.new ≡ length resources.old }
 {
     let Some((e, n)) = state.due_at(1) else {
@@ -73,6 +76,8 @@ pub(super) fn settle<D: Disk, N: Run>(
     ensures rows { OnOk result (state.new.rows ≡ state.old.rows) }
     ensures log_rows { OnOk result (log.new.rows ≡ log.old.rows) }
     ensures still { OnOk result (IsTrue log.new.log.is_up → IsTrue log.old.log.is_up) }
+    ensures cause { IfErr result (IsReason state.new.tx log.new.log) }
+    ensures transaction { state.new.tx.transaction ≡ state.old.tx.transaction }
     ensures objects { length resources.new ≡ length resources.old }
 {
     loop {
@@ -93,8 +98,10 @@ fn settle_round<D: Disk, N: Run>(
     requires managers { AreManagers N.script N.script managers.now }
     ensures settled { OnOk result (log.new.log.is_up ≡ log.old.log.is_up → each (λ c. is_empty (pending c.tx.world)) states.new ≡ true) }
     ensures calls { OnOk result (HaveSameCalls states.old states.new) }
+    ensures numbers { HaveSameNumbers states.old states.new }
     ensures log_rows { OnOk result (log.new.rows ≡ log.old.rows) }
     ensures still { OnOk result (IsTrue log.new.log.is_up → IsTrue log.old.log.is_up) }
+    ensures differs { result ≡ Err RunStop.Differs → HasUntied states.new log.new }
     ensures objects { length resources.new ≡ length resources.old }
 {
     for i in 0..states.len() {
@@ -116,7 +123,9 @@ pub(super) fn settle_all<D: Disk, N: Run>(
     requires managers { AreManagers N.script N.script managers.now }
     ensures settled { OnOk result (each (λ c. is_empty (pending c.tx.world)) states.new ≡ true) }
     ensures calls { OnOk result (HaveSameCalls states.old states.new) }
+    ensures numbers { HaveSameNumbers states.old states.new }
     ensures log_rows { OnOk result (log.new.rows ≡ log.old.rows) }
+    ensures differs { result ≡ Err RunStop.Differs → HasUntied states.new log.new }
     ensures objects { length resources.new ≡ length resources.old }
 {
     let was_up = log.is_up();

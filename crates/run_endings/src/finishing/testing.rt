@@ -1,5 +1,5 @@
 //! What is tested of the states at the end.
-ghost use Rattle.std.specs.Prelude.{◌≡◌, ◌↔◌, IsTrue, OnOk, map, true};
+ghost use Rattle.std.specs.Prelude.{◌≡◌, ◌↔◌, IfErr, IsTrue, OnOk, map, true};
 ghost use Rattle.std.specs.List.{All};
 ghost use Rattle.dtx_values.specs.Table.{how_many};
 ghost use Rattle.dtx_model.specs.AtLog.{is_opened, is_restart, is_stop, up_of};
@@ -7,6 +7,7 @@ ghost use Rattle.dtx_model.specs.Caused.{is_begin_sent};
 ghost use Rattle.dtx_model.specs.Wires.{is_stopped, stop_of};
 ghost use Rattle.dtx_model.specs.Words.{each, has, past_of};
 ghost use Rattle.run_endings.specs.Finished.{follows};
+ghost use Rattle.run_endings.specs.Stops.{AreAmiss};
 ghost use Rattle.tx_cells.specs.Board.{transactions_of};
 ghost use Rattle.tx_cells.specs.LogCell.{is_up_by};
 ghost use Rattle.tx_cells.specs.Ties.{TiesWith};
@@ -194,6 +195,7 @@ pub(super) fn test_all<D: Disk, N: Run>(
     ensures named { OnOk result (map (λ c. c.tx.transaction.value) states.now ≡ transactions_of s.now) }
     ensures tied { OnOk result (All (λ c. TiesWith c.tx log.now.log) states.now) }
     ensures followed { OnOk result (each (λ c. follows log.now.past c.tx.world.past) states.now ≡ true) }
+    ensures differs { IfErr result (λ x. (x ≡ RunStop.Differs) × AreAmiss s.now states.now log.now) }
 {
     if !are_by_number(s.lines(), states) {
         return Err(RunStop::Differs);

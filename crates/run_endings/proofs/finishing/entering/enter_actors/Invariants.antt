@@ -1,10 +1,11 @@
 use Rattle.std.proofs.Common.{◌≡◌, ◌<◌, length}
 use Rattle.dtx_values.specs.declared.number.ActorNo.{ActorNo}
-use Rattle.run_endings.specs.Finishing.{left_of}
+use Rattle.run_endings.specs.Finishing.{HaveSameNumbers, left_of}
 use Rattle.run_endings.proofs.finishing.entering.enter_actors.Given as goal
 
 abbrev pub invariant-loop-n : goal.invariant-loop-n
 invariant-loop-n g l = record {
   none : (a : ActorNo) → a.value < l.n → left_of a l.states l.log ≡ 0;
+  numbers : HaveSameNumbers l.initial.states l.states;
   objects : length l.resources ≡ length l.initial.resources;
 }

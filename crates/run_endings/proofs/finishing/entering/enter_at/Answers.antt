@@ -1,5 +1,6 @@
 use Rattle.std.proofs.Common.{◌≡◌, ◌≢◌, ◌+◌, ◌<◌, ◌∙◌, List, Some, ap, arith, length, refl, set, subst, sym}
 use Rattle.std.specs.Prelude.{IsSome}
+use Rattle.std.proofs.Math.Seq.{map-set_same}
 use Rattle.std.proofs.lemmas.Option.{slice_get_read, slice_get_within}
 use Rattle.dtx_values.specs.declared.number.ActorNo.{ActorNo}
 use Rattle.script_calls.specs.Rows.{further, row_at}
@@ -9,6 +10,7 @@ use Rattle.tx_cells.specs.Cell.{Cell}
 use Rattle.tx_cells.specs.Entering.{next_of}
 use Rattle.run_endings.specs.Finishing.{HaveSameCalls, left_in, left_of}
 use Rattle.run_endings.proofs.Left.{on_ok, one_less_in, same_left, set_less, set_same}
+use Rattle.run_endings.proofs.Untied.{untied_at}
 use Rattle.run_endings.proofs.finishing.entering.enter_at.Goals as goal
 
 pub returns-clause-less : goal.returns-clause-less
@@ -47,3 +49,15 @@ returns-clause-others g c =
     let kept = same_left b (set states i y) c.follow_stop.new.states calls in
     omega (arith, one, at_log, kept))
     c.follow_stop.ensures.calls
+
+pub returns-in_err-enter-clause-differs : goal.returns-in_err-enter-clause-differs
+returns-in_err-enter-clause-differs g c = λ differs.
+    let due = c.requires.next in
+    untied_at c.args.states.now c.args.i c.enter.new.state c.enter.new.log c.in_err-enter.field-0.0 c.from_residual.result (slice_get_within c.args.states.now c.args.i due.0 due.1) c.in_err-enter.ensures.cause c.from_residual.ensures.1 differs
+
+pub returns-in_err-enter-clause-numbers : goal.returns-in_err-enter-clause-numbers
+returns-in_err-enter-clause-numbers g c = map-set_same (λ (z : Cell). z.tx.transaction) c.args.states.now c.args.i c.enter.new.state c.index-states-i.result c.enter.ensures.transaction
+
+pub returns-clause-numbers : goal.returns-clause-numbers
+returns-clause-numbers g c =
+    c.follow_stop.ensures.numbers ∙ map-set_same (λ (z : Cell). z.tx.transaction) c.args.states.now c.args.i c.enter.new.state c.index-states-i.result c.enter.ensures.transaction

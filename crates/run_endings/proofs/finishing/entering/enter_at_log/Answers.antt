@@ -11,7 +11,7 @@ returns-clause-less g c = λ yes.
     let next : next_at_log c.args.a c.args.log.now ≡ Some c.in-Some.due = sym c.next.ensures ∙ c.in-Some.is in
     let did = c.in_ok-enter.ensures.entered (not_put_off (next_at_log c.args.a c.args.log.now) c.in-Some.due next) in
     let one = one_less_in (row_at c.args.a c.args.log.now.rows) (row_at c.args.a c.enter.new.self.rows) (ap is_some next) did.row in
-    let same = same_left c.args.a c.args.states.now c.follow_all.new.states c.in_ok-follow_all.ensures in
+    let same = same_left c.args.a c.args.states.now c.follow_all.new.states c.in_ok-follow_all.ensures.calls in
     omega (arith, one, same)
 
 pub returns-clause-others : goal.returns-clause-others
@@ -19,5 +19,5 @@ returns-clause-others g c = λ b other.
     let next : next_at_log c.args.a c.args.log.now ≡ Some c.in-Some.due = sym c.next.ensures ∙ c.in-Some.is in
     let did = c.in_ok-enter.ensures.entered (not_put_off (next_at_log c.args.a c.args.log.now) c.in-Some.due next) in
     let one = ap left_in (did.others b other) in
-    let same = same_left b c.args.states.now c.follow_all.new.states c.in_ok-follow_all.ensures in
+    let same = same_left b c.args.states.now c.follow_all.new.states c.in_ok-follow_all.ensures.calls in
     omega (arith, one, same)

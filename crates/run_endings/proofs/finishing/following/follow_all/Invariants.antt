@@ -1,5 +1,8 @@
-use Rattle.run_endings.specs.Finishing.{HaveSameCalls}
+use Rattle.run_endings.specs.Finishing.{HaveSameCalls, HaveSameNumbers}
 use Rattle.run_endings.proofs.finishing.following.follow_all.Given as goal
 
 abbrev pub invariant-loop-i : goal.invariant-loop-i
-invariant-loop-i g l = HaveSameCalls l.initial.states l.states
+invariant-loop-i g l = record {
+  calls : HaveSameCalls l.initial.states l.states;
+  numbers : HaveSameNumbers l.initial.states l.states;
+}

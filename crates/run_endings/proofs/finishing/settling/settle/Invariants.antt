@@ -5,6 +5,7 @@ use Rattle.run_endings.proofs.finishing.settling.settle.Given as goal
 abbrev pub invariant-loop : goal.invariant-loop
 invariant-loop g l = record {
   rows : l.state.rows ≡ l.initial.state.rows;
+  transaction : l.state.tx.transaction ≡ l.initial.state.tx.transaction;
   log_rows : l.log.rows ≡ l.initial.log.rows;
   still : IsTrue l.log.log.is_up → IsTrue l.initial.log.log.is_up;
   objects : length l.resources ≡ length l.initial.resources;

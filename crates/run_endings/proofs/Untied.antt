@@ -1,0 +1,58 @@
+-- Where a turn isn't done since two kept values differ, one of the transactions doesn't tie with the log; and what the test at the end finds.
+use Rattle.std.proofs.Common.{◌≡◌, ℕ, ◌+◌, ◌<◌, ◌↔◌, IsTrue, Bool, true, false, List, Result, Ok, Err, length, set, take, get_or, inl, inr, if◌then◌else◌, refl, ap, sym, subst, ◌∙◌}
+use Rattle.std.specs.Prelude.{Contains, IsErrAnd}
+use Rattle.std.specs.List.{All}
+use Rattle.std.proofs.lemmas.List.{get_or-set_same, length-set}
+use Rattle.std.proofs.lemmas.List.Elements.{All-more}
+use Rattle.dtx_values.specs.declared.script.Line.{Line}
+use Rattle.coordinator_log.specs.State.{LogState}
+use Rattle.tx_cells.specs.Cell.{Cell}
+use Rattle.tx_cells.specs.Following.{followed, heard_opened, heard_stopped}
+use Rattle.tx_cells.specs.LogCell.{LogCell}
+use Rattle.tx_cells.specs.Ties.{TiesWith}
+use Rattle.tx_cells.specs.declared.error.TurnError.{TurnError}
+use Rattle.tx_cells.specs.declared.error.TurnError.TheVariants.{Memory, Differs as TheyDiffer}
+use Rattle.tx_cells.specs.Turns.{with_tx}
+use Rattle.tx_world.specs.State.{TxState, is_hit_by, is_reached_by}
+use Rattle.run_endings.specs.Finished.{follows}
+use Rattle.run_endings.specs.Stops.{AreAmiss, HasUntied, IsReason, run_stop}
+use Rattle.run_endings.specs.declared.stop.RunStop.{RunStop}
+use Rattle.run_endings.specs.declared.stop.RunStop.TheVariants as Stop
+
+-- the reason why the run stops so is that the two don't tie
+differing : {D : Type 0} (x : TxState) (log : LogState D) (e : TurnError) → IsReason x log e → run_stop e ≡ Stop.Differs → TiesWith x log → ⊥
+differing x log Memory why is = absurd cc
+differing x log (TheyDiffer d) (inl m) is = absurd cc
+differing x log (TheyDiffer d) (inr c) is = c.untied
+
+-- the error that came through a `?`
+stop_is : {A : Type 0} (r : Result A RunStop) (x : RunStop) → IsErrAnd r (λ y. y ≡ x) → r ≡ Err Stop.Differs → x ≡ Stop.Differs
+stop_is (Ok a) x made is = absurd cc
+stop_is (Err y) x made is = let same : y ≡ Stop.Differs = cc in sym made ∙ same
+
+-- the turn was done at one of the transactions
+pub untied_at : {A D : Type 0} (cells : List Cell) (i : ℕ) (y : Cell) (log : LogCell D) (e : TurnError) (r : Result A RunStop) → i < length cells → IsReason y.tx log.log e → IsErrAnd r (λ x. x ≡ run_stop e) → r ≡ Err Stop.Differs
+    → HasUntied (set cells i y) log
+untied_at cells i y log e r less why made is = (y, (i, subst (λ n. i < n) (sym (length-set cells i y)) less, get_or-set_same cells i y y less), differing y.tx log.log e why (stop_is r (run_stop e) made is))
+
+-- a transaction that isn't right is amiss
+pub amiss_at : {D : Type 0} (s : List Line) (cells : List Cell) (x : Cell) (log : LogCell D) (right : Bool) → Contains cells x → (IsTrue right ↔ (TiesWith x.tx log.log × (follows log.past x.tx.world.past ≡ true))) → right ≡ false → AreAmiss s cells log
+amiss_at s cells x log right among tells wrong = by (follows log.past x.tx.world.past) refl
+  where
+    by : (b : Bool) → follows log.past x.tx.world.past ≡ b → AreAmiss s cells log
+    by true e = inr (inl (x, among, λ ties. let clash : false ≡ true = sym wrong ∙ tells.1 (ties, e) in cc))
+    by false e = inr (inr (x, among, e))
+
+-- what is so of the items before this one, and of it, is so of one more
+pub all_more : {A : Type 0} (P : A → Type 0) (xs : List A) (i : ℕ) (x : A) → i < length xs → x ≡ get_or xs i x → All P (take i xs) → P x → All P (take (i + 1) xs)
+all_more P xs i x less here all is = All-more P xs i x less all (subst P here is)
+
+-- what a transaction hears of the log leaves it the same transaction
+pub same_followed : {D : Type 0} (x y : Cell) (log : LogState D) → y ≡ with_tx (followed x.tx log) x → y.tx.transaction ≡ x.tx.transaction
+same_followed x y log heard = ap (λ (c : Cell). c.tx.transaction) heard ∙ by log.is_up (is_reached_by log.life x.tx) (is_hit_by log.life x.tx)
+  where
+    by : (up reached hit : Bool) → (if up then (if reached then heard_opened x.tx log else x.tx) else (if hit then heard_stopped x.tx else x.tx)).transaction ≡ x.tx.transaction
+    by true true hit = refl
+    by true false hit = refl
+    by false reached true = refl
+    by false reached false = refl
