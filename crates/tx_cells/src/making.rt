@@ -28,7 +28,7 @@ fn makes(body: &Body, t: TxNo) -> bool
 fn keep(made: &mut Vec<bool>, body: Body)
     requires { length made.old.items ≡ TxNo.MAX }
     ensures full { length made.new.items ≡ TxNo.MAX }
-    ensures kept { (t : TxNo) → slice_index_or made.new.items (t.value - 1) false ≡ (has (λ m. same_name (OfTransaction t.value) m) (makes body) || slice_index_or made.old.items (t.value - 1) false) }
+    ensures kept { (t : TxNo) → slice_index_or made.new.items (t.value - 1) false ≡ (slice_index_or made.old.items (t.value - 1) false || has (λ m. same_name (OfTransaction t.value) m) (makes body)) }
 {
     if let Body::Begin(t, _)
     | Body::Open(_, Opening::Required(t, _, _) | Opening::RequiresNew(t, _, _)) = body
