@@ -10,18 +10,11 @@ use std::alloc::{AllocError, Global};
 pub fn is_made(s: &[Line], t: TxNo) -> bool
     ensures { result ≡ is_made s.now (OfTransaction t.value) }
 {
-    s.iter().any(|l| makes(&l.body, t))
-}
-
-/// Whether the command makes this transaction.
-fn makes(body: &Body, t: TxNo) -> bool
-    ensures { result ≡ has (λ m. same_name (OfTransaction t.value) m) (makes body.now) }
-{
-    match body {
+    s.iter().any(|l| match l.body {
         Body::Begin(u, _)
-        | Body::Open(_, Opening::Required(u, _, _) | Opening::RequiresNew(u, _, _)) => t == *u,
+        | Body::Open(_, Opening::Required(u, _, _) | Opening::RequiresNew(u, _, _)) => t == u,
         _ => false,
-    }
+    })
 }
 
 /// Keeps which transaction a command makes.
