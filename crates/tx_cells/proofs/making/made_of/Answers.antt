@@ -11,8 +11,8 @@ loop-line-preserved c =
     let i = c.loop-line.line-index in (
       c.keep.ensures.full,
       λ t.
-        let here : Line → Bool = λ l. has (λ m. same_name (OfTransaction t.value) m) (makes l.body) in
-        c.keep.ensures.kept t
-        ∙ (ap (λ b. b || here c.line-item.result) (c.loop-line.invariant.1 t)
-        ∙ (ap (λ l. is_made (take i s) (OfTransaction t.value) || here l) c.line-item.is ∙ sym (list_any_more here s i c.line-item.result c.loop-line-test.true))),
+          let here : Line → Bool = λ l. has (λ m. same_name (OfTransaction t.value) m) (makes l.body) in
+          c.keep.ensures.kept t
+          ∙ (ap (λ b. b || here c.line-item.result) (c.loop-line.invariant.1 t)
+          ∙ (ap (λ l. is_made (take i s) (OfTransaction t.value) || here l) c.line-item.is ∙ sym (list_any_more here s i c.line-item.result c.loop-line-test.true))),
     )
