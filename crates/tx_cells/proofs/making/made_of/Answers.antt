@@ -1,4 +1,4 @@
-use Rattle.std.proofs.Common.{Bool, ◌≡◌, ◌||◌, ◌∙◌, ap, sym, take}
+use Rattle.std.proofs.Common.{Bool, ◌||◌, ◌∙◌, ap, sym, take}
 use Rattle.std.proofs.lemmas.List.Folds.{list_any_more}
 use Rattle.dtx_values.specs.declared.script.Line.{Line}
 use Rattle.dtx_model.specs.Grammar.{OfTransaction, is_made, makes, same_name}
