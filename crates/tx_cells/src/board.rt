@@ -51,10 +51,16 @@ impl<N: Run> Posted<N> {
         requires told { latest client_told_of (past_of history.now.items) ≡ Some outcome }
         ensures { IfOk result (λ p. p ≡ record { transaction = t; outcome = outcome; past = past_of history.now.items }) }
     {
+        let n = history.len();
+        let mut copied = Entries::with_capacity(alloc, n)?;
+        copied.reserve(n)?;
+        for i in 0..n {
+            copied.push_reserved(&history.at(i));
+        }
         Ok(Posted {
             t,
             outcome,
-            history: copied(alloc, history)?,
+            history: copied,
             of: PhantomData,
         })
     }
@@ -80,19 +86,6 @@ impl<N: Run> Posted<N> {
     {
         &self.history
     }
-}
-
-/// The same entries again.
-fn copied(alloc: Global, from: &Entries) -> Result<Entries, AllocError>
-    ensures { IfOk result (λ h. h.items ≡ from.now.items) }
-{
-    let n = from.len();
-    let mut to = Entries::with_capacity(alloc, n)?;
-    to.reserve(n)?;
-    for i in 0..n {
-        to.push_reserved(&from.at(i));
-    }
-    Ok(to)
 }
 
 /// What one thread knows of the board of a transaction.

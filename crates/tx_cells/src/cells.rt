@@ -1,9 +1,9 @@
 //! The cells of a run: the lock and the board of each transaction.
 ghost use Rattle.std.specs.Prelude.{◌≡◌, ◌==◌, [], IfOk, IsSome, MatchOption, None, Some, is_some, length, map, true};
-ghost use Rattle.dtx_model.specs.Grammar.{OfTransaction, is_made, makes, same_name};
+ghost use Rattle.dtx_model.specs.Grammar.{OfTransaction, is_made};
 ghost use Rattle.dtx_model.specs.Caused.{calls_in};
 ghost use Rattle.dtx_model.specs.Plans.{manager_of};
-ghost use Rattle.dtx_model.specs.Words.{has, past_of};
+ghost use Rattle.dtx_model.specs.Words.{past_of};
 ghost use Rattle.once_cell.specs.Once.{Agrees, cell_name};
 ghost use Rattle.script_calls.specs.Prefix.{IsPrefix};
 ghost use Rattle.script_calls.specs.RowsOf.{rows_of};
@@ -13,10 +13,11 @@ ghost use Rattle.tx_cells.specs.Entering.{may_promote_at};
 
 use crate::board::{BoardNote, Posted};
 use crate::cell::CellState;
+use crate::making::made_of;
 use crate::places::places_of;
 use crate::promoting::promoting_of;
 use crate::run::Run;
-use dtx_values::{Body, Call, EnlNo, Line, Opening, RmNo, Script, TxNo};
+use dtx_values::{Call, EnlNo, Line, RmNo, Script, TxNo};
 use once_cell::race::OnceBox;
 use script_calls::{Plans, Rows, managers_of, transaction_rows};
 use std::alloc::{AllocError, Global};
@@ -270,32 +271,15 @@ fn cells_of<N: Run>(
     requires rows { (t : TxNo) → IsPrefix N.script t.value (rows_of t all.items) [] }
     ensures { IfOk result (λ v. map (λ x. x.transaction.value) v.items ≡ transactions_of s.now) }
 {
+    let made = made_of(alloc, s)?;
     let mut cells = Vec::new(alloc);
     let mut n = 0;
     for rows in all {
         n += 1;
         let t = TxNo::new(n).unwrap();
-        if is_made(s, t) {
+        if made[t.index()] {
             cells.push(TxCell::new(alloc, t, rows)?)?;
         }
     }
     Ok(cells)
-}
-
-/// Whether a line makes this transaction.
-pub fn is_made(s: &[Line], t: TxNo) -> bool
-    ensures { result ≡ is_made s.now (OfTransaction t.value) }
-{
-    s.iter().any(|l| makes(&l.body, t))
-}
-
-/// Whether the command makes this transaction.
-fn makes(body: &Body, t: TxNo) -> bool
-    ensures { result ≡ has (λ m. same_name (OfTransaction t.value) m) (makes body.now) }
-{
-    match body {
-        Body::Begin(u, _)
-        | Body::Open(_, Opening::Required(u, _, _) | Opening::RequiresNew(u, _, _)) => t == *u,
-        _ => false,
-    }
 }

@@ -7,6 +7,7 @@ mod cells;
 mod choosing;
 mod error;
 mod lent;
+mod making;
 mod places;
 mod posting;
 mod promoting;
@@ -16,8 +17,9 @@ mod turns;
 
 pub use board::{BoardNote, Posted};
 pub use cell::CellState;
-pub use cells::{Cells, TxCell, is_made, peek_outcome};
+pub use cells::{Cells, TxCell, peek_outcome};
 pub use error::TurnError;
+pub use making::is_made;
 pub use run::Run;
 pub use shared_log::{LogState, SharedLog};
 pub use turns::{Turn, Turned};

@@ -5,20 +5,13 @@ ghost use Rattle.tx_cells.specs.Entering.{is_promoting_line};
 use dtx_values::{Body, Line};
 use std::alloc::{AllocError, Global};
 
-/// Whether the line may begin a promotion: it is a durable or a marshal.
-fn is_promoting_line(body: Body) -> bool
-    ensures { result ≡ is_promoting_line body }
-{
-    matches!(body, Body::Durable(_, _, _, _) | Body::Marshal(_))
-}
-
 /// Of each line, in order, whether it may begin a promotion.
 pub(crate) fn promoting_of(alloc: Global, lines: &[Line]) -> Result<Vec<bool>, AllocError>
     ensures { IfOk result (λ v. v.items ≡ map (λ l. is_promoting_line l.body) lines.now) }
 {
     let mut promoting = Vec::with_capacity(alloc, lines.len())?;
     for line in lines {
-        promoting.push(is_promoting_line(line.body))?;
+        promoting.push(matches!(line.body, Body::Durable(..) | Body::Marshal(_)))?;
     }
     Ok(promoting)
 }
