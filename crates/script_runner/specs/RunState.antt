@@ -92,9 +92,12 @@ pub record Tells {D : Type 0} (faults : D → ℕ) (honest : Bool) (image : D �
   pub opens : IsTrue honest → open_records start.slots ≡ [] → open_right [] T ≡ true
   pub unlike : IsTrue honest → has is_no_log_answer (at_log T) ≡ false
 
--- what the trace told of the log before a part of a run, it tells after it
-abbrev pub StillTells : {D : Type 0} → (D → ℕ) → Bool → (D → List ℕ → Type 0) → LogState D → LogState D → RunState → RunState → Type 0
-StillTells {D} faults honest image from to old new = (start : LogState D) → Tells faults honest image start from (past_of old.trace) → Tells faults honest image start to (past_of new.trace)
+-- How a part of a run goes, over a log that was `from` before it and is `to` after it: the script and the objects stay, what holds of a run holds of it, and what the trace told of the log it still tells.
+pub record RunsOn {D : Type 0} (faults : D → ℕ) (honest : Bool) (image : D → List ℕ → Type 0) (from to : LogState D) (old new : RunState) : Type 0 where
+  pub script : new.script ≡ old.script
+  pub objects : new.objects ≡ old.objects
+  pub holds : Holds honest image to new
+  pub tells : (start : LogState D) → Tells faults honest image start from (past_of old.trace) → Tells faults honest image start to (past_of new.trace)
 
 -- each call that was entered is one of a line before this one
 abbrev pub IsBelow : ℕ → TxState → Type 0

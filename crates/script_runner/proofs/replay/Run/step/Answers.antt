@@ -234,10 +234,7 @@ returns-then-not-is_up g c =
       contexts = c.stop_all.ensures.contexts ∙ ap (λ (r : RunState). r.contexts) c.self.view_is;
       log = d.log;
       stays = d.stays;
-      script = c.stop_all.ensures.script ∙ ap (λ (r : RunState). r.script) c.self.view_is;
-      objects = c.stop_all.ensures.objects ∙ objects g b;
-      holds = d.holds;
-      tells = d.tells;
+      runs = record { script = c.stop_all.ensures.script ∙ ap (λ (r : RunState). r.script) c.self.view_is; objects = c.stop_all.ensures.objects ∙ objects g b; holds = d.holds; tells = d.tells };
       calls = d.calls;
       stepped = λ e. d.stepped;
       some = λ e. d.some;
@@ -266,10 +263,7 @@ returns g c =
       contexts = ap (λ (r : RunState). r.contexts) c.self.view_is;
       log = d.log;
       stays = d.stays;
-      script = ap (λ (r : RunState). r.script) c.self.view_is;
-      objects = objects g b;
-      holds = d.holds;
-      tells = d.tells;
+      runs = record { script = ap (λ (r : RunState). r.script) c.self.view_is; objects = objects g b; holds = d.holds; tells = d.tells };
       calls = d.calls;
       stepped = λ e. d.stepped;
       some = λ e. d.some;
