@@ -45,9 +45,6 @@ lines-requires-clause-below g c = subst (λ (r : RunState). AreBelow 1 r.worlds)
 pub lines-requires-clause-script : goal.lines-requires-clause-script
 lines-requires-clause-script g c = subst IsScript (sym (ap (λ (r : RunState). r.script) c.in_ok-run.ensures)) c.requires.script
 
-pub settle_all-requires : goal.settle_all-requires
-settle_all-requires g c = record { holds = c.in_ok-lines.ensures.runs.holds }
-
 pub returns-in_err-lines-clause-stays : goal.returns-in_err-lines-clause-stays
 returns-in_err-lines-clause-stays g c none = c.lines.ensures.stays (ap has_log_line (ap (λ (r : RunState). r.script) c.in_ok-run.ensures) ∙ none)
 

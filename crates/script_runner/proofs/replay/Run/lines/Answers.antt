@@ -41,9 +41,6 @@ loop-l-init g c = record {
   ran = ap past_of c.requires.start;
 }
 
-pub line-requires-clause-holds : goal.line-requires-clause-holds
-line-requires-clause-holds g c = c.loop-l.invariant.runs.holds
-
 pub line-requires-clause-unopened : goal.line-requires-clause-unopened
 line-requires-clause-unopened g c =
     let s = c.args.self.now.script in

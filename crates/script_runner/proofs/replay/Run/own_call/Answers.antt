@@ -11,9 +11,6 @@ use Rattle.script_runner.proofs.Going.{below_same, goes_same, runs_then, stays_s
 use Rattle.script_runner.proofs.OwnCalls.{await_answers, awaited_ran, did_answers, did_ran, plain_answers, plain_ran}
 use Rattle.script_runner.proofs.replay.Run.own_call.Goals as goal
 
-pub call-requires-clause-holds : goal.call-requires-clause-holds
-call-requires-clause-holds g c = c.in_ok-done-in-Do.ensures.runs.holds
-
 pub call-requires-clause-given : goal.call-requires-clause-given
 call-requires-clause-given g c = subst (λ (r : List Line). IsCallOf r c.args.t.value c.args.n c.args.actor c.args.c.now) (sym c.in_ok-done-in-Do.ensures.runs.script) c.requires.given
 
@@ -40,9 +37,6 @@ returns-in_ok-done-in-Do-clause-done g c =
     (λ did. did_ran s c.args.actor c.args.n c.args.t c.args.c.now _ _ _ c.in_ok-done-in-Do.done (past_of c.args.self.now.trace) (past_of c.steps.new.self.trace) (past_of c.call.new.self.trace) c.in-Do.is c.in_ok-done-in-Do.ensures.done
     (subst (λ (r : List Line). past_of c.call.new.self.trace ≡ after_turn r c.args.t (Calls c.args.n c.args.actor c.args.c.now c.in_ok-done-in-Do.done) (past_of c.steps.new.self.trace)) c.in_ok-done-in-Do.ensures.runs.script did))
     c.call.ensures.done
-
-pub call-requires-in-Await-clause-holds : goal.call-requires-in-Await-clause-holds
-call-requires-in-Await-clause-holds g c = c.in_ok-settle-in-Await.ensures.runs.holds
 
 pub call-requires-in-Await-clause-given : goal.call-requires-in-Await-clause-given
 call-requires-in-Await-clause-given g c = subst (λ (r : List Line). IsCallOf r c.args.t.value c.args.n c.args.actor c.args.c.now) (sym c.in_ok-settle-in-Await.ensures.runs.script) c.requires.given

@@ -38,9 +38,6 @@ here g c t is =
     c.index-in-loop-i.ensures c.rolled.ensures (ap (λ (r : RunState). r.contexts) c.self-in-loop-i.view_is ∙ c.loop-i.invariant.contexts) in
     at_place (rolled_at actor cs) c.rolled.result.now c.loop-i.i t now (subst (λ (us : List TxNo). c.loop-i.i < length us) first c.loop-i-test.true) is
 
-pub call-requires-clause-holds : goal.call-requires-clause-holds
-call-requires-clause-holds g c = c.loop-i.invariant.runs.holds
-
 pub call-requires-clause-given : goal.call-requires-clause-given
 call-requires-clause-given g c =
     let t = c.index-rolled-i.result in

@@ -26,9 +26,6 @@ loop-init g c =
       below = λ up below. below;
     }
 
-pub step-requires : goal.step-requires
-step-requires g c = record { holds = c.loop.invariant.runs.holds }
-
 pub loop-preserved : goal.loop-preserved
 loop-preserved g c =
     let some : c.step.result ≡ Ok true = cc in

@@ -24,9 +24,6 @@ pub returns-clause-stays : goal.returns-clause-stays
 returns-clause-stays g c =
     stays_then g.D.Disk.faults c.args.log.now c.settle_round.new.log c.settle_round-2.new.log c.settle_round.ensures.log.grows c.settle_round-2.ensures.log.grows c.settle_round.ensures.stays c.settle_round-2.ensures.stays
 
-pub settle_round-requires-2 : goal.settle_round-requires-2
-settle_round-requires-2 g c = record { holds = c.in_ok-settle_round.ensures.runs.holds }
-
 pub returns-clause-runs : goal.returns-clause-runs
 returns-clause-runs g c =
     on_ok_weaker c.settle_round-2.result

@@ -19,9 +19,6 @@ loop-n-init g c =
       settled = λ same. below-first c.args.self.now.script (past_of c.args.self.now.trace);
     }
 
-pub settle-requires : goal.settle-requires
-settle-requires g c = record { holds = c.loop-n.invariant.runs.holds }
-
 pub loop-n-preserved : goal.loop-n-preserved
 loop-n-preserved g c =
     let t = c.unwrap-t.result in

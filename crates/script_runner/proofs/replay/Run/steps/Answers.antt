@@ -21,9 +21,6 @@ loop-m-init g c =
       done = refl;
     }
 
-pub step-requires : goal.step-requires
-step-requires g c = record { holds = c.loop-m.invariant.runs.holds }
-
 pub loop-m-preserved : goal.loop-m-preserved
 loop-m-preserved g c =
     let some : c.step.result ≡ Ok true = cc in
