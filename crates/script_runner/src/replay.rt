@@ -30,7 +30,7 @@ ghost use Rattle.script_runner.specs.Ending.{EndsAs, HasNone};
 ghost use Rattle.script_runner.specs.LogRun.{IsCounted, LogGoes, LogStays, has_log_line, is_log_line};
 ghost use Rattle.script_runner.specs.Rights.{AreAppendsBacked, AreOutcomesWithheld, HasOneRight};
 ghost use Rattle.script_runner.specs.Run.{IsRunOf};
-ghost use Rattle.script_runner.specs.RunState.{Advances, AreBelow, AreSettledBelow, HaveSameCalls, Holds, IsBelow, IsRecordKept, IsRoundAt, IsTied, IsToPlan, RunsOn, Settles, halted, record_in, reopened, state_of};
+ghost use Rattle.script_runner.specs.RunState.{Advances, AreBelow, AreSettledBelow, HaveSameCalls, Holds, IsBelow, IsRecordKept, IsRoundAt, IsTied, IsToPlan, RunsOn, Settles, StepsOn, halted, record_in, reopened, state_of};
 ghost use Rattle.script_calls.specs.Scoped.{AreOnce, AreOpen, IsUnopened, calls_given, nothing_open, rollbacks, rolled_at, scopes_at};
 ghost use Rattle.script_runner.specs.Waits.{AreWaitsAnswered};
 ghost use Rattle.tx_world.specs.AtLog.{Fits};
@@ -251,10 +251,7 @@ impl<'a> Run<'a> {
         ensures stays { LogStays D.faults log.old log.new }
         ensures runs { OnOk result (RunsOn D.faults D.honest D.image log.old log.new self.old self.new) }
         ensures calls { HaveSameCalls self.old.worlds self.new.worlds }
-        ensures stepped { result ≡ Ok true → (m : ℕ) (start : World) → HasStepped t.value k m start (state_of t self.old.worlds).world → HasStepped t.value k (suc m) start (state_of t self.new.worlds).world }
-        ensures some { result ≡ Ok true → Advances self.old.script t k self.old.trace self.new.trace }
-        ensures apart { result ≡ Ok true → log.new.is_up ≡ log.old.is_up → (u : TxNo) → u ≢ t → history u.value (past_of self.new.trace) ≡ history u.value (past_of self.old.trace) }
-        ensures nearer { result ≡ Ok true → steps_left (state_of t self.new.worlds).world < steps_left (state_of t self.old.worlds).world }
+        ensures did { result ≡ Ok true → StepsOn t k log.old.is_up log.new.is_up self.old self.new }
         ensures none { result ≡ Ok false → kth (pending (state_of t self.old.worlds).world) k ≡ None }
         ensures none_here { result ≡ Ok false → kth (pending (world_at self.old.script t (past_of self.old.trace))) k ≡ None }
         ensures unchanged { result ≡ Ok false → (self.new ≡ self.old) × (log.new ≡ log.old) }

@@ -33,7 +33,7 @@ loop-preserved g c =
     let start = c.args.self.now in
     let s = start.script in
     let one : Advances s c.args.t 1 c.loop.self.trace c.step.new.self.trace =
-    subst (λ (r : List Line). Advances r c.args.t 1 c.loop.self.trace c.step.new.self.trace) was.runs.script (c.step.ensures.some some) in
+    subst (λ (r : List Line). Advances r c.args.t 1 c.loop.self.trace c.step.new.self.trace) was.runs.script (c.step.ensures.did some).some in
     record {
       contexts = c.step.ensures.contexts ∙ was.contexts;
       log = goes_then g.D.Disk.faults g.D.Disk.honest g.D.Disk.image c.args.log.now c.loop.log c.step.new.log was.log c.step.ensures.log;
@@ -44,7 +44,7 @@ loop-preserved g c =
       turns = λ first turn. turn-more s first c.args.t c.loop.self.trace c.step.new.self.trace (was.turns first turn) one;
       below = λ up below.
           let mid = up_between c.args.log.now.is_up c.loop.log.is_up c.step.new.log.is_up was.stays.still c.step.ensures.stays.still up in
-          below-apart s c.args.t (past_of c.loop.self.trace) (past_of c.step.new.self.trace) (c.step.ensures.apart some (up ∙ sym mid)) (was.below mid below);
+          below-apart s c.args.t (past_of c.loop.self.trace) (past_of c.step.new.self.trace) ((c.step.ensures.did some).apart (up ∙ sym mid)) (was.below mid below);
     }
 
 pub returns-in_err-step-clause-log : goal.returns-in_err-step-clause-log

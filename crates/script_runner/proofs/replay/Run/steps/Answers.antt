@@ -28,7 +28,7 @@ loop-m-preserved g c =
     let m = c.loop-m.m in
     let more : suc m ≡ m + 1 = omega arith in
     let start = c.args.self.now in
-    let one = subst (λ (s : List Line). Advances s c.args.t c.args.k c.loop-m.self.trace c.step.new.self.trace) was.runs.script (c.step.ensures.some some) in
+    let one = subst (λ (s : List Line). Advances s c.args.t c.args.k c.loop-m.self.trace c.step.new.self.trace) was.runs.script (c.step.ensures.did some).some in
     record {
       contexts = c.step.ensures.contexts ∙ was.contexts;
       log = goes_then g.D.Disk.faults g.D.Disk.honest g.D.Disk.image c.args.log.now c.loop-m.log c.step.new.log was.log c.step.ensures.log;
@@ -36,7 +36,7 @@ loop-m-preserved g c =
       runs = runs_then g.D.Disk.faults g.D.Disk.honest g.D.Disk.image c.args.log.now c.loop-m.log c.step.new.log start c.loop-m.self c.step.new.self was.runs c.in_ok-step.ensures.runs;
       calls = calls_then start.worlds c.loop-m.self.worlds c.step.new.self.worlds was.calls c.step.ensures.calls;
       did = subst (λ (i : ℕ). HasStepped c.args.t.value c.args.k i (state_of c.args.t start.worlds).world (state_of c.args.t c.step.new.self.worlds).world) more
-          (c.step.ensures.stepped some m (state_of c.args.t start.worlds).world was.did);
+          ((c.step.ensures.did some).stepped m (state_of c.args.t start.worlds).world was.did);
       done = subst (λ (i : ℕ). StepsDone start.script c.args.t c.args.k i start.trace c.step.new.self.trace) more
           (steps-more start.script c.args.t c.args.k m start.trace c.loop-m.self.trace c.step.new.self.trace was.done one);
     }
