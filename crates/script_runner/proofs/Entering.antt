@@ -10,7 +10,7 @@ use Rattle.dtx_values.specs.declared.script.Line.{Line}
 use Rattle.dtx_model.specs.Words.{each, has, kth}
 use Rattle.dtx_model.specs.declared.waiting.EnteredCall.{EnteredCall}
 use Rattle.dtx_model.specs.World.{World}
-use Rattle.dtx_model.specs.Steps.{Calls, after}
+use Rattle.dtx_model.specs.Steps.{Calls}
 use Rattle.dtx_model.specs.Caused.{AreMadeOnce, IsCallOf, IsIn, made_by}
 use Rattle.dtx_model.proofs.Bools.{and_both, and_left, and_right, not_false, or_false}
 use Rattle.dtx_model.proofs.SameNumbers.{same_transaction}

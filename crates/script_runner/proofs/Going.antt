@@ -7,7 +7,7 @@ use Rattle.dtx_model.specs.Words.{each}
 use Rattle.coordinator_log.specs.State.{LogState}
 use Rattle.tx_world.specs.State.{TxState}
 use Rattle.script_runner.specs.LogRun.{LogGoes, LogStays}
-use Rattle.script_runner.specs.RunState.{AreBelow, HaveSameCalls}
+use Rattle.script_runner.specs.RunState.{AreBelow, HaveSameCalls, Holds, RunState, RunsOn}
 
 -- a log that nothing touched
 pub goes_same : {D : Type 0} (faults : D → ℕ) (honest : Bool) (image : D → List ℕ → Type 0) (log : LogState D) → LogGoes faults honest image log log
@@ -37,6 +37,14 @@ stays_then faults a b c first second p q =
       unarmed = λ none. q.unarmed (p.unarmed none);
       life = q.life ∙ p.life;
     }
+
+-- and of the run
+pub runs_same : {D : Type 0} (faults : D → ℕ) (honest : Bool) (image : D → List ℕ → Type 0) (log : LogState D) (r : RunState) → Holds honest image log r → RunsOn faults honest image log log r r
+runs_same faults honest image log r h = record { script = refl; objects = refl; holds = h; tells = λ start told. told }
+
+pub runs_then : {D : Type 0} (faults : D → ℕ) (honest : Bool) (image : D → List ℕ → Type 0) (a b c : LogState D) (p q r : RunState) → RunsOn faults honest image a b p q → RunsOn faults honest image b c q r → RunsOn faults honest image a c p r
+runs_then faults honest image a b c p q r first second =
+    record { script = second.script ∙ first.script; objects = second.objects ∙ first.objects; holds = second.holds; tells = λ start told. second.tells start (first.tells start told) }
 
 -- no part entered a call
 pub calls_then : (a b c : List TxState) → HaveSameCalls a b → HaveSameCalls b c → HaveSameCalls a c

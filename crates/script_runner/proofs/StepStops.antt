@@ -232,11 +232,17 @@ step_stopped {D} faults honest image a mid q at d up down script objects calls w
     record {
       log = step_log faults honest image a at;
       stays = step_stays faults honest image a at;
-      holds = stopped_holds faults honest image a mid q at d down script objects worlds told kept;
-      tells = λ start tells. subst (λ (T : List Placed). Tells faults honest image start a.to T) (sym trace) (stopped_tells faults honest image start a mid at d up tells);
+      runs = record {
+        script = script;
+        objects = objects;
+        holds = stopped_holds faults honest image a mid q at d down script objects worlds told kept;
+        tells = λ start tells. subst (λ (T : List Placed). Tells faults honest image start a.to T) (sym trace) (stopped_tells faults honest image start a mid at d up tells);
+      };
       calls = λ u. calls u ∙ step_calls a.run.worlds a.t a.y at.made d.did.calls u;
-      stepped = one_more faults honest a (state_of a.t q.worlds) d.did here;
-      some = stopped_advances faults honest a mid q.trace d trace;
-      apart = λ same. absurd (not_both a.from.is_up up (sym same ∙ down));
-      nearer = subst (λ (z : TxState). steps_left z.world < steps_left (was a).world) (sym here) at.nearer;
+      did = record {
+        stepped = one_more faults honest a (state_of a.t q.worlds) d.did here;
+        some = stopped_advances faults honest a mid q.trace d trace;
+        apart = λ same. absurd (not_both a.from.is_up up (sym same ∙ down));
+        nearer = subst (λ (z : TxState). steps_left z.world < steps_left (was a).world) (sym here) at.nearer;
+      };
     }

@@ -21,7 +21,7 @@ use Rattle.dtx_model.specs.Observed.{observe}
 use Rattle.dtx_model.specs.Replies.{all_due}
 use Rattle.dtx_model.specs.Tied.{tied as is_tied_history}
 use Rattle.dtx_model.specs.World.{World, core}
-use Rattle.dtx_model.specs.Steps.{Done, Full, StoppedNow, StoppedBefore, Step, Calls, Replies, Acts, Coordinates, Delivers, Stops, Restarts, appended, block_at, entered, freed, local_pending, pending}
+use Rattle.dtx_model.specs.Steps.{Done, Full, StoppedNow, StoppedBefore, Step, Calls, Replies, Acts, Coordinates, Delivers, Stops, Restarts, appended, block_at, freed, local_pending, pending}
 use Rattle.dtx_model.specs.Caused.{HasStepped, IsCallOf, IsIn, IsOwnRun, has_object, is_begin_sent, may_coordinate, plans_of, world_of}
 use Rattle.dtx_model.specs.Traces.{Placed, history, placed}
 use Rattle.dtx_model.specs.Replay.{is_in_replay, world_at}
@@ -43,7 +43,7 @@ use Rattle.tx_cells.specs.Cell.{untouched}
 use Rattle.tx_cells.proofs.Kept.{turned_calls}
 use Rattle.script_runner.specs.LogRun.{LogGoes, LogStays}
 use Rattle.script_runner.specs.Objects.{DoesGiven}
-use Rattle.script_runner.specs.RunState.{Advances, AreNumbered, GoesWith, HaveSameCalls, Holds, IsRecordKept, IsTied, RunState, Tells, state_of}
+use Rattle.script_runner.specs.RunState.{Advances, AreNumbered, GoesWith, HaveSameCalls, Holds, IsRecordKept, IsTied, RunState, RunsOn, StepsOn, Tells, state_of}
 use Rattle.script_runner.proofs.Deeds.{is_done, untelling_block, untelling_commit}
 use Rattle.script_runner.proofs.Fitting.{fits_turn, goes_turn, had_turn}
 use Rattle.script_runner.proofs.Goes.{MayTurn, acts_running, answered_down, answered_up, goes_step, named_in_replay, named_turn}
@@ -359,13 +359,9 @@ none_beyond r t k tied more = untouched_pending r.script r.objects r.worlds (pas
 pub record IsStepped {D : Type 0} (faults : D → ℕ) (honest : Bool) (image : D → List ℕ → Type 0) (a : StepOf D) (q : RunState) : Type 0 where
   pub log : LogGoes faults honest image a.from a.to
   pub stays : LogStays faults a.from a.to
-  pub holds : Holds honest image a.to q
-  pub tells : (start : LogState D) → Tells faults honest image start a.from (past_of a.run.trace) → Tells faults honest image start a.to (past_of q.trace)
+  pub runs : RunsOn faults honest image a.from a.to a.run q
   pub calls : HaveSameCalls a.run.worlds q.worlds
-  pub stepped : (m : ℕ) (start : World) → HasStepped a.t.value a.k m start (was a).world → HasStepped a.t.value a.k (suc m) start (state_of a.t q.worlds).world
-  pub some : Advances a.run.script a.t a.k a.run.trace q.trace
-  pub apart : a.to.is_up ≡ a.from.is_up → (u : TxNo) → u ≢ a.t → history u.value (past_of q.trace) ≡ history u.value (past_of a.run.trace)
-  pub nearer : steps_left (state_of a.t q.worlds).world < steps_left (was a).world
+  pub did : StepsOn a.t a.k a.from.is_up a.to.is_up a.run q
 
 -- one more step was done of the transaction, as it is now
 pub one_more : {D : Type 0} (faults : D → ℕ) (honest : Bool) (a : StepOf D) (z : TxState) → DidStep faults honest a → z ≡ a.y → (m : ℕ) (start : World)
@@ -386,12 +382,18 @@ step_done {D} faults honest image a new at stays written_down =
     record {
       log = step_log faults honest image a at;
       stays = step_stays faults honest image a at;
-      holds = step_holds faults honest image a new at d same noted;
-      tells = λ start tells.
-          subst (λ (T : List Placed). Tells faults honest image start a.to T) (sym noted) (step_tells faults honest image start a at d same (past_of a.run.trace) tells);
+      runs = record {
+        script = refl;
+        objects = refl;
+        holds = step_holds faults honest image a new at d same noted;
+        tells = λ start tells.
+            subst (λ (T : List Placed). Tells faults honest image start a.to T) (sym noted) (step_tells faults honest image start a at d same (past_of a.run.trace) tells);
+      };
       calls = step_calls a.run.worlds a.t a.y at.made d.calls;
-      stepped = one_more faults honest a (state_of a.t (worlds_after a)) d here;
-      some = step_advances faults honest image a new at d same noted;
-      apart = λ up u other. ap (history u.value) noted ∙ history_there u a.t (past_of a.run.trace) es other;
-      nearer = subst (λ (z : TxState). steps_left z.world < steps_left (was a).world) (sym here) at.nearer;
+      did = record {
+        stepped = one_more faults honest a (state_of a.t (worlds_after a)) d here;
+        some = step_advances faults honest image a new at d same noted;
+        apart = λ up u other. ap (history u.value) noted ∙ history_there u a.t (past_of a.run.trace) es other;
+        nearer = subst (λ (z : TxState). steps_left z.world < steps_left (was a).world) (sym here) at.nearer;
+      };
     }

@@ -1,16 +1,15 @@
 -- Runs on threads, and replays that stand in their place.
-use Rattle.std.proofs.Common.{◌≡◌, ℕ, ◌+◌, ◌-◌, ◌<◌, ◌≤◌, Bool, true, false, ◌&&◌, ◌||◌, IsTrue, List, [], ◌∷◌, Option, Some, None, arith, refl, ap, sym, ◌∙◌, subst}
+use Rattle.std.proofs.Common.{◌≡◌, ℕ, ◌+◌, ◌-◌, ◌≤◌, Bool, true, false, ◌&&◌, ◌||◌, IsTrue, List, [], ◌∷◌, Option, Some, None, arith, refl, subst}
 use Rattle.std.specs.Prelude.{Result, Ok, Err, IfOk, is_some}
 use Rattle.std.proofs.lemmas.Bool.Decides.{nat_tests}
 use Rattle.dtx_values.specs.declared.entry.Entry.{Entry}
 use Rattle.dtx_values.specs.declared.entry.Entry.TheVariants.{Voted, PromoteReply, OwnerAnswered, Requested}
 use Rattle.dtx_values.specs.declared.note.Plan.{Plan}
 use Rattle.dtx_values.specs.declared.number.RmNo.{RmNo}
-use Rattle.dtx_values.specs.declared.number.TxNo.{TxNo}
 use Rattle.dtx_values.specs.declared.script.Line.{Line}
 use Rattle.dtx_model.specs.AtLog.{at_log}
 use Rattle.dtx_model.specs.Caused.{Caused, calls_in, has_object, is_as_planned, is_up_to, plans_of, is_vote_planned, is_promotion_planned, is_outcome_planned, is_request_planned}
-use Rattle.dtx_model.specs.History.{HasOneOutcome, IsComplete, IsHistory}
+use Rattle.dtx_model.specs.History.{HasOneOutcome, IsComplete}
 use Rattle.dtx_model.specs.Plans.{manager_of}
 use Rattle.dtx_model.specs.Replay.{due_calls}
 use Rattle.dtx_model.specs.Traces.{Placed, calls, history}

@@ -1,5 +1,5 @@
 -- What a replay promises of its trace.
-use Rattle.std.specs.Prelude.{ℕ, ◌-◌, Bool, List}
+use Rattle.std.specs.Prelude.{ℕ, Bool, List}
 use Rattle.dtx_values.specs.declared.number.TxNo.{TxNo}
 use Rattle.dtx_values.specs.declared.script.Line.{Line}
 use Rattle.dtx_model.specs.Words.{past_of}

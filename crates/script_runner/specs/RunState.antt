@@ -1,5 +1,5 @@
 -- A replay under way.
-use Rattle.std.specs.Prelude.{ℕ, ◌-◌, ◌<◌, ◌≤◌, ◌≡◌, nat_lt, Bool, true, false, ◌&&◌, not, List, [], length, Option, Some, is_some, IsTrue, slice_index_or, if◌then◌else◌}
+use Rattle.std.specs.Prelude.{ℕ, suc, ◌-◌, ◌<◌, ◌≤◌, ◌≡◌, ◌≢◌, nat_lt, Bool, true, false, ◌&&◌, not, List, [], length, Option, Some, is_some, IsTrue, slice_index_or, if◌then◌else◌}
 use Rattle.dtx_values.specs.declared.entry.Entry.{Entry}
 use Rattle.dtx_values.specs.declared.number.ActorNo.{ActorNo}
 use Rattle.dtx_values.specs.declared.number.TxNo.{TxNo}
@@ -9,15 +9,16 @@ use Rattle.dtx_values.specs.declared.script.Line.{Line}
 use Rattle.dtx_model.specs.Words.{always, each, has, kth, past_of}
 use Rattle.dtx_model.specs.AtLog.{at_log, is_called, is_log_up, open_right}
 use Rattle.dtx_model.specs.Tied.{tied as is_tied_history}
-use Rattle.dtx_model.specs.World.{core}
+use Rattle.dtx_model.specs.World.{World, core}
 use Rattle.dtx_model.specs.Log.{CommitRecord, first_of}
 use Rattle.dtx_model.specs.Promotes.{identifier_of}
 use Rattle.dtx_model.specs.Steps.{Step, StepName, Stops, Restarts, after, pending}
-use Rattle.dtx_model.specs.Caused.{AreMadeOnce, IsCallOf, IsIn, IsNamed, IsOwnRun, Settled, has_object, is_as_planned, is_begin_sent, plans_of}
+use Rattle.dtx_model.specs.Caused.{AreMadeOnce, HasStepped, IsCallOf, IsIn, IsNamed, IsOwnRun, Settled, has_object, is_as_planned, is_begin_sent, plans_of}
 use Rattle.dtx_model.specs.Traces.{Placed, history}
 use Rattle.dtx_model.specs.Replay.{HasSettled, RoundsRan, StepsRan, after_turn, is_in_replay, is_passed, last_turn, world_at}
 use Rattle.coordinator_log.specs.Slots.{open_records}
 use Rattle.coordinator_log.specs.State.{LogState}
+use Rattle.world_laws.specs.Left.{steps_left}
 use Rattle.scope_context.specs.Standing.{Standing}
 use Rattle.tx_world.specs.AtLog.{AreFit, Fits, IsHad, IsOurs, id_of}
 use Rattle.tx_world.specs.Prepared.{NamesPrepared}
@@ -92,9 +93,12 @@ pub record Tells {D : Type 0} (faults : D → ℕ) (honest : Bool) (image : D �
   pub opens : IsTrue honest → open_records start.slots ≡ [] → open_right [] T ≡ true
   pub unlike : IsTrue honest → has is_no_log_answer (at_log T) ≡ false
 
--- what the trace told of the log before a part of a run, it tells after it
-abbrev pub StillTells : {D : Type 0} → (D → ℕ) → Bool → (D → List ℕ → Type 0) → LogState D → LogState D → RunState → RunState → Type 0
-StillTells {D} faults honest image from to old new = (start : LogState D) → Tells faults honest image start from (past_of old.trace) → Tells faults honest image start to (past_of new.trace)
+-- How a part of a run goes, over a log that was `from` before it and is `to` after it: the script and the objects stay, what holds of a run holds of it, and what the trace told of the log it still tells.
+pub record RunsOn {D : Type 0} (faults : D → ℕ) (honest : Bool) (image : D → List ℕ → Type 0) (from to : LogState D) (old new : RunState) : Type 0 where
+  pub script : new.script ≡ old.script
+  pub objects : new.objects ≡ old.objects
+  pub holds : Holds honest image to new
+  pub tells : (start : LogState D) → Tells faults honest image start from (past_of old.trace) → Tells faults honest image start to (past_of new.trace)
 
 -- each call that was entered is one of a line before this one
 abbrev pub IsBelow : ℕ → TxState → Type 0
@@ -115,6 +119,13 @@ pub record Advances (s : List Line) (t : TxNo) (k : ℕ) (old new : List Placed)
   pub named : IsNamed (world_at s t (past_of old)) name step
   pub in_replay : is_in_replay step ≡ true
   pub done : past_of new ≡ after_turn s t step (past_of old)
+
+-- The k-th pending step of t was done, over a log that was up or not: it is one more of those that were done, and the trace has it; where the log is up as it was, no other transaction's history went on; and it leaves fewer steps.
+pub record StepsOn (t : TxNo) (k : ℕ) (was_up is_up : Bool) (old new : RunState) : Type 0 where
+  pub stepped : (m : ℕ) (start : World) → HasStepped t.value k m start (state_of t old.worlds).world → HasStepped t.value k (suc m) start (state_of t new.worlds).world
+  pub some : Advances old.script t k old.trace new.trace
+  pub apart : is_up ≡ was_up → (u : TxNo) → u ≢ t → history u.value (past_of new.trace) ≡ history u.value (past_of old.trace)
+  pub nearer : steps_left (state_of t new.worlds).world < steps_left (state_of t old.worlds).world
 
 -- so many steps of t were done, each the k-th that was pending; the traces are read newest first
 abbrev pub StepsDone : List Line → TxNo → ℕ → ℕ → List Placed → List Placed → Type 0

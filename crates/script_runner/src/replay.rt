@@ -30,7 +30,7 @@ ghost use Rattle.script_runner.specs.Ending.{EndsAs, HasNone};
 ghost use Rattle.script_runner.specs.LogRun.{IsCounted, LogGoes, LogStays, has_log_line, is_log_line};
 ghost use Rattle.script_runner.specs.Rights.{AreAppendsBacked, AreOutcomesWithheld, HasOneRight};
 ghost use Rattle.script_runner.specs.Run.{IsRunOf};
-ghost use Rattle.script_runner.specs.RunState.{Advances, AreBelow, AreSettledBelow, HaveSameCalls, Holds, IsBelow, IsRecordKept, IsRoundAt, IsTied, IsToPlan, Settles, StillTells, halted, record_in, reopened, state_of};
+ghost use Rattle.script_runner.specs.RunState.{Advances, AreBelow, AreSettledBelow, HaveSameCalls, Holds, IsBelow, IsRecordKept, IsRoundAt, IsTied, IsToPlan, RunsOn, Settles, StepsOn, halted, record_in, reopened, state_of};
 ghost use Rattle.script_calls.specs.Scoped.{AreOnce, AreOpen, IsUnopened, calls_given, nothing_open, rollbacks, rolled_at, scopes_at};
 ghost use Rattle.script_runner.specs.Waits.{AreWaitsAnswered};
 ghost use Rattle.tx_world.specs.AtLog.{Fits};
@@ -176,10 +176,7 @@ impl<'a> Run<'a> {
         requires below { IsBelow n (state_of t self.old.worlds) }
         requires answers { MayAnswer t.value (state_of t self.old.worlds).world c.now done }
         ensures contexts { self.new.contexts ≡ self.old.contexts }
-        ensures script { self.new.script ≡ self.old.script }
-        ensures objects { self.new.objects ≡ self.old.objects }
-        ensures holds { OnOk result (Holds D.honest D.image log.now self.new) }
-        ensures tells { OnOk result (StillTells D.faults D.honest D.image log.now log.now self.old self.new) }
+        ensures runs { OnOk result (RunsOn D.faults D.honest D.image log.now log.now self.old self.new) }
         ensures others { (u : TxNo) → u ≢ t → state_of u self.new.worlds ≡ state_of u self.old.worlds }
         ensures entered { OnOk result (IsBelow (n + 1) (state_of t self.new.worlds)) }
         ensures done { OnOk result (past_of self.new.trace ≡ after_turn self.old.script t (Calls n actor c.now done) (past_of self.old.trace)) }
@@ -252,15 +249,9 @@ impl<'a> Run<'a> {
         ensures contexts { self.new.contexts ≡ self.old.contexts }
         ensures log { LogGoes D.faults D.honest D.image log.old log.new }
         ensures stays { LogStays D.faults log.old log.new }
-        ensures script { self.new.script ≡ self.old.script }
-        ensures objects { self.new.objects ≡ self.old.objects }
-        ensures holds { OnOk result (Holds D.honest D.image log.new self.new) }
-        ensures tells { OnOk result (StillTells D.faults D.honest D.image log.old log.new self.old self.new) }
+        ensures runs { OnOk result (RunsOn D.faults D.honest D.image log.old log.new self.old self.new) }
         ensures calls { HaveSameCalls self.old.worlds self.new.worlds }
-        ensures stepped { result ≡ Ok true → (m : ℕ) (start : World) → HasStepped t.value k m start (state_of t self.old.worlds).world → HasStepped t.value k (suc m) start (state_of t self.new.worlds).world }
-        ensures some { result ≡ Ok true → Advances self.old.script t k self.old.trace self.new.trace }
-        ensures apart { result ≡ Ok true → log.new.is_up ≡ log.old.is_up → (u : TxNo) → u ≢ t → history u.value (past_of self.new.trace) ≡ history u.value (past_of self.old.trace) }
-        ensures nearer { result ≡ Ok true → steps_left (state_of t self.new.worlds).world < steps_left (state_of t self.old.worlds).world }
+        ensures did { result ≡ Ok true → StepsOn t k log.old.is_up log.new.is_up self.old self.new }
         ensures none { result ≡ Ok false → kth (pending (state_of t self.old.worlds).world) k ≡ None }
         ensures none_here { result ≡ Ok false → kth (pending (world_at self.old.script t (past_of self.old.trace))) k ≡ None }
         ensures unchanged { result ≡ Ok false → (self.new ≡ self.old) × (log.new ≡ log.old) }
@@ -301,10 +292,7 @@ impl<'a> Run<'a> {
         ensures contexts { self.new.contexts ≡ self.old.contexts }
         ensures log { LogGoes D.faults D.honest D.image log.old log.new }
         ensures stays { LogStays D.faults log.old log.new }
-        ensures script { self.new.script ≡ self.old.script }
-        ensures objects { self.new.objects ≡ self.old.objects }
-        ensures holds { OnOk result (Holds D.honest D.image log.new self.new) }
-        ensures tells { OnOk result (StillTells D.faults D.honest D.image log.old log.new self.old self.new) }
+        ensures runs { OnOk result (RunsOn D.faults D.honest D.image log.old log.new self.old self.new) }
         ensures calls { HaveSameCalls self.old.worlds self.new.worlds }
         ensures did { IfOk result (λ m. HasDone t.value (state_of t self.new.worlds).world k n m) }
         ensures done { IfOk result (λ m. HasDoneAt self.old.script t k n m (past_of self.old.trace) (past_of self.new.trace)) }
@@ -323,10 +311,7 @@ impl<'a> Run<'a> {
         ensures contexts { self.new.contexts ≡ self.old.contexts }
         ensures log { LogGoes D.faults D.honest D.image log.old log.new }
         ensures stays { LogStays D.faults log.old log.new }
-        ensures script { self.new.script ≡ self.old.script }
-        ensures objects { self.new.objects ≡ self.old.objects }
-        ensures holds { OnOk result (Holds D.honest D.image log.new self.new) }
-        ensures tells { OnOk result (StillTells D.faults D.honest D.image log.old log.new self.old self.new) }
+        ensures runs { OnOk result (RunsOn D.faults D.honest D.image log.old log.new self.old self.new) }
         ensures calls { HaveSameCalls self.old.worlds self.new.worlds }
         ensures settled { OnOk result (pending (state_of t self.new.worlds).world ≡ []) }
         ensures done { OnOk result (Settles self.old.script t self.old.trace self.new.trace) }
@@ -345,10 +330,7 @@ impl<'a> Run<'a> {
         requires holds { Holds D.honest D.image log.old self.old }
         ensures log { LogGoes D.faults D.honest D.image log.old log.new }
         ensures stays { LogStays D.faults log.old log.new }
-        ensures script { self.new.script ≡ self.old.script }
-        ensures objects { self.new.objects ≡ self.old.objects }
-        ensures holds { OnOk result (Holds D.honest D.image log.new self.new) }
-        ensures tells { OnOk result (StillTells D.faults D.honest D.image log.old log.new self.old self.new) }
+        ensures runs { OnOk result (RunsOn D.faults D.honest D.image log.old log.new self.old self.new) }
         ensures turns { OnOk result ((start : List Placed) → IsRoundAt self.old.script start 1 (past_of self.old.trace) → IsRoundAt self.old.script start 1 (past_of self.new.trace)) }
         ensures settled { OnOk result (log.new.is_up ≡ log.old.is_up → AreSettledBelow self.old.script (TxNo.MAX + 1) (past_of self.new.trace)) }
     {
@@ -364,10 +346,7 @@ impl<'a> Run<'a> {
         requires holds { Holds D.honest D.image log.old self.old }
         ensures log { LogGoes D.faults D.honest D.image log.old log.new }
         ensures stays { LogStays D.faults log.old log.new }
-        ensures script { self.new.script ≡ self.old.script }
-        ensures objects { self.new.objects ≡ self.old.objects }
-        ensures holds { OnOk result (Holds D.honest D.image log.new self.new) }
-        ensures tells { OnOk result (StillTells D.faults D.honest D.image log.old log.new self.old self.new) }
+        ensures runs { OnOk result (RunsOn D.faults D.honest D.image log.old log.new self.old self.new) }
         ensures turns { OnOk result ((start : List Placed) → IsRoundAt self.old.script start 1 (past_of self.old.trace) → IsRoundAt self.old.script start 1 (past_of self.new.trace)) }
         ensures settled { OnOk result (AreSettledBelow self.old.script (TxNo.MAX + 1) (past_of self.new.trace)) }
     {
@@ -416,10 +395,7 @@ impl<'a> Run<'a> {
         requires given { (t : TxNo) (c : Call) (i : ℕ) → slice_get (rollbacks (rolled_at actor self.old.contexts)) i ≡ Some (t, c) → IsCallOf self.old.script t.value n actor c }
         requires once { AreOnce (rolled_at actor self.old.contexts) }
         ensures contexts { self.new.contexts ≡ self.old.contexts }
-        ensures script { self.new.script ≡ self.old.script }
-        ensures objects { self.new.objects ≡ self.old.objects }
-        ensures holds { OnOk result (Holds D.honest D.image log.now self.new) }
-        ensures tells { OnOk result (StillTells D.faults D.honest D.image log.now log.now self.old self.new) }
+        ensures runs { OnOk result (RunsOn D.faults D.honest D.image log.now log.now self.old self.new) }
         ensures entered { OnOk result (AreBelow (n + 1) self.new.worlds) }
         ensures done { OnOk result (past_of self.new.trace ≡ after_calls self.old.script n actor (rollbacks (rolled_at actor self.old.contexts)) (past_of self.old.trace)) }
     {
@@ -439,10 +415,7 @@ impl<'a> Run<'a> {
         requires open { AreOpen self.old.contexts (lines_before self.old.script n) }
         requires unopened { IsUnopened l.now.body (scopes_at l.now.actor self.old.contexts) }
         requires no_call { call_of self.old.script l.now.body ≡ None }
-        ensures script { self.new.script ≡ self.old.script }
-        ensures objects { self.new.objects ≡ self.old.objects }
-        ensures holds { OnOk result (Holds D.honest D.image log.now self.new) }
-        ensures tells { OnOk result (StillTells D.faults D.honest D.image log.now log.now self.old self.new) }
+        ensures runs { OnOk result (RunsOn D.faults D.honest D.image log.now log.now self.old self.new) }
         ensures entered { OnOk result (AreBelow (n + 1) self.new.worlds) }
         ensures done { OnOk result (past_of self.new.trace ≡ after_scope self.old.script n l.now (scopes_at l.now.actor self.old.contexts) (past_of self.old.trace)) }
         ensures scopes { OnOk result ((before : List Line) → AreOpen self.old.contexts before → AreOpen self.new.contexts (l.now ∷ before)) }
@@ -469,10 +442,7 @@ impl<'a> Run<'a> {
         ensures contexts { self.new.contexts ≡ self.old.contexts }
         ensures log { LogGoes D.faults D.honest D.image log.old log.new }
         ensures stays { LogStays D.faults log.old log.new }
-        ensures script { self.new.script ≡ self.old.script }
-        ensures objects { self.new.objects ≡ self.old.objects }
-        ensures holds { OnOk result (Holds D.honest D.image log.new self.new) }
-        ensures tells { OnOk result (StillTells D.faults D.honest D.image log.old log.new self.old self.new) }
+        ensures runs { OnOk result (RunsOn D.faults D.honest D.image log.old log.new self.old self.new) }
         ensures entered { OnOk result (AreBelow (n + 1) self.new.worlds) }
         ensures done { OnOk result (CallRan self.old.script actor n (Some (t, c.now)) (past_of self.old.trace) (past_of self.new.trace)) }
     {
@@ -504,10 +474,7 @@ impl<'a> Run<'a> {
         ensures contexts { self.new.contexts ≡ self.old.contexts }
         ensures log { LogGoes D.faults D.honest D.image log.old log.new }
         ensures life { log.new.life ≡ log.old.life }
-        ensures script { self.new.script ≡ self.old.script }
-        ensures objects { self.new.objects ≡ self.old.objects }
-        ensures holds { OnOk result (Holds D.honest D.image log.new self.new) }
-        ensures tells { OnOk result (StillTells D.faults D.honest D.image log.old log.new self.old self.new) }
+        ensures runs { OnOk result (RunsOn D.faults D.honest D.image log.old log.new self.old self.new) }
         ensures done { OnOk result (past_of self.new.trace ≡ at_the_log (LogWord (Armed k image)) (at_the_log (Called n actor Fine) (past_of self.old.trace))) }
     {
         self.trace.reserve(2)?;
@@ -531,10 +498,7 @@ impl<'a> Run<'a> {
         ensures contexts { self.new.contexts ≡ self.old.contexts }
         ensures log { LogGoes D.faults D.honest D.image log.old log.new }
         ensures life { log.new.life ≤ log.old.life + 1 }
-        ensures script { self.new.script ≡ self.old.script }
-        ensures objects { self.new.objects ≡ self.old.objects }
-        ensures holds { OnOk result (Holds D.honest D.image log.new self.new) }
-        ensures tells { OnOk result (StillTells D.faults D.honest D.image log.old log.new self.old self.new) }
+        ensures runs { OnOk result (RunsOn D.faults D.honest D.image log.old log.new self.old self.new) }
         ensures calls { HaveSameCalls self.old.worlds self.new.worlds }
         ensures done { OnOk result ((x : Reopening) × (past_of self.new.trace ≡ after_restart n actor x (past_of self.old.trace))) }
     {
@@ -570,10 +534,7 @@ impl<'a> Run<'a> {
         ensures log { LogGoes D.faults D.honest D.image log.old log.new }
         ensures stays { is_log_line l.now.body ≡ false → LogStays D.faults log.old log.new }
         ensures life { log.new.life ≤ log.old.life + 1 }
-        ensures script { self.new.script ≡ self.old.script }
-        ensures objects { self.new.objects ≡ self.old.objects }
-        ensures holds { OnOk result (Holds D.honest D.image log.new self.new) }
-        ensures tells { OnOk result (StillTells D.faults D.honest D.image log.old log.new self.old self.new) }
+        ensures runs { OnOk result (RunsOn D.faults D.honest D.image log.old log.new self.old self.new) }
         ensures entered { OnOk result (AreBelow (n + 1) self.new.worlds) }
         ensures done { OnOk result ((before : List Line) → length before + 1 ≡ n → before ≡ lines_before self.old.script n → AreOpen self.old.contexts before → LineRan self.old.script before l.now (past_of self.old.trace) (past_of self.new.trace)) }
         ensures scopes { OnOk result ((before : List Line) → AreOpen self.old.contexts before → AreOpen self.new.contexts (l.now ∷ before)) }
@@ -598,10 +559,7 @@ impl<'a> Run<'a> {
         requires life { log.old.life ≤ 2 ^ 62 }
         ensures log { LogGoes D.faults D.honest D.image log.old log.new }
         ensures stays { has_log_line self.old.script ≡ false → LogStays D.faults log.old log.new }
-        ensures script { self.new.script ≡ self.old.script }
-        ensures objects { self.new.objects ≡ self.old.objects }
-        ensures holds { OnOk result (Holds D.honest D.image log.new self.new) }
-        ensures tells { OnOk result (StillTells D.faults D.honest D.image log.old log.new self.old self.new) }
+        ensures runs { OnOk result (RunsOn D.faults D.honest D.image log.old log.new self.old self.new) }
         ensures ran { OnOk result (LinesRan self.old.script (past_of self.old.script) (past_of self.new.trace)) }
     {
         let lines = self.plans.lines();

@@ -72,7 +72,7 @@ returns-clause-replayed g c =
     let end = c.settle_all.new.self.trace in
     let ran : LinesRan s (past_of s) (past_of lines) = subst (λ (r : List Line). LinesRan r (past_of r) (past_of lines)) first c.in_ok-lines.ensures.ran in
     let rounds : IsRoundAt s (past_of lines) 1 (past_of end) =
-    subst (λ (r : List Line). IsRoundAt r (past_of lines) 1 (past_of end)) (c.lines.ensures.script ∙ first) (c.in_ok-settle_all.ensures.turns (past_of lines) (turn-first c.lines.new.self.script (past_of lines))) in
+    subst (λ (r : List Line). IsRoundAt r (past_of lines) 1 (past_of end)) (c.in_ok-lines.ensures.runs.script ∙ first) (c.in_ok-settle_all.ensures.turns (past_of lines) (turn-first c.lines.new.self.script (past_of lines))) in
     subst (λ (T : List Placed). IsReplayed s (past_of T)) (sym c.into_trace.ensures.trace) (is_replayed s 1 lines end ran rounds)
 
 pub returns-clause-settled : goal.returns-clause-settled
@@ -80,7 +80,7 @@ returns-clause-settled g c t =
     let s = c.args.lines.now in
     let first : c.in_ok-run.run'.script ≡ s = ap (λ (r : RunState). r.script) c.in_ok-run.ensures in
     let below : AreSettledBelow s 257 (past_of c.settle_all.new.self.trace) =
-    subst (λ (r : List Line). AreSettledBelow r 257 (past_of c.settle_all.new.self.trace)) (c.lines.ensures.script ∙ first) c.in_ok-settle_all.ensures.settled in
+    subst (λ (r : List Line). AreSettledBelow r 257 (past_of c.settle_all.new.self.trace)) (c.in_ok-lines.ensures.runs.script ∙ first) c.in_ok-settle_all.ensures.settled in
     subst (λ (T : List Placed). Settled s (history t.value (past_of T))) (sym c.into_trace.ensures.trace) (below t (omega (arith, t.in_range.1)))
 
 pub returns-clause-planned : goal.returns-clause-planned
@@ -90,10 +90,10 @@ returns-clause-planned g c t =
     let script : c.in_ok-run.run'.script ≡ s = ap (λ (r : RunState). r.script) c.in_ok-run.ensures in
     let objects : c.in_ok-run.run'.objects ≡ o = ap (λ (r : RunState). r.objects) c.in_ok-run.ensures in
     let end = c.settle_all.new.self in
-    let tied = c.in_ok-settle_all.ensures.holds.tied t in
+    let tied = c.in_ok-settle_all.ensures.runs.holds.tied t in
     subst (λ (T : List Placed). IsToPlan s o (history t.value (past_of T))) (sym c.into_trace.ensures.trace)
-    (subst (λ (r : List Line). IsToPlan r o (history t.value (past_of end.trace))) (c.settle_all.ensures.script ∙ (c.lines.ensures.script ∙ script))
-    (subst (λ (k : ℕ). IsToPlan end.script k (history t.value (past_of end.trace))) (c.settle_all.ensures.objects ∙ (c.lines.ensures.objects ∙ objects))
+    (subst (λ (r : List Line). IsToPlan r o (history t.value (past_of end.trace))) (c.in_ok-settle_all.ensures.runs.script ∙ (c.in_ok-lines.ensures.runs.script ∙ script))
+    (subst (λ (k : ℕ). IsToPlan end.script k (history t.value (past_of end.trace))) (c.in_ok-settle_all.ensures.runs.objects ∙ (c.in_ok-lines.ensures.runs.objects ∙ objects))
     (subst (λ (h : List Entry). IsToPlan end.script end.objects h) tied.past tied.planned)))
 
 -- so it does at the end
@@ -101,7 +101,7 @@ told_at_end : (g : Over) (c : In_ok-settle_all g) → Tells g.D.Disk.faults g.D.
 told_at_end g c =
     let log = c.args.log.now in
     let told = told_first g.D.Disk.faults g.D.Disk.honest g.D.Disk.image log c.args.lines.now _ _ c.in_ok-run.run' c.in_ok-run.ensures c.requires.unarmed (λ k. c.is_up.ensures.images k c.requires.up) in
-    c.in_ok-settle_all.ensures.tells log (c.in_ok-lines.ensures.tells log told)
+    c.in_ok-settle_all.ensures.runs.tells log (c.in_ok-lines.ensures.runs.tells log told)
 
 pub returns-clause-counted : goal.returns-clause-counted
 returns-clause-counted g c =
@@ -121,11 +121,11 @@ returns-clause-unlike g c h =
 
 pub returns-clause-tied : goal.returns-clause-tied
 returns-clause-tied g c h t =
-    let end = c.in_ok-settle_all.ensures.holds in
+    let end = c.in_ok-settle_all.ensures.runs.holds in
     ap (λ (T : List Placed). tied (history t.value (past_of T))) c.into_trace.ensures.trace ∙ (ap tied (sym (end.tied t).past) ∙ end.sound h t)
 
 pub returns-clause-up : goal.returns-clause-up
-returns-clause-up g c = c.in_ok-settle_all.ensures.holds.up ∙ ap (λ (T : List Placed). is_log_up (past_of T)) (sym c.into_trace.ensures.trace)
+returns-clause-up g c = c.in_ok-settle_all.ensures.runs.holds.up ∙ ap (λ (T : List Placed). is_log_up (past_of T)) (sym c.into_trace.ensures.trace)
 
 pub returns-clause-ends : goal.returns-clause-ends
 returns-clause-ends g c h =
@@ -135,4 +135,4 @@ returns-clause-ends g c h =
     let end = told_at_end g (goal.at.returns-clause-ends g c).In_ok-settle_all in
     let went = goes_then g.D.Disk.faults g.D.Disk.honest image log c.lines.new.log last c.lines.ensures.log c.settle_all.ensures.log in
     ends_as g.D.Disk.faults image log last c.settle_all.new.self c.into_trace.result c.into_trace.ensures.trace c.into_trace.ensures.numbered
-    (subst (λ b. Holds b image last c.settle_all.new.self) h c.in_ok-settle_all.ensures.holds) (end.foreign h) (went.logs h (λ bytes among. (_, c.is_up.ensures.images h c.requires.up bytes among))) (c.is_up-2.ensures.images h)
+    (subst (λ b. Holds b image last c.settle_all.new.self) h c.in_ok-settle_all.ensures.runs.holds) (end.foreign h) (went.logs h (λ bytes among. (_, c.is_up.ensures.images h c.requires.up bytes among))) (c.is_up-2.ensures.images h)

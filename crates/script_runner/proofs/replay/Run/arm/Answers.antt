@@ -20,18 +20,21 @@ written g c =
     two_written c.args.self.now.trace c.reserve.new.self.items c.push_reserved.new.self.items c.push_reserved-2.new.self.items (Called c.args.n c.args.actor Fine) (LogWord (Armed c.args.k c.args.image))
     (c.in_ok-reserve.ensures.items ∙ ap (λ (r : RunState). r.trace) c.self.view_is) c.push_reserved.ensures.items c.push_reserved-2.ensures.items
 
-pub returns-clause-holds : goal.returns-clause-holds
-returns-clause-holds g c =
-    holds_armed g.D.Disk.honest g.D.Disk.image c.args.log.now c.arm.new.self c.args.self.now _ c.args.n c.args.actor c.args.k c.args.image c.arm.ensures (ap (λ (r : RunState). r.script) c.self.view_is)
-    (ap (λ (r : RunState). r.objects) c.self.view_is)
-    (ap (λ (r : RunState). r.worlds) c.self.view_is) (written g (goal.at.returns-clause-holds g c).After-arm) c.requires.holds
-
-pub returns-clause-tells : goal.returns-clause-tells
-returns-clause-tells g c = λ start told.
+pub returns-clause-runs : goal.returns-clause-runs
+returns-clause-runs g c =
     let from = c.args.log.now in
     let to = c.arm.new.self in
+    let r = c.args.self.now in
+    let wrote = written g (goal.at.returns-clause-runs g c).After-arm in
     let goes = goes_armed g.D.Disk.faults g.D.Disk.honest g.D.Disk.image from to c.args.k c.args.image c.arm.ensures in
-    let here =
-    tells_armed g.D.Disk.faults g.D.Disk.honest g.D.Disk.image start from to (past_of c.args.self.now.trace) c.args.n c.args.actor c.args.k c.args.image c.requires.first goes
-    (ap (λ (l : LogState g.row.D.Denot). g.D.Disk.faults l.disk) c.arm.ensures) (ap (λ (l : LogState g.row.D.Denot). l.armed) c.arm.ensures) told in
-    subst (λ (T : List Placed). Tells g.D.Disk.faults g.D.Disk.honest g.D.Disk.image start to T) (sym (written g (goal.at.returns-clause-tells g c).After-arm)) here
+    let script = ap (λ (q : RunState). q.script) c.self.view_is in
+    let objects = ap (λ (q : RunState). q.objects) c.self.view_is in
+    record {
+      script = script;
+      objects = objects;
+      holds = holds_armed g.D.Disk.honest g.D.Disk.image from to r _ c.args.n c.args.actor c.args.k c.args.image c.arm.ensures script objects (ap (λ (q : RunState). q.worlds) c.self.view_is) wrote c.requires.holds;
+      tells = λ start told.
+          subst (λ (T : List Placed). Tells g.D.Disk.faults g.D.Disk.honest g.D.Disk.image start to T) (sym wrote)
+          (tells_armed g.D.Disk.faults g.D.Disk.honest g.D.Disk.image start from to (past_of r.trace) c.args.n c.args.actor c.args.k c.args.image c.requires.first goes (ap (λ (l : LogState g.row.D.Denot). g.D.Disk.faults l.disk) c.arm.ensures)
+          (ap (λ (l : LogState g.row.D.Denot). l.armed) c.arm.ensures) told);
+    }

@@ -61,10 +61,12 @@ returns g c =
     (noted ∙ ap (λ (r : RunState). r.trace ++ placed t (written log.is_up t.value x.world step)) c.self.view_is) in
     record {
       contexts = ap (λ (r : RunState). r.contexts) c.self.view_is;
-      script = did.script;
-      objects = did.objects;
-      tells = λ start. entered_tells g.D.Disk.faults g.D.Disk.honest g.D.Disk.image start log t c.args.n c.args.actor c.args.c.now c.args.done x y old new did;
-      holds = entered_holds g.D.Disk.faults g.D.Disk.honest g.D.Disk.image log t c.args.n c.args.actor c.args.c.now c.args.done x y old new did c.requires.given c.requires.holds;
+      runs = record {
+        script = did.script;
+        objects = did.objects;
+        tells = λ start. entered_tells g.D.Disk.faults g.D.Disk.honest g.D.Disk.image start log t c.args.n c.args.actor c.args.c.now c.args.done x y old new did;
+        holds = entered_holds g.D.Disk.faults g.D.Disk.honest g.D.Disk.image log t c.args.n c.args.actor c.args.c.now c.args.done x y old new did c.requires.given c.requires.holds;
+      };
       others = did.others;
       entered =
           subst (λ (z : TxState). IsBelow (c.args.n + 1) z) (sym did.now)

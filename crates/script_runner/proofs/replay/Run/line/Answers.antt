@@ -41,7 +41,7 @@ returns-in_ok-arm-in-Stop-clause-scopes g c = λ before ties.
 pub returns-in-Restart-clause-entered : goal.returns-in-Restart-clause-entered
 returns-in-Restart-clause-entered g c =
     on_ok_weaker c.restart.result
-    (λ held t. below_next c.args.n (state_of t c.restart.new.self.worlds) (below_same c.args.n c.args.self.now.worlds c.restart.new.self.worlds c.restart.ensures.calls c.requires.below t)) c.restart.ensures.holds
+    (λ held t. below_next c.args.n (state_of t c.restart.new.self.worlds) (below_same c.args.n c.args.self.now.worlds c.restart.new.self.worlds c.restart.ensures.calls c.requires.below t)) c.restart.ensures.runs
 
 pub returns-in-Restart-clause-done : goal.returns-in-Restart-clause-done
 returns-in-Restart-clause-done g c =
@@ -54,7 +54,7 @@ returns-in-Restart-clause-scopes g c =
     (λ held before ties.
     subst (λ (cs : List Standing). AreOpen cs (c.args.l.now ∷ before)) (sym c.restart.ensures.contexts)
     (open_same c.args.self.now.contexts before c.args.l.now (λ xs. log_no_scope c.args.l.now.body xs (ap is_log_line c.in-Restart.is)) ties))
-    c.restart.ensures.holds
+    c.restart.ensures.runs
 
 pub returns-in-Some-clause-life : goal.returns-in-Some-clause-life
 returns-in-Some-clause-life g c = let same = c.own_call.ensures.stays.life in omega (arith, same)
@@ -75,7 +75,7 @@ returns-in-Some-clause-scopes g c =
     on_ok_weaker c.own_call.result
     (λ held before ties. subst (λ (cs : List Standing). AreOpen cs (l ∷ before)) (sym c.own_call.ensures.contexts)
     (open_same c.args.self.now.contexts before l (λ xs. no_scope_call s l.body (c.in-Some.t, c.in-Some.c) xs gives) ties))
-    c.own_call.ensures.holds
+    c.own_call.ensures.runs
 
 pub returns-in-None-clause-log : goal.returns-in-None-clause-log
 returns-in-None-clause-log g c = goes_same g.D.Disk.faults g.D.Disk.honest g.D.Disk.image c.args.log.now

@@ -7,7 +7,7 @@ use Rattle.dtx_model.specs.Words.{kth, past_of}
 use Rattle.script_runner.specs.LogRun.{is_log_line}
 use Rattle.script_runner.specs.RunState.{RunState}
 use Rattle.script_calls.specs.Scoped.{AreOpen}
-use Rattle.script_runner.proofs.Going.{goes_same, goes_then, stays_same, stays_then}
+use Rattle.script_runner.proofs.Going.{goes_same, goes_then, runs_same, runs_then, stays_same, stays_then}
 use Rattle.script_calls.proofs.Openings.{past_next, unopened}
 use Rattle.script_runner.proofs.Replayed.{few, line_at, split_at}
 use Rattle.script_runner.proofs.RunningLines.{each_there, lines_more, none_there}
@@ -35,10 +35,7 @@ loop-l-init g c = record {
   log = goes_same g.D.Disk.faults g.D.Disk.honest g.D.Disk.image c.args.log.now;
   stays = λ off. stays_same g.D.Disk.faults c.args.log.now;
   life = omega arith;
-  script = refl;
-  objects = refl;
-  holds = c.requires.holds;
-  tells = λ start told. told;
+  runs = runs_same g.D.Disk.faults g.D.Disk.honest g.D.Disk.image c.args.log.now c.args.self.now c.requires.holds;
   below = c.requires.below;
   open_at = c.requires.contexts;
   ran = ap past_of c.requires.start;
@@ -63,13 +60,13 @@ line-requires-clause-open g c =
     let same = own g (goal.at.line-requires-clause-open g c).After-lines-lines in
     let number : i ≡ (c.loop-l.n + 1) - 1 = omega (arith, c.loop-l.invariant.count) in
     let before : past_of (take i lines) ≡ lines_before c.loop-l.self.script (c.loop-l.n + 1) =
-    ap (λ k. past_of (take k lines)) number ∙ ap (λ (r : List Line). past_of (take ((c.loop-l.n + 1) - 1) r)) (same ∙ sym c.loop-l.invariant.script) in
+    ap (λ k. past_of (take k lines)) number ∙ ap (λ (r : List Line). past_of (take ((c.loop-l.n + 1) - 1) r)) (same ∙ sym c.loop-l.invariant.runs.script) in
     subst (λ (b : List Line). AreOpen c.loop-l.self.contexts b) before c.loop-l.invariant.open_at
 
 pub line-requires-clause-stands : goal.line-requires-clause-stands
 line-requires-clause-stands g c =
     let next : suc c.loop-l.l-index ≡ c.loop-l.n + 1 = omega (arith, c.loop-l.invariant.count) in
-    subst (λ (r : List Line). kth r (c.loop-l.n + 1) ≡ Some c.l-item.result) (sym c.loop-l.invariant.script)
+    subst (λ (r : List Line). kth r (c.loop-l.n + 1) ≡ Some c.l-item.result) (sym c.loop-l.invariant.runs.script)
     (ap (kth c.args.self.now.script) (sym next) ∙ at g (goal.at.line-requires-clause-stands g c).After-lines-lines c.loop-l.l-index c.l-item.result c.loop-l-test.true c.l-item.is)
 
 pub line-requires-clause-life : goal.line-requires-clause-life
@@ -100,20 +97,17 @@ loop-l-preserved g c =
     let number : i ≡ (c.loop-l.n + 1) - 1 = omega (arith, was.count) in
     let same = own g (goal.at.loop-l-preserved g c).After-lines-lines in
     let before : past_of (take i lines) ≡ lines_before c.loop-l.self.script (c.loop-l.n + 1) =
-    ap (λ k. past_of (take k lines)) number ∙ ap (λ (r : List Line). past_of (take ((c.loop-l.n + 1) - 1) r)) (same ∙ sym was.script) in
+    ap (λ k. past_of (take k lines)) number ∙ ap (λ (r : List Line). past_of (take ((c.loop-l.n + 1) - 1) r)) (same ∙ sym was.runs.script) in
     record {
       count = ap (λ n. n + 1) was.count;
       log = goes_then faults g.D.Disk.honest g.D.Disk.image c.args.log.now c.loop-l.log c.line.new.log was.log c.line.ensures.log;
       stays = λ off. stays_then faults c.args.log.now c.loop-l.log c.line.new.log was.log.grows c.line.ensures.log.grows (was.stays off) (c.line.ensures.stays (none_there (λ (m : Line). is_log_line m.body) s i l off stands));
       life = let so_far = was.life in let next = c.line.ensures.life in omega (arith, so_far, next);
-      script = c.line.ensures.script ∙ was.script;
-      objects = c.line.ensures.objects ∙ was.objects;
-      holds = did.holds;
-      tells = λ start told. did.tells start (was.tells start told);
+      runs = runs_then faults g.D.Disk.honest g.D.Disk.image c.args.log.now c.loop-l.log c.line.new.log c.args.self.now c.loop-l.self c.line.new.self was.runs did.runs;
       below = did.entered;
       open_at = subst (λ (b : List Line). AreOpen c.line.new.self.contexts b) (sym (past_next lines i l c.loop-l-test.true c.l-item.is)) (did.scopes (past_of (take i lines)) was.open_at);
       ran =
-          lines_more s c.loop-l.self.script lines i c.loop-l.n l (past_of c.loop-l.self.trace) (past_of c.line.new.self.trace) c.loop-l-test.true c.l-item.is was.count was.script
+          lines_more s c.loop-l.self.script lines i c.loop-l.n l (past_of c.loop-l.self.trace) (past_of c.line.new.self.trace) c.loop-l-test.true c.l-item.is was.count was.runs.script
           (λ count. did.done (past_of (take i lines)) count before was.open_at) was.ran;
     }
 

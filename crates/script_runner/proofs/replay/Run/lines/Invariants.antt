@@ -2,7 +2,7 @@ use Rattle.std.proofs.Common.{◌≡◌, ◌≤◌, ◌+◌, false, take}
 use Rattle.dtx_model.specs.Replay.{LinesRan}
 use Rattle.dtx_model.specs.Words.{past_of}
 use Rattle.script_runner.specs.LogRun.{LogGoes, LogStays, has_log_line}
-use Rattle.script_runner.specs.RunState.{AreBelow, Holds, StillTells}
+use Rattle.script_runner.specs.RunState.{AreBelow, RunsOn}
 use Rattle.script_calls.specs.Scoped.{AreOpen}
 use Rattle.script_runner.proofs.replay.Run.lines.Given as goal
 
@@ -12,10 +12,7 @@ invariant-loop-l g l = record {
   log : LogGoes g.D.Disk.faults g.D.Disk.honest g.D.Disk.image l.initial.log l.log;
   stays : has_log_line l.initial.self.script ≡ false → LogStays g.D.Disk.faults l.initial.log l.log;
   life : l.log.life ≤ l.initial.log.life + l.l-index;
-  script : l.self.script ≡ l.initial.self.script;
-  objects : l.self.objects ≡ l.initial.self.objects;
-  holds : Holds g.D.Disk.honest g.D.Disk.image l.log l.self;
-  tells : StillTells g.D.Disk.faults g.D.Disk.honest g.D.Disk.image l.initial.log l.log l.initial.self l.self;
+  runs : RunsOn g.D.Disk.faults g.D.Disk.honest g.D.Disk.image l.initial.log l.log l.initial.self l.self;
   below : AreBelow (l.n + 1) l.self.worlds;
   open_at : AreOpen l.self.contexts (past_of (take l.l-index l.lines));
   ran : LinesRan l.initial.self.script (past_of (take l.l-index l.lines)) (past_of l.self.trace);

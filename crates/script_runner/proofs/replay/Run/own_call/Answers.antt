@@ -7,12 +7,12 @@ use Rattle.dtx_model.specs.Steps.{Calls}
 use Rattle.dtx_model.specs.Words.{past_of}
 use Rattle.script_runner.specs.RunState.{state_of}
 use Rattle.script_runner.proofs.Entering.{all_below, all_below_next}
-use Rattle.script_runner.proofs.Going.{below_same, goes_same, stays_same}
+use Rattle.script_runner.proofs.Going.{below_same, goes_same, runs_then, stays_same}
 use Rattle.script_runner.proofs.OwnCalls.{await_answers, awaited_ran, did_answers, did_ran, plain_answers, plain_ran}
 use Rattle.script_runner.proofs.replay.Run.own_call.Goals as goal
 
 pub call-requires-clause-given : goal.call-requires-clause-given
-call-requires-clause-given g c = subst (λ (r : List Line). IsCallOf r c.args.t.value c.args.n c.args.actor c.args.c.now) (sym c.steps.ensures.script) c.requires.given
+call-requires-clause-given g c = subst (λ (r : List Line). IsCallOf r c.args.t.value c.args.n c.args.actor c.args.c.now) (sym c.in_ok-done-in-Do.ensures.runs.script) c.requires.given
 
 pub call-requires-clause-below : goal.call-requires-clause-below
 call-requires-clause-below g c = below_same c.args.n c.args.self.now.worlds c.steps.new.self.worlds c.steps.ensures.calls c.requires.below c.args.t
@@ -20,8 +20,9 @@ call-requires-clause-below g c = below_same c.args.n c.args.self.now.worlds c.st
 pub call-requires-clause-answers : goal.call-requires-clause-answers
 call-requires-clause-answers g c = did_answers c.args.t.value (state_of c.args.t c.steps.new.self.worlds).world c.args.c.now _ _ _ c.in_ok-done-in-Do.done c.in-Do.is c.in_ok-done-in-Do.ensures.did
 
-pub returns-in_ok-done-in-Do-clause-tells : goal.returns-in_ok-done-in-Do-clause-tells
-returns-in_ok-done-in-Do-clause-tells g c = on_ok_weaker c.call.result (λ tells start k. tells start (c.in_ok-done-in-Do.ensures.tells start k)) c.call.ensures.tells
+pub returns-in_ok-done-in-Do-clause-runs : goal.returns-in_ok-done-in-Do-clause-runs
+returns-in_ok-done-in-Do-clause-runs g c =
+    on_ok_weaker c.call.result (runs_then g.D.Disk.faults g.D.Disk.honest g.D.Disk.image c.args.log.now c.steps.new.log c.steps.new.log c.args.self.now c.steps.new.self c.call.new.self c.in_ok-done-in-Do.ensures.runs) c.call.ensures.runs
 
 pub returns-in_ok-done-in-Do-clause-entered : goal.returns-in_ok-done-in-Do-clause-entered
 returns-in_ok-done-in-Do-clause-entered g c =
@@ -34,11 +35,11 @@ returns-in_ok-done-in-Do-clause-done g c =
     let s = c.args.self.now.script in
     on_ok_weaker c.call.result
     (λ did. did_ran s c.args.actor c.args.n c.args.t c.args.c.now _ _ _ c.in_ok-done-in-Do.done (past_of c.args.self.now.trace) (past_of c.steps.new.self.trace) (past_of c.call.new.self.trace) c.in-Do.is c.in_ok-done-in-Do.ensures.done
-    (subst (λ (r : List Line). past_of c.call.new.self.trace ≡ after_turn r c.args.t (Calls c.args.n c.args.actor c.args.c.now c.in_ok-done-in-Do.done) (past_of c.steps.new.self.trace)) c.steps.ensures.script did))
+    (subst (λ (r : List Line). past_of c.call.new.self.trace ≡ after_turn r c.args.t (Calls c.args.n c.args.actor c.args.c.now c.in_ok-done-in-Do.done) (past_of c.steps.new.self.trace)) c.in_ok-done-in-Do.ensures.runs.script did))
     c.call.ensures.done
 
 pub call-requires-in-Await-clause-given : goal.call-requires-in-Await-clause-given
-call-requires-in-Await-clause-given g c = subst (λ (r : List Line). IsCallOf r c.args.t.value c.args.n c.args.actor c.args.c.now) (sym c.settle.ensures.script) c.requires.given
+call-requires-in-Await-clause-given g c = subst (λ (r : List Line). IsCallOf r c.args.t.value c.args.n c.args.actor c.args.c.now) (sym c.in_ok-settle-in-Await.ensures.runs.script) c.requires.given
 
 pub call-requires-in-Await-clause-below : goal.call-requires-in-Await-clause-below
 call-requires-in-Await-clause-below g c = below_same c.args.n c.args.self.now.worlds c.settle.new.self.worlds c.settle.ensures.calls c.requires.below c.args.t
@@ -46,8 +47,9 @@ call-requires-in-Await-clause-below g c = below_same c.args.n c.args.self.now.wo
 pub call-requires-in-Await-clause-answers : goal.call-requires-in-Await-clause-answers
 call-requires-in-Await-clause-answers g c = await_answers c.args.t.value (state_of c.args.t c.settle.new.self.worlds).world c.args.c.now _ 0 c.in-Await.is c.in_ok-settle-in-Await.ensures.settled
 
-pub returns-in_ok-settle-in-Await-clause-tells : goal.returns-in_ok-settle-in-Await-clause-tells
-returns-in_ok-settle-in-Await-clause-tells g c = on_ok_weaker c.call-in-Await.result (λ tells start k. tells start (c.in_ok-settle-in-Await.ensures.tells start k)) c.call-in-Await.ensures.tells
+pub returns-in_ok-settle-in-Await-clause-runs : goal.returns-in_ok-settle-in-Await-clause-runs
+returns-in_ok-settle-in-Await-clause-runs g c =
+    on_ok_weaker c.call-in-Await.result (runs_then g.D.Disk.faults g.D.Disk.honest g.D.Disk.image c.args.log.now c.settle.new.log c.settle.new.log c.args.self.now c.settle.new.self c.call-in-Await.new.self c.in_ok-settle-in-Await.ensures.runs) c.call-in-Await.ensures.runs
 
 pub returns-in_ok-settle-in-Await-clause-entered : goal.returns-in_ok-settle-in-Await-clause-entered
 returns-in_ok-settle-in-Await-clause-entered g c =
@@ -60,7 +62,7 @@ returns-in_ok-settle-in-Await-clause-done g c =
     let s = c.args.self.now.script in
     on_ok_weaker c.call-in-Await.result
     (λ did. awaited_ran s c.args.actor c.args.n c.args.t c.args.c.now _ c.args.self.now.trace c.settle.new.self.trace c.call-in-Await.new.self.trace c.in-Await.is c.in_ok-settle-in-Await.ensures.done
-    (subst (λ (r : List Line). past_of c.call-in-Await.new.self.trace ≡ after_turn r c.args.t (Calls c.args.n c.args.actor c.args.c.now 0) (past_of c.settle.new.self.trace)) c.settle.ensures.script did))
+    (subst (λ (r : List Line). past_of c.call-in-Await.new.self.trace ≡ after_turn r c.args.t (Calls c.args.n c.args.actor c.args.c.now 0) (past_of c.settle.new.self.trace)) c.in_ok-settle-in-Await.ensures.runs.script did))
     c.call-in-Await.ensures.done
 
 pub call-requires-in_default-clause-answers : goal.call-requires-in_default-clause-answers

@@ -1,4 +1,4 @@
-use Rattle.std.proofs.Common.{◌≡◌, ◌<◌, ◌+◌, ℕ, true, false, List, [], Err, is_some, ap, arith, length, refl, subst, sym, ◌∙◌, if◌then◌else◌}
+use Rattle.std.proofs.Common.{◌≡◌, ◌<◌, ◌+◌, ℕ, true, List, [], Err, is_some, ap, arith, length, refl, subst, sym, ◌∙◌, if◌then◌else◌}
 use Rattle.std.proofs.lemmas.Result.{IfErr-at_err, IfOk-at_ok, on_ok_weaker}
 use Rattle.std.specs.Prelude.{is_ok}
 use Rattle.outside.specs.Faults.{Rose}
@@ -15,7 +15,6 @@ use Rattle.dtx_model.specs.Tied.{tied}
 use Rattle.dtx_model.specs.Traces.{Placed}
 use Rattle.dtx_model.specs.World.{core}
 use Rattle.coordinator_log.specs.Slots.{open_records}
-use Rattle.coordinator_log.specs.declared.refusal.LogRefusal.TheVariants as Refusal
 use Rattle.tx_world.specs.AtLog.{Fits}
 use Rattle.turn_parts.specs.Reopening.{restart_answer}
 use Rattle.script_runner.specs.LogRun.{LogGoes}
@@ -86,26 +85,26 @@ ended g c halt =
 pub returns-in_default-clause-log : goal.returns-in_default-clause-log
 returns-in_default-clause-log g c = went g (goal.at.returns-in_default-clause-log g c).After-is_up
 
-pub returns-in_default-clause-holds : goal.returns-in_default-clause-holds
-returns-in_default-clause-holds g c =
-    let r = c.reopened-found.ensures in
-    let from = c.args.log.now in
-    (halts g (goal.at.returns-in_default-clause-holds g c).After-is_up).holds c.reopened-found.new.log (r.reopened.up ∙ ap is_ok c.in_default.is)
-    (r.reopened.life ∙ ap (λ f. if is_ok f then from.life + 1 else from.life) c.in_default.is) r.within
-
-pub returns-in_default-clause-tells : goal.returns-in_default-clause-tells
-returns-in_default-clause-tells g c = λ start told.
-    let at = goal.at.returns-in_default-clause-tells g c in
+pub returns-in_default-clause-runs : goal.returns-in_default-clause-runs
+returns-in_default-clause-runs g c =
+    let at = goal.at.returns-in_default-clause-runs g c in
+    let halt = halts g at.After-is_up in
     let from = c.args.log.now in
     let to = c.reopened-found.new.log in
     let r = c.reopened-found.ensures in
     let e = c.in_default.field-0 in
     let T = past_of c.args.self.now.trace in
     let only = IfErr-at_err _ c.in_default.is r.only in
-    subst (λ (U : List Placed). Tells g.D.Disk.faults g.D.Disk.honest g.D.Disk.image start to U) (sym (ended g at.In_default (halts g at.After-is_up).trace))
-    (tells_restart g.D.Disk.faults g.D.Disk.honest g.D.Disk.image start from to T c.args.n c.args.actor (unopened_by e) (went g at.After-is_up) r.reopened.armed
-    (unopened_just g.D.Disk.honest (open_records start.slots ≡ []) (Rose (g.D.Disk.faults from.disk) (g.D.Disk.faults to.disk)) (after_halt c.args.n c.args.actor Fine T) e only (λ k. r.reopened.fault (c.in_default.is ∙ ap Err k))
-    (λ is p k. r.reopened.never is p (c.in_default.is ∙ ap Err k))) told)
+    record {
+      script = halt.script;
+      objects = halt.objects;
+      holds = halt.holds to (r.reopened.up ∙ ap is_ok c.in_default.is) (r.reopened.life ∙ ap (λ f. if is_ok f then from.life + 1 else from.life) c.in_default.is) r.within;
+      tells = λ start told.
+          subst (λ (U : List Placed). Tells g.D.Disk.faults g.D.Disk.honest g.D.Disk.image start to U) (sym (ended g at.In_default halt.trace))
+          (tells_restart g.D.Disk.faults g.D.Disk.honest g.D.Disk.image start from to T c.args.n c.args.actor (unopened_by e) (went g at.After-is_up) r.reopened.armed
+          (unopened_just g.D.Disk.honest (open_records start.slots ≡ []) (Rose (g.D.Disk.faults from.disk) (g.D.Disk.faults to.disk)) (after_halt c.args.n c.args.actor Fine T) e only (λ k. r.reopened.fault (c.in_default.is ∙ ap Err k))
+          (λ is p k. r.reopened.never is p (c.in_default.is ∙ ap Err k))) told);
+    }
 
 pub returns-in_default-clause-calls : goal.returns-in_default-clause-calls
 returns-in_default-clause-calls g c = (halts g (goal.at.returns-in_default-clause-calls g c).After-is_up).calls
@@ -159,35 +158,18 @@ restart_all-requires-clause-lives g c = λ t.
 pub returns-clause-log : goal.returns-clause-log
 returns-clause-log g c = went g (goal.at.returns-clause-log g c).After-is_up
 
-pub returns-clause-holds : goal.returns-clause-holds
-returns-clause-holds g c =
-    let at = goal.at.returns-clause-holds g c in
-    let b = at.After-restart_all-arg-1 in
-    let h = held g at.After-is_up in
-    let r = c.reopened-found.ensures in
-    let q = c.if-was_up.self in
-    let to = c.reopened-found.new.log in
-    let found = λ (t : TxNo). Restarted (is_some (record_in to.slots t.value)) in
-    on_ok_weaker c.restart_all.result
-    (λ done.
-    holds_opened g.D.Disk.honest g.D.Disk.image g.D.Disk.seen (halted_log c.args.log.now) to q c.restart_all.new.self c.in-Ok.records refl (is_there g b) (life_there g b) r.among
-    (λ is. IfOk-at_ok _ c.in-Ok.is (r.reopened.records is)) r.within (λ is. c.is_up.ensures.images is (is_there g b)) (halts g at.After-is_up).numbered
-    (c.restart_all.ensures.script ∙ ap (λ (p : RunState). p.script) c.self-2.view_is) (c.restart_all.ensures.objects ∙ ap (λ (p : RunState). p.objects) c.self-2.view_is) (λ t. done.0.0 t ∙ ap (λ (p : RunState). reopened to (state_of t p.worlds)) c.self-2.view_is)
-    (done.0.1 ∙ ap (λ (T : List Placed). put_at found (known T) T) (pushed g b))
-    (done.1.0 (λ t. subst (λ (p : RunState). IsRecordKept (state_of t p.worlds)) (sym c.self-2.view_is) (h.kept t)))
-    (λ is. done.1.1 is (λ t. subst (λ (p : RunState). tied (state_of t p.worlds).world.past ≡ true) (sym c.self-2.view_is) (h.sound is t))) h)
-    (both_ok _ _ c.restart_all.result (both_ok _ _ c.restart_all.result c.restart_all.ensures.worlds c.restart_all.ensures.trace) (both_ok _ _ c.restart_all.result c.restart_all.ensures.kept c.restart_all.ensures.sound))
-
 fine : (g : Over) (c : After-restart_all-arg-1 g) → c.restart_answer.result ≡ Fine
 fine g c = c.restart_answer.ensures ∙ ap restart_answer c.in-Ok.is
 
-pub returns-clause-tells : goal.returns-clause-tells
-returns-clause-tells g c =
-    let at = goal.at.returns-clause-tells g c in
+pub returns-clause-runs : goal.returns-clause-runs
+returns-clause-runs g c =
+    let at = goal.at.returns-clause-runs g c in
     let b = at.After-restart_all-arg-1 in
+    let h = held g at.After-is_up in
     let halt = halts g at.After-is_up in
     let go = went g at.After-is_up in
     let r = c.reopened-found.ensures in
+    let q = c.if-was_up.self in
     let from = c.args.log.now in
     let to = c.reopened-found.new.log in
     let T = past_of c.args.self.now.trace in
@@ -195,16 +177,27 @@ returns-clause-tells g c =
     let a = c.args.actor in
     let m = c.in-Ok.records in
     let found = λ (k : ℕ). is_some (record_in to.slots k) in
+    let script = c.restart_all.ensures.script ∙ ap (λ (p : RunState). p.script) c.self-2.view_is in
+    let objects = c.restart_all.ensures.objects ∙ ap (λ (p : RunState). p.objects) c.self-2.view_is in
     on_ok_weaker c.restart_all.result
-    (λ put start told.
-    subst (λ (U : List Placed). Tells g.D.Disk.faults g.D.Disk.honest g.D.Disk.image start to U)
-    (sym (opened_trace n a m found c.restart_answer.result T (past_of c.if-was_up.self.trace) (past_of c.push_reserved-2.new.self.items) (past_of c.restart_all.new.self.trace) put (pushed g b) halt.trace (fine g b)))
-    (tells_restart g.D.Disk.faults g.D.Disk.honest g.D.Disk.image start from to T n a (Opens found m) go r.reopened.armed
-    (λ is empty.
-    opened_just g.D.Disk.faults g.D.Disk.honest g.D.Disk.image g.D.Disk.seen start from to c.args.self.now c.if-was_up.self n a c.restart_answer.result m T (after_halt n a Fine T) (is_there g b) r.among
-    (λ h. IfOk-at_ok _ c.in-Ok.is (r.reopened.records h)) r.within (IfOk-at_ok _ c.in-Ok.is r.reopened.count) go halt (ap (λ (x : Answer). after_halt n a x T) (sym (fine g b))) told is empty)
-    told))
-    c.restart_all.ensures.trace
+    (λ done. record {
+      script = script ∙ halt.script;
+      objects = objects ∙ halt.objects;
+      holds =
+          holds_opened g.D.Disk.honest g.D.Disk.image g.D.Disk.seen (halted_log from) to q c.restart_all.new.self m refl (is_there g b) (life_there g b) r.among (λ is. IfOk-at_ok _ c.in-Ok.is (r.reopened.records is)) r.within
+          (λ is. c.is_up.ensures.images is (is_there g b)) halt.numbered script objects (λ t. done.0.0 t ∙ ap (λ (p : RunState). reopened to (state_of t p.worlds)) c.self-2.view_is)
+          (done.0.1 ∙ ap (λ (U : List Placed). put_at (λ (t : TxNo). Restarted (found t.value)) (known U) U) (pushed g b))
+          (done.1.0 (λ t. subst (λ (p : RunState). IsRecordKept (state_of t p.worlds)) (sym c.self-2.view_is) (h.kept t)))
+          (λ is. done.1.1 is (λ t. subst (λ (p : RunState). tied (state_of t p.worlds).world.past ≡ true) (sym c.self-2.view_is) (h.sound is t))) h;
+      tells = λ start told.
+          subst (λ (U : List Placed). Tells g.D.Disk.faults g.D.Disk.honest g.D.Disk.image start to U)
+          (sym (opened_trace n a m found c.restart_answer.result T (past_of q.trace) (past_of c.push_reserved-2.new.self.items) (past_of c.restart_all.new.self.trace) done.0.1 (pushed g b) halt.trace (fine g b)))
+          (tells_restart g.D.Disk.faults g.D.Disk.honest g.D.Disk.image start from to T n a (Opens found m) go r.reopened.armed
+          (λ is empty.
+          opened_just g.D.Disk.faults g.D.Disk.honest g.D.Disk.image g.D.Disk.seen start from to c.args.self.now q n a c.restart_answer.result m T (after_halt n a Fine T) (is_there g b) r.among (λ k. IfOk-at_ok _ c.in-Ok.is (r.reopened.records k)) r.within
+          (IfOk-at_ok _ c.in-Ok.is r.reopened.count) go halt (ap (λ (x : Answer). after_halt n a x T) (sym (fine g b))) told is empty) told);
+    })
+    (both_ok _ _ c.restart_all.result (both_ok _ _ c.restart_all.result c.restart_all.ensures.worlds c.restart_all.ensures.trace) (both_ok _ _ c.restart_all.result c.restart_all.ensures.kept c.restart_all.ensures.sound))
 
 pub returns-clause-calls : goal.returns-clause-calls
 returns-clause-calls g c =

@@ -9,6 +9,7 @@ use Rattle.dtx_model.specs.Words.{past_of}
 use Rattle.script_runner.specs.RunState.{RunState}
 use Rattle.script_calls.specs.Scoped.{rollbacks, rolled_at}
 use Rattle.script_runner.proofs.Entering.{all_below, all_below_next}
+use Rattle.script_runner.proofs.Going.{runs_same, runs_then}
 use Rattle.script_calls.proofs.Openings.{rolled_here, rolled_more}
 use Rattle.script_runner.proofs.RollingBack.{IsAt, at_place, rolled_there, still_below}
 use Rattle.script_runner.proofs.replay.Run.roll_back.Given.{Over}
@@ -18,10 +19,7 @@ use Rattle.script_runner.proofs.replay.Run.roll_back.Goals as goal
 pub loop-i-init : goal.loop-i-init
 loop-i-init g c = record {
   contexts = refl;
-  script = refl;
-  objects = refl;
-  holds = c.requires.holds;
-  tells = λ start k. k;
+  runs = runs_same g.D.Disk.faults g.D.Disk.honest g.D.Disk.image c.args.log.now c.args.self.now c.requires.holds;
   entered = all_below_next c.args.n c.args.self.now.worlds c.requires.below;
   still = λ j u less e. c.requires.below u;
   done = refl;
@@ -44,7 +42,7 @@ pub call-requires-clause-given : goal.call-requires-clause-given
 call-requires-clause-given g c =
     let t = c.index-rolled-i.result in
     let at = here g (goal.at.call-requires-clause-given g c).After-rolled t c.index-rolled-i.is in
-    subst (λ (s : List Line). IsCallOf s t.value c.args.n c.args.actor (Rollback t)) (sym c.loop-i.invariant.script)
+    subst (λ (s : List Line). IsCallOf s t.value c.args.n c.args.actor (Rollback t)) (sym c.loop-i.invariant.runs.script)
     (c.requires.given t (Rollback t) c.loop-i.i (rolled_there (rolled_at c.args.actor c.args.self.now.contexts) c.loop-i.i t at.slot))
 
 pub call-requires-clause-below : goal.call-requires-clause-below
@@ -63,15 +61,12 @@ loop-i-preserved g c =
     let did = c.in_ok-call.ensures in
     record {
       contexts = c.call.ensures.contexts ∙ was.contexts;
-      script = c.call.ensures.script ∙ was.script;
-      objects = c.call.ensures.objects ∙ was.objects;
-      holds = did.holds;
-      tells = λ start k. did.tells start (was.tells start k);
+      runs = runs_then g.D.Disk.faults g.D.Disk.honest g.D.Disk.image c.args.log.now c.args.log.now c.args.log.now c.args.self.now c.loop-i.self c.call.new.self was.runs did.runs;
       entered = all_below (c.args.n + 1) t c.loop-i.self.worlds c.call.new.self.worlds c.call.ensures.others did.entered was.entered;
       still = still_below c.args.n i ts t c.loop-i.self.worlds c.call.new.self.worlds c.requires.once at.slot c.call.ensures.others was.still;
       done =
           rolled_more s c.args.n c.args.actor ts i t (past_of c.args.self.now.trace) (past_of c.loop-i.self.trace) (past_of c.call.new.self.trace) at.less at.is was.done
-          (subst (λ (r : List Line). past_of c.call.new.self.trace ≡ after_turn r t (Calls c.args.n c.args.actor (Rollback t) 0) (past_of c.loop-i.self.trace)) was.script did.done);
+          (subst (λ (r : List Line). past_of c.call.new.self.trace ≡ after_turn r t (Calls c.args.n c.args.actor (Rollback t) 0) (past_of c.loop-i.self.trace)) was.runs.script did.done);
     }
 
 pub returns-clause-done : goal.returns-clause-done

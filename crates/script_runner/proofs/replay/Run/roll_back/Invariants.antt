@@ -1,7 +1,7 @@
 use Rattle.std.proofs.Common.{◌≡◌, ◌+◌, take}
 use Rattle.dtx_model.specs.Replay.{after_calls}
 use Rattle.dtx_model.specs.Words.{past_of}
-use Rattle.script_runner.specs.RunState.{AreBelow, Holds, StillTells}
+use Rattle.script_runner.specs.RunState.{AreBelow, RunsOn}
 use Rattle.script_calls.specs.Scoped.{rollbacks, rolled_at}
 use Rattle.script_runner.proofs.RollingBack.{AreStillBelow}
 use Rattle.script_runner.proofs.replay.Run.roll_back.Given as goal
@@ -9,10 +9,7 @@ use Rattle.script_runner.proofs.replay.Run.roll_back.Given as goal
 abbrev pub invariant-loop-i : goal.invariant-loop-i
 invariant-loop-i g l = record {
   contexts : l.self.contexts ≡ l.initial.self.contexts;
-  script : l.self.script ≡ l.initial.self.script;
-  objects : l.self.objects ≡ l.initial.self.objects;
-  holds : Holds g.D.Disk.honest g.D.Disk.image l.log l.self;
-  tells : StillTells g.D.Disk.faults g.D.Disk.honest g.D.Disk.image l.log l.log l.initial.self l.self;
+  runs : RunsOn g.D.Disk.faults g.D.Disk.honest g.D.Disk.image l.log l.log l.initial.self l.self;
   entered : AreBelow (l.n + 1) l.self.worlds;
   still : AreStillBelow l.n l.i (rolled_at l.actor l.initial.self.contexts) l.self.worlds;
   done : past_of l.self.trace ≡ after_calls l.initial.self.script l.n l.actor (rollbacks (take l.i (rolled_at l.actor l.initial.self.contexts))) (past_of l.initial.self.trace);

@@ -6,15 +6,15 @@ use Rattle.dtx_model.specs.Contexts.{scope_block, scope_calls}
 use Rattle.dtx_model.specs.Replay.{after_calls, after_scope}
 use Rattle.dtx_model.specs.Traces.{Placed}
 use Rattle.dtx_model.specs.Words.{past_of}
-use Rattle.coordinator_log.specs.State.{LogState}
 use Rattle.scope_context.specs.Standing.{Standing}
 use Rattle.tx_world.specs.State.{TxState}
 use Rattle.script_calls.specs.declared.scope_lines.Gives.{Gives}
 use Rattle.script_calls.specs.declared.scope_lines.Gives.TheVariants.{Call as CallGiven, Nothing, Rollbacks}
-use Rattle.script_runner.specs.RunState.{AreBelow, Holds, Tells, state_of}
+use Rattle.script_runner.specs.RunState.{AreBelow, Holds, RunsOn, state_of}
 use Rattle.script_calls.specs.Scoped.{AreOpen, calls_given, rollbacks, rolled_at, scopes_at}
 use Rattle.script_runner.proofs.AtContext.{noted_holds, noted_tells, scope_did, scope_gives}
 use Rattle.script_runner.proofs.Entering.{all_below, all_below_next}
+use Rattle.script_runner.proofs.Going.{runs_then}
 use Rattle.script_runner.proofs.RollingBack.{rolled_once}
 use Rattle.script_runner.proofs.Scoping.{given_plain, scope_call_answers}
 use Rattle.script_runner.proofs.replay.Run.scope.Given.{Over}
@@ -29,14 +29,19 @@ held g c =
     noted_holds g.D.Disk.honest g.D.Disk.image c.args.log.now l.actor es c.args.self.now c.at_context.new.self
     (record { script = c.at_context.ensures.script; objects = c.at_context.ensures.objects; worlds = c.at_context.ensures.worlds; block = c.in_ok-at_context.ensures.block }) c.requires.holds
 
--- and the trace tells the same of the log;
-told : (g : Over) (c : In_ok-at_context g) (start : LogState g.row.D.Denot) → Tells g.D.Disk.faults g.D.Disk.honest g.D.Disk.image start c.args.log.now (past_of c.args.self.now.trace)
-    → Tells g.D.Disk.faults g.D.Disk.honest g.D.Disk.image start c.args.log.now (past_of c.at_context.new.self.trace)
-told g c start k =
+-- and so the run goes on;
+ran : (g : Over) (c : In_ok-at_context g) → RunsOn g.D.Disk.faults g.D.Disk.honest g.D.Disk.image c.args.log.now c.args.log.now c.args.self.now c.at_context.new.self
+ran g c =
     let l = c.args.l.now in
     let es = scope_block c.args.n l.actor l.body (scopes_at l.actor c.args.self.now.contexts) in
-    noted_tells g.D.Disk.faults g.D.Disk.honest g.D.Disk.image start c.args.log.now l.actor es c.args.self.now c.at_context.new.self
-    (record { script = c.at_context.ensures.script; objects = c.at_context.ensures.objects; worlds = c.at_context.ensures.worlds; block = c.in_ok-at_context.ensures.block }) k
+    record {
+      script = c.at_context.ensures.script;
+      objects = c.at_context.ensures.objects;
+      holds = held g c;
+      tells = λ start.
+          noted_tells g.D.Disk.faults g.D.Disk.honest g.D.Disk.image start c.args.log.now l.actor es c.args.self.now c.at_context.new.self
+          (record { script = c.at_context.ensures.script; objects = c.at_context.ensures.objects; worlds = c.at_context.ensures.worlds; block = c.in_ok-at_context.ensures.block });
+    }
 
 -- it entered no call,
 below : (g : Over) (c : In_ok-at_context g) → AreBelow c.args.n c.at_context.new.self.worlds
@@ -104,11 +109,8 @@ roll_back-requires-clause-once g c =
     rolled_once l.body (scopes_at l.actor c.args.self.now.contexts) (rolled_at l.actor c.at_context.new.self.contexts)
     (given g (goal.at.roll_back-requires-clause-once g c).In_ok-at_context Rollbacks c.in-Rollbacks.is)
 
-pub returns-in-Nothing-clause-tells : goal.returns-in-Nothing-clause-tells
-returns-in-Nothing-clause-tells g c = told g (goal.at.returns-in-Nothing-clause-tells g c).In_ok-at_context
-
-pub returns-in-Nothing-clause-holds : goal.returns-in-Nothing-clause-holds
-returns-in-Nothing-clause-holds g c = held g (goal.at.returns-in-Nothing-clause-holds g c).In_ok-at_context
+pub returns-in-Nothing-clause-runs : goal.returns-in-Nothing-clause-runs
+returns-in-Nothing-clause-runs g c = ran g (goal.at.returns-in-Nothing-clause-runs g c).In_ok-at_context
 
 pub returns-in-Nothing-clause-entered : goal.returns-in-Nothing-clause-entered
 returns-in-Nothing-clause-entered g c = all_below_next c.args.n c.at_context.new.self.worlds (below g (goal.at.returns-in-Nothing-clause-entered g c).In_ok-at_context)
@@ -116,10 +118,11 @@ returns-in-Nothing-clause-entered g c = all_below_next c.args.n c.at_context.new
 pub returns-in-Nothing-clause-done : goal.returns-in-Nothing-clause-done
 returns-in-Nothing-clause-done g c = did g (goal.at.returns-in-Nothing-clause-done g c).In_ok-at_context Nothing (past_of c.at_context.new.self.trace) c.in-Nothing.is refl
 
-pub returns-in-Call-clause-tells : goal.returns-in-Call-clause-tells
-returns-in-Call-clause-tells g c =
-    let b = (goal.at.returns-in-Call-clause-tells g c).In_ok-at_context in
-    on_ok_weaker c.call.result (λ tells start k. tells start (told g b start k)) c.call.ensures.tells
+pub returns-in-Call-clause-runs : goal.returns-in-Call-clause-runs
+returns-in-Call-clause-runs g c =
+    let log = c.args.log.now in
+    let first = ran g (goal.at.returns-in-Call-clause-runs g c).In_ok-at_context in
+    on_ok_weaker c.call.result (runs_then g.D.Disk.faults g.D.Disk.honest g.D.Disk.image log log log c.args.self.now c.at_context.new.self c.call.new.self first) c.call.ensures.runs
 
 pub returns-in-Call-clause-entered : goal.returns-in-Call-clause-entered
 returns-in-Call-clause-entered g c =
@@ -134,12 +137,13 @@ returns-in-Call-clause-done g c =
 
 pub returns-in-Call-clause-scopes : goal.returns-in-Call-clause-scopes
 returns-in-Call-clause-scopes g c =
-    on_ok_weaker c.call.result (λ _. kept g (goal.at.returns-in-Call-clause-scopes g c).In_ok-at_context c.call.new.self.contexts c.call.ensures.contexts) c.call.ensures.holds
+    on_ok_weaker c.call.result (λ _. kept g (goal.at.returns-in-Call-clause-scopes g c).In_ok-at_context c.call.new.self.contexts c.call.ensures.contexts) c.call.ensures.runs
 
-pub returns-in-Rollbacks-clause-tells : goal.returns-in-Rollbacks-clause-tells
-returns-in-Rollbacks-clause-tells g c =
-    let b = (goal.at.returns-in-Rollbacks-clause-tells g c).In_ok-at_context in
-    on_ok_weaker c.roll_back.result (λ tells start k. tells start (told g b start k)) c.roll_back.ensures.tells
+pub returns-in-Rollbacks-clause-runs : goal.returns-in-Rollbacks-clause-runs
+returns-in-Rollbacks-clause-runs g c =
+    let log = c.args.log.now in
+    let first = ran g (goal.at.returns-in-Rollbacks-clause-runs g c).In_ok-at_context in
+    on_ok_weaker c.roll_back.result (runs_then g.D.Disk.faults g.D.Disk.honest g.D.Disk.image log log log c.args.self.now c.at_context.new.self c.roll_back.new.self first) c.roll_back.ensures.runs
 
 pub returns-in-Rollbacks-clause-done : goal.returns-in-Rollbacks-clause-done
 returns-in-Rollbacks-clause-done g c =
@@ -149,4 +153,4 @@ returns-in-Rollbacks-clause-done g c =
 pub returns-in-Rollbacks-clause-scopes : goal.returns-in-Rollbacks-clause-scopes
 returns-in-Rollbacks-clause-scopes g c =
     on_ok_weaker c.roll_back.result (λ _. kept g (goal.at.returns-in-Rollbacks-clause-scopes g c).In_ok-at_context c.roll_back.new.self.contexts c.roll_back.ensures.contexts)
-    c.roll_back.ensures.holds
+    c.roll_back.ensures.runs

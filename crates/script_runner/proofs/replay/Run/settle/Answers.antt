@@ -7,7 +7,7 @@ use Rattle.dtx_model.specs.Traces.{history}
 use Rattle.dtx_model.specs.Words.{kth, past_of}
 use Rattle.run_endings.proofs.Settling.{none_first, up_between}
 use Rattle.script_runner.specs.RunState.{Advances, AreSettledBelow, IsRoundAt, RunState, Settles, state_of}
-use Rattle.script_runner.proofs.Going.{calls_then, goes_same, goes_then, stays_same, stays_then}
+use Rattle.script_runner.proofs.Going.{calls_then, goes_same, goes_then, runs_same, runs_then, stays_same, stays_then}
 use Rattle.script_runner.proofs.Rounds.{below-apart, below-next, settles-here, steps-more, turn-more, turn-next}
 use Rattle.script_runner.proofs.replay.Run.settle.Given.{Over}
 use Rattle.script_runner.proofs.replay.Run.settle.Goals.{In_ok-step}
@@ -17,12 +17,9 @@ pub loop-init : goal.loop-init
 loop-init g c =
     record {
       contexts = refl;
-      script = refl;
-      objects = refl;
       log = goes_same g.D.Disk.faults g.D.Disk.honest g.D.Disk.image c.args.log.now;
       stays = stays_same g.D.Disk.faults c.args.log.now;
-      holds = c.requires.holds;
-      tells = λ start tells. tells;
+      runs = runs_same g.D.Disk.faults g.D.Disk.honest g.D.Disk.image c.args.log.now c.args.self.now c.requires.holds;
       calls = λ t. refl;
       done = (0, refl);
       turns = λ start turn. turn;
@@ -36,21 +33,18 @@ loop-preserved g c =
     let start = c.args.self.now in
     let s = start.script in
     let one : Advances s c.args.t 1 c.loop.self.trace c.step.new.self.trace =
-    subst (λ (r : List Line). Advances r c.args.t 1 c.loop.self.trace c.step.new.self.trace) was.script (c.step.ensures.some some) in
+    subst (λ (r : List Line). Advances r c.args.t 1 c.loop.self.trace c.step.new.self.trace) was.runs.script (c.step.ensures.did some).some in
     record {
       contexts = c.step.ensures.contexts ∙ was.contexts;
-      script = c.step.ensures.script ∙ was.script;
-      objects = c.step.ensures.objects ∙ was.objects;
       log = goes_then g.D.Disk.faults g.D.Disk.honest g.D.Disk.image c.args.log.now c.loop.log c.step.new.log was.log c.step.ensures.log;
       stays = stays_then g.D.Disk.faults c.args.log.now c.loop.log c.step.new.log was.log.grows c.step.ensures.log.grows was.stays c.step.ensures.stays;
-      holds = c.in_ok-step.ensures.holds;
-      tells = λ l tells. c.in_ok-step.ensures.tells l (was.tells l tells);
+      runs = runs_then g.D.Disk.faults g.D.Disk.honest g.D.Disk.image c.args.log.now c.loop.log c.step.new.log start c.loop.self c.step.new.self was.runs c.in_ok-step.ensures.runs;
       calls = calls_then start.worlds c.loop.self.worlds c.step.new.self.worlds was.calls c.step.ensures.calls;
       done = (suc was.done.0, steps-more s c.args.t 1 was.done.0 start.trace c.loop.self.trace c.step.new.self.trace was.done.1 one);
       turns = λ first turn. turn-more s first c.args.t c.loop.self.trace c.step.new.self.trace (was.turns first turn) one;
       below = λ up below.
           let mid = up_between c.args.log.now.is_up c.loop.log.is_up c.step.new.log.is_up was.stays.still c.step.ensures.stays.still up in
-          below-apart s c.args.t (past_of c.loop.self.trace) (past_of c.step.new.self.trace) (c.step.ensures.apart some (up ∙ sym mid)) (was.below mid below);
+          below-apart s c.args.t (past_of c.loop.self.trace) (past_of c.step.new.self.trace) ((c.step.ensures.did some).apart (up ∙ sym mid)) (was.below mid below);
     }
 
 pub returns-in_err-step-clause-log : goal.returns-in_err-step-clause-log
@@ -61,8 +55,11 @@ settled_there : (g : Over) (c : In_ok-step g) → c.step.result ≡ Ok false →
 settled_there g c done =
     let s = c.args.self.now.script in
     let none : kth (pending (world_at s c.args.t (past_of c.loop.self.trace))) 1 ≡ None =
-    subst (λ (r : List Line). kth (pending (world_at r c.args.t (past_of c.loop.self.trace))) 1 ≡ None) c.loop.invariant.script (c.step.ensures.none_here done) in
+    subst (λ (r : List Line). kth (pending (world_at r c.args.t (past_of c.loop.self.trace))) 1 ≡ None) c.loop.invariant.runs.script (c.step.ensures.none_here done) in
     none_first (pending (world_at s c.args.t (past_of c.loop.self.trace))) none
+
+pub returns-then-not-branch-clause-runs : goal.returns-then-not-branch-clause-runs
+returns-then-not-branch-clause-runs g c = runs_then g.D.Disk.faults g.D.Disk.honest g.D.Disk.image c.args.log.now c.loop.log c.step.new.log c.args.self.now c.loop.self c.step.new.self c.loop.invariant.runs c.in_ok-step.ensures.runs
 
 pub returns-then-not-branch-clause-settled : goal.returns-then-not-branch-clause-settled
 returns-then-not-branch-clause-settled g c =

@@ -3,18 +3,15 @@ use Rattle.dtx_model.specs.Traces.{Placed}
 use Rattle.dtx_model.specs.Words.{past_of}
 use Rattle.world_laws.specs.Left.{steps_left}
 use Rattle.script_runner.specs.LogRun.{LogGoes, LogStays}
-use Rattle.script_runner.specs.RunState.{AreSettledBelow, HaveSameCalls, Holds, IsRoundAt, StepsDone, StillTells, state_of}
+use Rattle.script_runner.specs.RunState.{AreSettledBelow, HaveSameCalls, IsRoundAt, StepsDone, RunsOn, state_of}
 use Rattle.script_runner.proofs.replay.Run.settle.Given as goal
 
 abbrev pub invariant-loop : goal.invariant-loop
 invariant-loop g l = record {
   contexts : l.self.contexts ≡ l.initial.self.contexts;
-  script : l.self.script ≡ l.initial.self.script;
-  objects : l.self.objects ≡ l.initial.self.objects;
   log : LogGoes g.D.Disk.faults g.D.Disk.honest g.D.Disk.image l.initial.log l.log;
   stays : LogStays g.D.Disk.faults l.initial.log l.log;
-  holds : Holds g.D.Disk.honest g.D.Disk.image l.log l.self;
-  tells : StillTells g.D.Disk.faults g.D.Disk.honest g.D.Disk.image l.initial.log l.log l.initial.self l.self;
+  runs : RunsOn g.D.Disk.faults g.D.Disk.honest g.D.Disk.image l.initial.log l.log l.initial.self l.self;
   calls : HaveSameCalls l.initial.self.worlds l.self.worlds;
   done : (m : ℕ) × StepsDone l.initial.self.script l.t 1 m l.initial.self.trace l.self.trace;
   turns : (start : List Placed) → IsRoundAt l.initial.self.script start l.t.value (past_of l.initial.self.trace) → IsRoundAt l.initial.self.script start l.t.value (past_of l.self.trace);

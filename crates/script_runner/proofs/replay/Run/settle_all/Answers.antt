@@ -3,7 +3,7 @@ use Rattle.std.proofs.lemmas.Result.{on_ok_weaker}
 use Rattle.dtx_values.specs.declared.script.Line.{Line}
 use Rattle.dtx_model.specs.Words.{past_of}
 use Rattle.script_runner.specs.RunState.{AreSettledBelow, IsRoundAt}
-use Rattle.script_runner.proofs.Going.{down_still, goes_then, stays_then}
+use Rattle.script_runner.proofs.Going.{down_still, goes_then, runs_then, stays_then}
 use Rattle.script_runner.proofs.replay.Run.settle_all.Goals as goal
 
 pub returns-then-not-was_up-clause-settled : goal.returns-then-not-was_up-clause-settled
@@ -24,12 +24,14 @@ pub returns-clause-stays : goal.returns-clause-stays
 returns-clause-stays g c =
     stays_then g.D.Disk.faults c.args.log.now c.settle_round.new.log c.settle_round-2.new.log c.settle_round.ensures.log.grows c.settle_round-2.ensures.log.grows c.settle_round.ensures.stays c.settle_round-2.ensures.stays
 
-pub returns-clause-tells : goal.returns-clause-tells
-returns-clause-tells g c = on_ok_weaker c.settle_round-2.result (λ tells start k. tells start (c.in_ok-settle_round.ensures.tells start k)) c.settle_round-2.ensures.tells
+pub returns-clause-runs : goal.returns-clause-runs
+returns-clause-runs g c =
+    on_ok_weaker c.settle_round-2.result
+    (runs_then g.D.Disk.faults g.D.Disk.honest g.D.Disk.image c.args.log.now c.settle_round.new.log c.settle_round-2.new.log c.args.self.now c.settle_round.new.self c.settle_round-2.new.self c.in_ok-settle_round.ensures.runs) c.settle_round-2.ensures.runs
 
 pub returns-clause-turns : goal.returns-clause-turns
 returns-clause-turns g c =
-    let same = c.settle_round.ensures.script in
+    let same = c.in_ok-settle_round.ensures.runs.script in
     on_ok_weaker c.settle_round-2.result
     (λ turns start b. subst (λ (r : List Line). IsRoundAt r start 1 (past_of c.settle_round-2.new.self.trace)) same
     (turns start (subst (λ (r : List Line). IsRoundAt r start 1 (past_of c.settle_round.new.self.trace)) (sym same) (c.in_ok-settle_round.ensures.turns start b))))
@@ -39,6 +41,6 @@ pub returns-clause-settled : goal.returns-clause-settled
 returns-clause-settled g c =
     let down : c.settle_round.new.log.is_up ≡ false = sym c.is_up.ensures.up ∙ c.if-is_up.false in
     on_ok_weaker c.settle_round-2.result
-    (λ settled. subst (λ (r : List Line). AreSettledBelow r 257 (past_of c.settle_round-2.new.self.trace)) c.settle_round.ensures.script
+    (λ settled. subst (λ (r : List Line). AreSettledBelow r 257 (past_of c.settle_round-2.new.self.trace)) c.in_ok-settle_round.ensures.runs.script
     (settled (down_still c.settle_round.new.log.is_up c.settle_round-2.new.log.is_up c.settle_round-2.ensures.stays.still down)))
     c.settle_round-2.ensures.settled

@@ -1,23 +1,20 @@
-use Rattle.std.proofs.Common.{◌≡◌, ◌+◌, ℕ, List, Option, arith, refl, subst, sym, ◌∙◌}
+use Rattle.std.proofs.Common.{◌≡◌, ◌+◌, ℕ, List, Option, arith, subst, sym, ◌∙◌}
 use Rattle.std.specs.Prelude.{IfSome}
 use Rattle.dtx_values.specs.declared.number.TxNo.{TxNo}
 use Rattle.dtx_values.specs.declared.script.Line.{Line}
 use Rattle.dtx_model.specs.Words.{past_of}
 use Rattle.run_endings.proofs.Settling.{up_between}
 use Rattle.script_runner.specs.RunState.{AreSettledBelow, IsRoundAt}
-use Rattle.script_runner.proofs.Going.{goes_same, goes_then, stays_same, stays_then}
+use Rattle.script_runner.proofs.Going.{goes_same, goes_then, runs_same, runs_then, stays_same, stays_then}
 use Rattle.script_runner.proofs.Rounds.{below-first, turn-round}
 use Rattle.script_runner.proofs.replay.Run.settle_round.Goals as goal
 
 pub loop-n-init : goal.loop-n-init
 loop-n-init g c =
     record {
-      script = refl;
-      objects = refl;
       log = goes_same g.D.Disk.faults g.D.Disk.honest g.D.Disk.image c.args.log.now;
       stays = stays_same g.D.Disk.faults c.args.log.now;
-      holds = c.requires.holds;
-      tells = λ start k. k;
+      runs = runs_same g.D.Disk.faults g.D.Disk.honest g.D.Disk.image c.args.log.now c.args.self.now c.requires.holds;
       turns = λ start b. b;
       settled = λ same. below-first c.args.self.now.script (past_of c.args.self.now.trace);
     }
@@ -31,22 +28,19 @@ loop-n-preserved g c =
     let new = c.settle.new.log in
     let n : t.value ≡ c.loop-n.n = subst (λ (o : Option TxNo). IfSome o (λ x. x.value ≡ c.loop-n.n)) c.unwrap-t.ensures c.new.ensures.value in
     record {
-      script = c.settle.ensures.script ∙ was.script;
-      objects = c.settle.ensures.objects ∙ was.objects;
       log = goes_then g.D.Disk.faults g.D.Disk.honest g.D.Disk.image c.args.log.now old new was.log c.settle.ensures.log;
       stays = stays_then g.D.Disk.faults c.args.log.now old new was.log.grows c.settle.ensures.log.grows was.stays c.settle.ensures.stays;
-      holds = c.in_ok-settle.ensures.holds;
-      tells = λ start k. c.in_ok-settle.ensures.tells start (was.tells start k);
+      runs = runs_then g.D.Disk.faults g.D.Disk.honest g.D.Disk.image c.args.log.now old new c.args.self.now c.loop-n.self c.settle.new.self was.runs c.in_ok-settle.ensures.runs;
       turns = λ start b.
           let here : IsRoundAt s start t.value (past_of c.loop-n.self.trace) = subst (λ (m : ℕ). IsRoundAt s start m (past_of c.loop-n.self.trace)) (sym n) (was.turns start b) in
           let next : IsRoundAt s start t.value (past_of c.loop-n.self.trace) → IsRoundAt s start (t.value + 1) (past_of c.settle.new.self.trace) =
-          subst (λ (r : List Line). IsRoundAt r start t.value (past_of c.loop-n.self.trace) → IsRoundAt r start (t.value + 1) (past_of c.settle.new.self.trace)) was.script (c.in_ok-settle.ensures.turns start) in
+          subst (λ (r : List Line). IsRoundAt r start t.value (past_of c.loop-n.self.trace) → IsRoundAt r start (t.value + 1) (past_of c.settle.new.self.trace)) was.runs.script (c.in_ok-settle.ensures.turns start) in
           subst (λ (m : ℕ). IsRoundAt s start (m + 1) (past_of c.settle.new.self.trace)) n (next here);
       settled = λ same.
           let mid : old.is_up ≡ c.args.log.now.is_up = up_between c.args.log.now.is_up old.is_up new.is_up was.stays.still c.settle.ensures.stays.still same in
           let here : AreSettledBelow s t.value (past_of c.loop-n.self.trace) = subst (λ (m : ℕ). AreSettledBelow s m (past_of c.loop-n.self.trace)) (sym n) (was.settled mid) in
           let next : AreSettledBelow s t.value (past_of c.loop-n.self.trace) → AreSettledBelow s (t.value + 1) (past_of c.settle.new.self.trace) =
-          subst (λ (r : List Line). AreSettledBelow r t.value (past_of c.loop-n.self.trace) → AreSettledBelow r (t.value + 1) (past_of c.settle.new.self.trace)) was.script (c.in_ok-settle.ensures.below (same ∙ sym mid)) in
+          subst (λ (r : List Line). AreSettledBelow r t.value (past_of c.loop-n.self.trace) → AreSettledBelow r (t.value + 1) (past_of c.settle.new.self.trace)) was.runs.script (c.in_ok-settle.ensures.below (same ∙ sym mid)) in
           subst (λ (m : ℕ). AreSettledBelow s (m + 1) (past_of c.settle.new.self.trace)) n (next here);
     }
 
