@@ -5,10 +5,9 @@ use Rattle.dtx_values.specs.declared.script.Line.{Line}
 use Rattle.dtx_model.specs.Faults.{Bad}
 use Rattle.dtx_model.specs.Grammar.{IsScript, Reads}
 use Rattle.dtx_model.specs.Traces.{Placed}
-use Rattle.program_words.specs.declared.command.Form.{Form}
 use Rattle.tx_cells.specs.Cell.{IsThreadable}
 use Rattle.script_runner.specs.Judged.{HasDoAt, first_do}
-use Rattle.script_runner.specs.Program.{IsReplayOf, IsThreadsOf, form_text}
+use Rattle.script_runner.specs.Program.{IsReplayOf, IsThreadsOf}
 use Rattle.script_runner.specs.declared.exit.Exit.{Exit}
 use Rattle.script_runner.specs.declared.exit.Exit.TheVariants.{BadScript, NotThreadable, ReadFault, Memory as MemoryExit}
 use Rattle.script_runner.specs.declared.judging.Refusal.{Refusal}
@@ -47,9 +46,3 @@ Refuses w given _ = ⊥
 abbrev pub IsRunBy : Way → ℕ → ℕ → ℕ → Bool → (List ℕ → Type 0) → List Line → List Placed → Type 0
 IsRunBy Replay = IsReplayOf
 IsRunBy (Threads h) = IsThreadsOf
-
--- the text, in this form, is that of a run of this way of these lines
-pub record IsTextOf (w : Way) (f : Form) (k from to : ℕ) (honest : Bool) (image : List ℕ → Type 0) (s : List Line) (text : List ℕ) : Type 0 where
-  pub trace : List Placed
-  pub ran : IsRunBy w k from to honest image s trace
-  pub spelled : text ≡ form_text f trace

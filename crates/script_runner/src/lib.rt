@@ -11,6 +11,7 @@ mod running;
 mod threads;
 mod transfer;
 mod way;
+mod writing;
 
 pub use coordinator_log::LOG_BYTES;
 pub use exit::Exit;

@@ -24,9 +24,9 @@ ghost use Rattle.script_maker.specs.Gen.{gen};
 
 use crate::exit::Exit;
 use crate::judging::script_from;
-use crate::running::text_of_run;
-use crate::transfer::{WriteStop, write_all};
+use crate::running::traced_anew;
 use crate::way::Way;
+use crate::writing::{written, written_in};
 use dtx_values::Resource;
 use outside::{Disk, Gate, Sink, Source, SureSource};
 use program_words::{Command, Form, command_of};
@@ -36,21 +36,6 @@ use std::alloc::Global;
 use std::sync::Wait;
 use std::thread::Threads;
 use trace_text::one_trace;
-
-/// Writes the bytes to the sink, as the last thing that is done.
-fn written<K: Sink>(sink: &mut K, bytes: &[u8]) -> Exit
-    ensures all { result ≡ Exit.Fine → ForSome (K.written sink.old) (λ w. K.written sink.new ≡ Some (w ++ bytes.now)) }
-    ensures part { result ≢ Exit.Fine → ForSome (K.written sink.old) (λ w. IsPartWritten w bytes.now (K.written sink.new)) }
-    ensures fault { result ≡ Exit.WriteFault → Rose (K.faults sink.old) (K.faults sink.new) }
-    ensures smooth { result ≢ Exit.WriteFault → K.faults sink.new ≡ K.faults sink.old }
-    ensures answers { (result ≡ Exit.Fine) ⊎ ((result ≡ Exit.WriteFault) ⊎ (result ≡ Exit.Memory)) }
-{
-    match write_all(sink, bytes) {
-        Ok(()) => Exit::Fine,
-        Err(WriteStop::Fault) => Exit::WriteFault,
-        Err(WriteStop::Memory) => Exit::Memory,
-    }
-}
 
 /// Reads the script from the source, formats the log on the disk, runs the script this way, and writes the trace in this form to the sink.
 fn run_in<S: Source, K: Sink, D: Disk + Send, G: Gate + Sync, R: Threads + Wait + Sync>(
@@ -107,9 +92,9 @@ fn run_in<S: Source, K: Sink, D: Disk + Send, G: Gate + Sync, R: Threads + Wait 
         Ok(script) => script,
         Err(exit) => return (exit, disk),
     };
-    let (text, disk) = text_of_run(rt, alloc, way, form, &script, disk, gate, resources);
-    match text {
-        Ok(text) => (written(sink, &text), disk),
+    let (traced, disk) = traced_anew(rt, alloc, way, &script, disk, gate, resources);
+    match traced {
+        Ok(trace) => (written_in(alloc, sink, form, &trace), disk),
         Err(exit) => (exit, disk),
     }
 }

@@ -7,8 +7,7 @@ ghost use Rattle.dtx_model.specs.Grammar.{IsScript};
 ghost use Rattle.tx_cells.specs.Cell.{IsThreadable};
 ghost use Rattle.script_runner.specs.Ending.{AreOwnLogs, IsLog};
 ghost use Rattle.script_runner.specs.LogRun.{MetNoFault, has_log_line};
-ghost use Rattle.script_runner.specs.Program.{form_text};
-ghost use Rattle.script_runner.specs.Refusal.{IsRunBy, IsRunnable, IsTextOf};
+ghost use Rattle.script_runner.specs.Refusal.{IsRunBy, IsRunnable};
 
 use crate::exit::Exit;
 use crate::formatting::{FormatStop, formatted};
@@ -17,24 +16,11 @@ use crate::way::Way;
 use coordinator_log::Log;
 use dtx_values::Resource;
 use outside::{Disk, Gate};
-use program_words::Form;
 use script_text::Script;
-use std::alloc::{AllocError, Global};
+use std::alloc::Global;
 use std::sync::Wait;
 use std::thread::Threads;
-use trace_text::{Trace, json_trace, print_trace, summary};
-
-/// The text of a trace in a form.
-fn text_in(alloc: Global, form: Form, trace: &Trace) -> Result<Vec<u8>, AllocError>
-    ensures { IfOk result (λ v. v.items ≡ form_text form trace.now) }
-{
-    match form {
-        Form::Plain => print_trace(alloc, trace, false),
-        Form::Wire => print_trace(alloc, trace, true),
-        Form::Json => json_trace(alloc, trace),
-        Form::Summary => summary(alloc, trace),
-    }
-}
+use trace_text::Trace;
 
 /// The trace of a run of this way over a log without a record, and the disk after it.
 fn traced<D: Disk + Send, G: Gate + Sync, R: Threads + Wait + Sync>(
@@ -70,20 +56,19 @@ fn traced<D: Disk + Send, G: Gate + Sync, R: Threads + Wait + Sync>(
     }
 }
 
-/// The text, in this form, of a run of this way over the disk, which is made an empty log first and handed back; or how the call ends.
-pub fn text_of_run<D: Disk + Send, G: Gate + Sync, R: Threads + Wait + Sync>(
+/// The trace of a run of this way over the disk, which is made an empty log first and handed back; or how the call ends.
+pub fn traced_anew<D: Disk + Send, G: Gate + Sync, R: Threads + Wait + Sync>(
     rt: &R,
     alloc: Global,
     way: Way,
-    form: Form,
     script: &Script,
     disk: D,
     gate: &G,
     resources: Vec<Box<dyn Resource + Send>>,
-) -> (Result<Vec<u8>, Exit>, D)
+) -> (Result<Trace, Exit>, D)
     requires script { IsRunnable way script.now }
     requires room { LOG_BYTES ≤ D.size disk }
-    ensures text { IfOk result.0 (λ text. IsTextOf way form (vec_len resources) (D.faults disk) (D.faults result.1) D.honest (D.image result.1) script.now text.items) }
+    ensures run { IfOk result.0 (λ T. IsRunBy way (vec_len resources) (D.faults disk) (D.faults result.1) D.honest (D.image result.1) script.now T) }
     ensures only { IfErr result.0 (λ x. (x ≡ Exit.LogFault) ⊎ (x ≡ Exit.Memory)) }
     ensures fault { IsErrOf result.0 Exit.LogFault → Rose (D.faults disk) (D.faults result.1) }
     ensures grows { (IsErrOf result.0 Exit.LogFault → ⊥) → D.faults disk ≤ D.faults result.1 }
@@ -98,10 +83,7 @@ pub fn text_of_run<D: Disk + Send, G: Gate + Sync, R: Threads + Wait + Sync>(
     };
     let (traced, disk) = traced(rt, alloc, way, script, log, gate, resources);
     match traced {
-        Ok(trace) => match text_in(alloc, form, &trace) {
-            Ok(text) => (Ok(text), disk),
-            Err(_) => (Err(Exit::Memory), disk),
-        },
+        Ok(trace) => (Ok(trace), disk),
         Err(ThreadsError::Fault) => (Err(Exit::LogFault), disk),
         Err(ThreadsError::Memory) => (Err(Exit::Memory), disk),
     }

@@ -25,3 +25,11 @@ wire-next xs k x h e text words tail made empty line =
     ap (λ (t : List ℕ). t ++ 10 ∷ []) (append_assoc text words (frame_text x.1)) ∙ append_assoc text (words ++ frame_text x.1) (10 ∷ [])
     ∙ ap (λ (t : List ℕ). t ++ ((words ++ frame_text x.1) ++ 10 ∷ [])) made ∙ ap (λ (w : List ℕ). wire_lines_from 1 (take k xs) ++ ((w ++ frame_text x.1) ++ 10 ∷ [])) spelled
     ∙ sym (wire-step xs k x h e)
+
+-- the same where the loop appends the three to a text, with what stands before that
+pub wire-after : (xs : List Placed) (k : ℕ) (x : Placed) → k < length xs → x ≡ get_or xs k x → (before text words tail a b c : List ℕ) → before ++ text ≡ wire_lines_from 1 (take k xs) → tail ≡ []
+    → words ≡ line_words (k + 1) x ++ tail → a ≡ text ++ words → b ≡ a ++ frame_text x.1 → c ≡ b ++ 10 ∷ [] → before ++ c ≡ wire_lines_from 1 (take (k + 1) xs)
+wire-after xs k x h e before text words tail a b c made empty line wordy framed ended =
+    let all : c ≡ ((text ++ words) ++ frame_text x.1) ++ 10 ∷ [] = ended ∙ ap (λ (t : List ℕ). t ++ 10 ∷ []) (framed ∙ ap (λ (t : List ℕ). t ++ frame_text x.1) wordy) in
+    ap (λ (t : List ℕ). before ++ t) all ∙ sym (append_assoc before ((text ++ words) ++ frame_text x.1) (10 ∷ [])) ∙ ap (λ (t : List ℕ). t ++ 10 ∷ []) (sym (append_assoc before (text ++ words) (frame_text x.1)))
+    ∙ ap (λ (t : List ℕ). (t ++ frame_text x.1) ++ 10 ∷ []) (sym (append_assoc before text words)) ∙ wire-next xs k x h e (before ++ text) words tail made empty line

@@ -1,6 +1,7 @@
 pub mod Arrays
 pub mod Framed
 pub mod Identifier
+pub mod Lines
 pub mod OneTrace
 pub mod Plain
 pub mod Printing

@@ -26,7 +26,7 @@ line_is u i n x h =
     (place_is x.0) (entry_is u i x.1 h)
 
 -- a text that begins with a line isn't empty
-no_line : (n : ℕ) (x : Placed) (w : List ℕ) → [] ≡ trace_line n x ++ w → ⊥
+pub no_line : (n : ℕ) (x : Placed) (w : List ℕ) → [] ≡ trace_line n x ++ w → ⊥
 no_line n x w e = omega (arith, ap length e, line_long n x, length-append (trace_line n x) w)
 
 -- so lines of one text are read back alike

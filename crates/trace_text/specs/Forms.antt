@@ -1,5 +1,5 @@
 -- TraceText in the forms wire and JSON.
-use Rattle.std.specs.Prelude.{ℕ, suc, List, [], ◌∷◌, ◌++◌, codes, decimal}
+use Rattle.std.specs.Prelude.{ℕ, suc, Bool, true, false, List, [], ◌∷◌, ◌++◌, codes, decimal}
 use Rattle.hex.specs.Hex.{encode_lower}
 use Rattle.serde_json.specs.Data.{Data, Items, array, item, member, no_items, no_members, number, object, string, unsigned}
 use Rattle.serde_json.specs.Written.{compact_text}
@@ -7,7 +7,7 @@ use Rattle.dtx_values.specs.declared.entry.Entry.{Entry}
 use Rattle.dtx_values.specs.declared.entry.Entry.TheVariants.{Sent}
 use Rattle.dtx_model.specs.Frames.{frame_of}
 use Rattle.dtx_model.specs.Traces.{Placed}
-use Rattle.dtx_model.specs.TraceText.{entry_text, place_text}
+use Rattle.dtx_model.specs.TraceText.{entry_text, place_text, trace_text}
 
 -- behind a message that is sent, a space and the bytes of its frame in lower-case hexadecimal; behind every other entry nothing
 abbrev pub frame_text : Entry → List ℕ
@@ -30,6 +30,11 @@ wire_lines_from n (x ∷ xs) = wire_line n x ++ wire_lines_from (suc n) xs
 -- the text of a trace in the form wire, oldest entry first, numbered from 1
 unfoldable pub wire_text : List Placed → List ℕ
 wire_text T = wire_lines_from 1 T
+
+-- the text of a trace in the form wire, or in the plain form
+abbrev pub lines_text : Bool → List Placed → List ℕ
+lines_text true T = wire_text T
+lines_text false T = trace_text T
 
 -- an entry as a JSON object: its place (`at`), its number (`n`) and the entry in the plain form (`text`), in this order
 abbrev pub object_of : ℕ → Placed → Data

@@ -18,6 +18,6 @@ mod words;
 pub use dtx_values::Place;
 pub use entry_lists::{PlacedEntries, Trace};
 pub use objects::json_trace;
-pub use printer::print_trace;
+pub use printer::{print_lines, print_trace};
 pub use reader::{TraceError, one_trace, read_trace, reads_traces_exactly};
 pub use tally::summary;

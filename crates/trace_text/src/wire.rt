@@ -1,16 +1,16 @@
 //! Prints traces in the form wire: as in the plain form, with its frame after each message that is sent.
-ghost use Rattle.std.specs.Prelude.{◌≡◌, ◌++◌, true, IfOk, OnOk};
+ghost use Rattle.std.specs.Prelude.{◌≡◌, ◌≤◌, ◌++◌, ℕ, List, true, OnOk, length, take};
 ghost use Rattle.dtx_model.specs.Words.{each};
 ghost use Rattle.trace_text.specs.Forms.{frame_text, wire_text};
 ghost use Rattle.trace_text.specs.OneTrace.{is_typed_at};
 
-use crate::printer::{MEAN_LINE, put_words};
+use crate::printer::put_words;
 use dtx_values::Entry;
 use entry_lists::Trace;
 use hex::encode_to_slice;
 use line_tail::Tail;
 use oletx_frames::encode;
-use std::alloc::{AllocError, Global};
+use std::alloc::AllocError;
 
 /// Appends a space and the frame of a message that is sent; nothing for another entry.
 fn push_frame(text: &mut Vec<u8>, x: &Entry) -> Result<(), AllocError>
@@ -28,20 +28,25 @@ fn push_frame(text: &mut Vec<u8>, x: &Entry) -> Result<(), AllocError>
     text.extend_from_slice(digits)
 }
 
-/// The text of a trace in the form wire.
-pub fn wire_trace(alloc: Global, t: &Trace) -> Result<Vec<u8>, AllocError>
-    ensures text { IfOk result (λ v. v.items ≡ wire_text t.now) }
-    ensures typed { IfOk result (λ v. each is_typed_at t.now ≡ true) }
+/// Appends the text of the entries from place `from` on, up to place `to`, in the form wire.
+pub fn push_wire_lines(
+    text: &mut Vec<u8>,
+    t: &Trace,
+    from: usize,
+    to: usize,
+) -> Result<(), AllocError>
+    requires { (from ≤ to) × (to ≤ length t.now) }
+    ensures text { OnOk result ((before : List ℕ) → before ++ text.old.items ≡ wire_text (take from t.now) → before ++ text.new.items ≡ wire_text (take to t.now)) }
+    ensures typed { OnOk result (each is_typed_at (take from t.now) ≡ true → each is_typed_at (take to t.now) ≡ true) }
 {
-    let mut text = Vec::with_capacity(alloc, t.len().saturating_mul(MEAN_LINE))?;
     let mut tail = Tail::new();
-    for index in 0..t.len() {
+    for index in from..to {
         let x = t.at(index);
         tail.clear();
         put_words(&mut tail, index + 1, x);
         text.extend_from_slice(tail.as_slice())?;
-        push_frame(&mut text, &x.1)?;
+        push_frame(text, &x.1)?;
         text.push(b'\n')?;
     }
-    Ok(text)
+    Ok(())
 }
