@@ -23,6 +23,7 @@ use Rattle.tx_world.specs.AtLog.{AreFit, Fits, IsHad, IsOurs, id_of}
 use Rattle.tx_world.specs.Prepared.{NamesPrepared}
 use Rattle.tx_world.specs.State.{TxState, is_hit_by, is_reached_by}
 use Rattle.tx_world.specs.Tried.{IsTried}
+use Rattle.tx_cells.specs.Cell.{untouched}
 use Rattle.tx_cells.specs.LogAnswers.{is_no_log_answer}
 use Rattle.script_runner.specs.LogRun.{IsCounted, IsForeignKept}
 

@@ -1,4 +1,4 @@
-use Rattle.std.proofs.Common.{◌≡◌, ◌<◌, ◌+◌, ℕ, true, false, List, [], Err, is_some, ap, arith, length, subst, sym, ◌∙◌, if◌then◌else◌}
+use Rattle.std.proofs.Common.{◌≡◌, ◌<◌, ◌+◌, ℕ, true, false, List, [], Err, is_some, ap, arith, length, refl, subst, sym, ◌∙◌, if◌then◌else◌}
 use Rattle.std.proofs.lemmas.Result.{IfErr-at_err, IfOk-at_ok, on_ok_weaker}
 use Rattle.std.specs.Prelude.{is_ok}
 use Rattle.outside.specs.Faults.{Rose}
