@@ -34,11 +34,13 @@ fn write_lines<K: Sink>(
     while at < trace.len() {
         let to = at.saturating_add(LINES).min(trace.len());
         piece.clear();
-        if print_lines(&mut piece, trace, at, to, wire).is_err() {
+        let Ok(()) = print_lines(&mut piece, trace, at, to, wire) else {
             return Err(WriteStop::Memory);
+        };
+        match write_all(sink, &piece) {
+            Ok(()) => at = to,
+            Err(stop) => return Err(stop),
         }
-        write_all(sink, &piece)?;
-        at = to;
     }
     Ok(())
 }
