@@ -8,6 +8,9 @@ use dtx_values::{BadCause, Body, CloneNo, Conn, EnlNo, Line, Opening, ScopeNo, S
 use std::alloc::{AllocError, Global};
 use std::marker::Model;
 
+/// The bytes of the shortest line of a script, `a1 par` and LF.
+const SHORTEST_LINE: usize = 7;
+
 /// Lines, with tables of the names that they make, each indexed by the name's place among all. Contracts see the lines.
 #[derive(Drop)]
 pub struct Draft {
@@ -47,12 +50,12 @@ impl Model for Draft {
 }
 
 impl Draft {
-    /// No line.
-    pub fn new(alloc: Global) -> Result<Self, AllocError>
+    /// No line, with room for as many as a script of so many bytes has at most: memory that is never written costs nothing, and what grows is copied.
+    pub fn for_bytes(alloc: Global, bytes: usize) -> Result<Self, AllocError>
         ensures { IfOk result (λ d. d ≡ []) }
     {
         Ok(Draft {
-            lines: Vec::new(alloc),
+            lines: Vec::with_capacity(alloc, bytes / SHORTEST_LINE)?,
             transactions: vec![in alloc; false; TxNo::MAX as usize]?,
             enlistments: vec![in alloc; false; EnlNo::MAX as usize]?,
             clones: vec![in alloc; false; CloneNo::MAX as usize]?,

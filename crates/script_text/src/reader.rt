@@ -107,7 +107,7 @@ pub fn read_script(alloc: Global, bytes: &[u8]) -> Result<Script, ScriptError>
     ensures read { IfOk result (λ s. Reads bytes.now s) }
     ensures bad { IfErr result (λ e. IsBadScript bytes.now e) }
 {
-    let Ok(mut draft) = Draft::new(alloc) else {
+    let Ok(mut draft) = Draft::for_bytes(alloc, bytes.len()) else {
         return Err(ScriptError::Memory);
     };
     let mut rest = bytes;

@@ -51,5 +51,5 @@ pub record HasLeft (wire : Bool) (T : List Placed) (k : ℕ) : Type 0 where
 
 pub has_left : (wire : Bool) (T : List Placed) (k : ℕ) → HasLeft wire T k
 unfolding trace_text wire_text
-has_left false T k = record { left = lines_from (suc k) (drop k T); split = lines_after 1 k (suc k) T (omega arith); some = lines_some (suc k) T k; }
-has_left true T k = record { left = wire_lines_from (suc k) (drop k T); split = wire_after 1 k (suc k) T (omega arith); some = wire_some (suc k) T k; }
+has_left false T k = record { left = lines_from (suc k) (drop k T); split = lines_after 1 k (suc k) T (omega arith); some = lines_some (suc k) T k }
+has_left true T k = record { left = wire_lines_from (suc k) (drop k T); split = wire_after 1 k (suc k) T (omega arith); some = wire_some (suc k) T k }

@@ -21,7 +21,7 @@ pub returns-in-Err-clause-part : goal.returns-in-Err-clause-part
 returns-in-Err-clause-part g c =
     let on = piece_on c.args.wire c.args.trace.now c.loop-at.at c.min-to.result _ _ c.in-Ok.ensures.text c.clear.ensures.items in
     λ w told. part_of_piece c.args.wire c.args.trace.now c.loop-at.at c.min-to.result w _ _ on
-            (subst (λ x. IsPartWritten (w ++ lines_text c.args.wire (take c.loop-at.at c.args.trace.now)) x (g.K.Sink.written c.write_all.new.sink)) c.deref.ensures.value (c.in-Err.ensures.part _ (c.loop-at.invariant.written w told)))
+    (subst (λ x. IsPartWritten (w ++ lines_text c.args.wire (take c.loop-at.at c.args.trace.now)) x (g.K.Sink.written c.write_all.new.sink)) c.deref.ensures.value (c.in-Err.ensures.part _ (c.loop-at.invariant.written w told)))
 
 pub loop-at-preserved : goal.loop-at-preserved
 loop-at-preserved g c =
@@ -31,5 +31,5 @@ loop-at-preserved g c =
       smooth = c.in-Ok-write_all.ensures.smooth ∙ c.loop-at.invariant.smooth;
       written = λ w told.
           piece_written c.args.wire c.args.trace.now c.loop-at.at c.min-to.result w _ _ on
-              (c.in-Ok-write_all.ensures.all _ (c.loop-at.invariant.written w told) ∙ ap Some (ap (λ x. (w ++ lines_text c.args.wire (take c.loop-at.at c.args.trace.now)) ++ x) c.deref.ensures.value));
+          (c.in-Ok-write_all.ensures.all _ (c.loop-at.invariant.written w told) ∙ ap Some (ap (λ x. (w ++ lines_text c.args.wire (take c.loop-at.at c.args.trace.now)) ++ x) c.deref.ensures.value));
     }

@@ -4,7 +4,7 @@ use Rattle.dtx_values.specs.declared.number.TheConstants.EnlNo.{MAX as ENLISTMEN
 use Rattle.dtx_values.specs.declared.number.TheConstants.CloneNo.{MAX as CLONES}
 use Rattle.dtx_values.specs.declared.number.TheConstants.ScopeNo.{MAX as SCOPES}
 use Rattle.script_text.proofs.Tables.{new_table, new_tables}
-use Rattle.script_text.proofs.draft.Draft.new.Goals as goal
+use Rattle.script_text.proofs.draft.Draft.for_bytes.Goals as goal
 
 pub invariant_of-result : goal.invariant_of-result
 invariant_of-result c =
@@ -12,7 +12,7 @@ invariant_of-result c =
     let es = c.in_ok-vec-2.field-0.items in
     let cs = c.in_ok-vec-3.field-0.items in
     let ss = c.in_ok-vec-4.field-0.items in
-    new_tables _ ts es cs ss _ c.new.ensures.items
+    new_tables _ ts es cs ss _ c.in_ok-with_capacity.ensures.items
     (new_table TRANSACTIONS ts (search rules) (c.in_ok-vec.ensures.items_if_clones_equal (λ y e. search rules)))
     (new_table ENLISTMENTS es (search rules) (c.in_ok-vec-2.ensures.items_if_clones_equal (λ y e. search rules)))
     (new_table CLONES cs (search rules) (c.in_ok-vec-3.ensures.items_if_clones_equal (λ y e. search rules)))
