@@ -8,6 +8,20 @@ ghost use Rattle.program_words.specs.declared.command.Form.{Form};
 use crate::command::{Command, Form};
 use line_words::{number8_of, number16_of};
 
+const REPLAY: &[u8] = b"replay";
+
+const MAKE: &[u8] = b"make";
+
+const DEMO: &[u8] = b"demo";
+
+const THREADS: &[u8] = b"threads";
+
+const WIRE: &[u8] = b"--wire";
+
+const JSON: &[u8] = b"--json";
+
+const SUMMARY: &[u8] = b"--summary";
+
 /// The number from 1 to 256 that this word is, in decimal without sign or leading zero.
 fn count_of(word: &[u8]) -> Option<u16>
     ensures some { IfSome result (λ n. (word.now ≡ decimal n) × (is_count n ≡ true)) }
@@ -31,13 +45,13 @@ fn form_of(word: &[u8]) -> Option<Form>
     ensures some { IfSome result (λ f. form_words f ≡ word.now ∷ []) }
     ensures none { IfNone result ((f : Form) → form_words f ≢ word.now ∷ []) }
 {
-    if word == b"--wire".as_slice() {
+    if word == WIRE {
         return Some(Form::Wire);
     }
-    if word == b"--json".as_slice() {
+    if word == JSON {
         return Some(Form::Json);
     }
-    if word == b"--summary".as_slice() {
+    if word == SUMMARY {
         return Some(Form::Summary);
     }
     None
@@ -48,7 +62,7 @@ fn single_of(word: &[u8]) -> Option<Command>
     ensures some { IfSome result (λ c. Asks (word.now ∷ []) c) }
     ensures none { IfNone result (AsksNothing (word.now ∷ [])) }
 {
-    if word == b"replay".as_slice() {
+    if word == REPLAY {
         Some(Command::Replay(Form::Plain))
     } else {
         None
@@ -60,16 +74,16 @@ fn pair_of(first: &[u8], second: &[u8]) -> Option<Command>
     ensures some { IfSome result (λ c. Asks (first.now ∷ second.now ∷ []) c) }
     ensures none { IfNone result (AsksNothing (first.now ∷ second.now ∷ [])) }
 {
-    if first == b"threads".as_slice() {
+    if first == THREADS {
         return match helpers_of(second) {
             Some(h) => Some(Command::Threads(h, Form::Plain)),
             None => None,
         };
     }
     match first {
-        b"replay" => form_of(second).map(Command::Replay),
-        b"make" => count_of(second).map(Command::Make),
-        b"demo" => count_of(second).map(Command::Demo),
+        REPLAY => form_of(second).map(Command::Replay),
+        MAKE => count_of(second).map(Command::Make),
+        DEMO => count_of(second).map(Command::Demo),
         _ => None,
     }
 }
@@ -79,7 +93,7 @@ fn triple_of(first: &[u8], second: &[u8], third: &[u8]) -> Option<Command>
     ensures some { IfSome result (λ c. Asks (first.now ∷ second.now ∷ third.now ∷ []) c) }
     ensures none { IfNone result (AsksNothing (first.now ∷ second.now ∷ third.now ∷ [])) }
 {
-    if first != b"threads".as_slice() || third != b"--summary".as_slice() {
+    if first != THREADS || third != SUMMARY {
         return None;
     }
     match helpers_of(second) {
