@@ -1,11 +1,9 @@
 -- The cells of a run, one number after the other.
-use Rattle.std.proofs.Common.{◌≡◌, ℕ, ◌+◌, ◌-◌, ◌<◌, ◌++◌, ◌∷◌, [], Bool, true, false, List, append-nil, ap, arith, cond, filter, get_or, length, map, refl, slice_index_or, sym, ◌∙◌}
+use Rattle.std.proofs.Common.{◌≡◌, ℕ, ◌+◌, ◌++◌, ◌∷◌, [], Bool, true, false, List, append-nil, ap, cond, filter, map, refl, sym, ◌∙◌}
 use Rattle.std.specs.List.{range_with_len}
-use Rattle.std.proofs.lemmas.List.{get_or_read_under, map-append}
+use Rattle.std.proofs.lemmas.List.{map-append}
 use Rattle.std.proofs.lemmas.List.FromFn.{map-range_with_len_more}
 use Rattle.std.proofs.lemmas.List.Elements.{filter-append}
-use Rattle.dtx_values.specs.declared.number.TxNo.{TxNo}
-use Rattle.dtx_values.specs.declared.number.TheConstants.TxNo.{MAX}
 
 same : (xs : List ℕ) → map (λ (k : ℕ). k) xs ≡ xs
 same [] = refl
@@ -34,9 +32,3 @@ made_more f p n j xs ys x e is at pass was =
 -- and none where it doesn't.
 pub made_same : {A : Type 0} (f : A → ℕ) (p : ℕ → Bool) (n j : ℕ) (xs : List A) → 1 + n ≡ j → p j ≡ false → map f xs ≡ filter p (range_with_len 1 n) → map f xs ≡ filter p (range_with_len 1 (n + 1))
 made_same f p n j xs e pass was = was ∙ (sym (append-nil (filter p (range_with_len 1 n))) ∙ sym (filter_more p n j false e pass))
-
--- what was read in a table at the place of a transaction
-pub read_at : (bs : List Bool) (t : TxNo) (k : ℕ) (b : Bool) → k + 1 ≡ t.value → k < MAX → length bs ≡ MAX → b ≡ get_or bs k b → slice_index_or bs (t.value - 1) false ≡ b
-read_at bs t k b at below long read =
-    let same : t.value - 1 ≡ k = omega (arith, at) in
-    rw same (sym (get_or_read_under bs k MAX b false read below (sym long)))

@@ -13,7 +13,7 @@ ghost use Rattle.tx_cells.specs.Entering.{may_promote_at};
 
 use crate::board::{BoardNote, Posted};
 use crate::cell::CellState;
-use crate::making::made_of;
+use crate::making::Made;
 use crate::places::places_of;
 use crate::promoting::promoting_of;
 use crate::run::Run;
@@ -271,13 +271,13 @@ fn cells_of<N: Run>(
     requires rows { (t : TxNo) → IsPrefix N.script t.value (rows_of t all.items) [] }
     ensures { IfOk result (λ v. map (λ x. x.transaction.value) v.items ≡ transactions_of s.now) }
 {
-    let made = made_of(alloc, s)?;
+    let made = Made::of(s);
     let mut cells = Vec::new(alloc);
     let mut n = 0;
     for rows in all {
         n += 1;
         let t = TxNo::new(n).unwrap();
-        if made[t.index()] {
+        if made.has(t) {
             cells.push(TxCell::new(alloc, t, rows)?)?;
         }
     }

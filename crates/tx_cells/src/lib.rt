@@ -19,7 +19,7 @@ pub use board::{BoardNote, Posted};
 pub use cell::CellState;
 pub use cells::{Cells, TxCell, peek_outcome};
 pub use error::TurnError;
-pub use making::is_made;
+pub use making::Made;
 pub use run::Run;
 pub use shared_log::{LogState, SharedLog};
 pub use turns::{Turn, Turned};

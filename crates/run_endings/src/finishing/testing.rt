@@ -16,7 +16,7 @@ use crate::stop::RunStop;
 use dtx_values::{Conn, Dir, Entry, Line, LogNote, Message, Script, TxNo};
 use entry_lists::Entries;
 use outside::Disk;
-use tx_cells::{CellState, LogState, Run, is_made};
+use tx_cells::{CellState, LogState, Made, Run};
 
 /// Whether the entry is a stop.
 fn is_stop(e: &Entry) -> bool
@@ -158,10 +158,11 @@ fn follows(at_log: &[Entry], h: &Entries) -> bool
 fn are_by_number<N: Run>(s: &[Line], states: &[CellState<N>]) -> bool
     ensures { IsTrue result ↔ (map (λ c. c.tx.transaction.value) states.now ≡ transactions_of s.now) }
 {
+    let made = Made::of(s);
     let mut rest = states;
     for n in 1..TxNo::MAX + 1 {
         let t = TxNo::new(n).unwrap();
-        if !is_made(s, t) {
+        if !made.has(t) {
             continue;
         }
         let Some((first, others)) = rest.split_first() else {

@@ -8,22 +8,22 @@ use Rattle.run_endings.proofs.finishing.testing.are_by_number.Goals as goal
 pub loop-n-init : goal.loop-n-init
 loop-n-init g c = rest_first c.args.s.now c.args.states.now
 
-pub loop-n-preserved-then-not-is_made : goal.loop-n-preserved-then-not-is_made
-loop-n-preserved-then-not-is_made g c =
+pub loop-n-preserved-then-not-has : goal.loop-n-preserved-then-not-has
+loop-n-preserved-then-not-has g c =
     let at : c.unwrap-t.result.value ≡ c.loop-n.n = search rules in
-    let not : is_made c.args.s.now (OfTransaction c.loop-n.n) ≡ false = sym (ap (λ m. is_made c.args.s.now (OfTransaction m)) at) ∙ sym c.if-not-is_made.ensures in
+    let not : is_made c.args.s.now (OfTransaction c.loop-n.n) ≡ false = sym (ap (λ m. is_made c.args.s.now (OfTransaction m)) at) ∙ (sym (c.of-made.ensures c.unwrap-t.result) ∙ sym c.if-not-has.ensures) in
     rest_passed c.args.s.now c.args.states.now c.loop-n.rest.now c.loop-n.n (omega (arith, c.loop-n-test.true)) not c.loop-n.invariant
 
 pub returns-in_default : goal.returns-in_default
 returns-in_default g c =
     let at : c.unwrap-t.result.value ≡ c.loop-n.n = search rules in
-    let made : is_made c.args.s.now (OfTransaction c.loop-n.n) ≡ true = sym (ap (λ m. is_made c.args.s.now (OfTransaction m)) at) ∙ sym c.if-not-is_made.ensures in
+    let made : is_made c.args.s.now (OfTransaction c.loop-n.n) ≡ true = sym (ap (λ m. is_made c.args.s.now (OfTransaction m)) at) ∙ (sym (c.of-made.ensures c.unwrap-t.result) ∙ sym c.if-not-has.ensures) in
     (λ e. absurd (cc), λ e. absurd (rest_short c.args.s.now c.args.states.now c.loop-n.rest.now c.loop-n.n (omega (arith, c.loop-n-test.true)) made c.in_default.ensures.cases c.loop-n.invariant e))
 
 pub returns-then-ne : goal.returns-then-ne
 returns-then-ne g c =
     let at : c.unwrap-t.result.value ≡ c.loop-n.n = search rules in
-    let made : is_made c.args.s.now (OfTransaction c.loop-n.n) ≡ true = sym (ap (λ m. is_made c.args.s.now (OfTransaction m)) at) ∙ sym c.if-not-is_made.ensures in
+    let made : is_made c.args.s.now (OfTransaction c.loop-n.n) ≡ true = sym (ap (λ m. is_made c.args.s.now (OfTransaction m)) at) ∙ (sym (c.of-made.ensures c.unwrap-t.result) ∙ sym c.if-not-has.ensures) in
     let rest = subst (λ (cells : List Cell). IsRest c.args.s.now c.args.states.now cells c.loop-n.n) c.in-Some.ensures.cases.0 c.loop-n.invariant in
     let other : not (c.in-Some.first.now.tx.transaction.value == c.loop-n.n) ≡ true =
     sym (ap (λ n. not (c.in-Some.first.now.tx.transaction.value == n)) at) ∙ (sym (ap (λ (t : TxNo). not (t.value == c.unwrap-t.result.value)) c.t.ensures) ∙ sym c.if-ne.ensures) in
@@ -32,7 +32,7 @@ returns-then-ne g c =
 pub loop-n-preserved : goal.loop-n-preserved
 loop-n-preserved g c =
     let at : c.unwrap-t.result.value ≡ c.loop-n.n = search rules in
-    let made : is_made c.args.s.now (OfTransaction c.loop-n.n) ≡ true = sym (ap (λ m. is_made c.args.s.now (OfTransaction m)) at) ∙ sym c.if-not-is_made.ensures in
+    let made : is_made c.args.s.now (OfTransaction c.loop-n.n) ≡ true = sym (ap (λ m. is_made c.args.s.now (OfTransaction m)) at) ∙ (sym (c.of-made.ensures c.unwrap-t.result) ∙ sym c.if-not-has.ensures) in
     let rest = subst (λ (cells : List Cell). IsRest c.args.s.now c.args.states.now cells c.loop-n.n) c.in-Some.ensures.cases.0 c.loop-n.invariant in
     let same : not (c.in-Some.first.now.tx.transaction.value == c.loop-n.n) ≡ false =
     sym (ap (λ n. not (c.in-Some.first.now.tx.transaction.value == n)) at) ∙ (sym (ap (λ (t : TxNo). not (t.value == c.unwrap-t.result.value)) c.t.ensures) ∙ sym c.if-ne.ensures) in
