@@ -1,4 +1,5 @@
 mod OpenRecords
+mod Marks
 mod SlotWrites
 mod Heads
 mod SlotReads

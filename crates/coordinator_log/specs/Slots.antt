@@ -1,5 +1,5 @@
 -- The slots of a log, in memory and on a disk.
-use Rattle.std.specs.Prelude.{◌≡◌, ◌⊎◌, ◌==◌, ℕ, suc, Bool, false, List, [], ◌∷◌, slice_index_or, take, map, set, Option, Some, None, Ok, Err}
+use Rattle.std.specs.Prelude.{◌≡◌, ◌⊎◌, ◌≤◌, ◌==◌, ℕ, suc, Bool, false, List, [], ◌∷◌, length, slice_index_or, take, map, set, Option, Some, None, Ok, Err}
 use Rattle.std.specs.List.{filter_map}
 use Rattle.outside.specs.Disk.{IsOnly}
 use Rattle.dtx_values.specs.declared.record.LogRecord.{LogRecord}
@@ -19,6 +19,12 @@ lowest_closed (Some r ∷ ss) = suc (lowest_closed ss)
 abbrev pub has_record_of : ℕ → Option LogRecord → Bool
 has_record_of id None = false
 has_record_of id (Some r) = r.id == id
+
+-- there are 1,024 slots of the program's memory, and from this place on their gates are closed
+pub record IsMarked (records : List (Option LogRecord)) (used : ℕ) : Type 0 where
+  pub many : length records ≡ 1024
+  pub within : used ≤ 1024
+  pub closed : (k : ℕ) → used ≤ k → slice_index_or records k None ≡ None
 
 -- a slot of the form that the log has
 abbrev pub formed : Option CommitRecord → Slot

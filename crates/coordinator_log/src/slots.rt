@@ -13,19 +13,21 @@ use std::marker::Model;
 #[derive(Drop)]
 pub struct Slots {
     records: Vec<Option<LogRecord>>,
+    // From this place on every gate is closed. Nothing lowers it.
+    used: usize,
 }
 
 impl Model for Slots {
-    ghost use Rattle.std.specs.Prelude.{◌≡◌, List, Option, length, map};
+    ghost use Rattle.std.specs.Prelude.{List, Option, map};
     ghost use Rattle.std.specs.Option.{option_map};
     ghost use Rattle.dtx_model.specs.Log.{CommitRecord, record_of};
-    ghost use Rattle.coordinator_log.specs.declared.layout.TheConstants.{SLOTS};
+    ghost use Rattle.coordinator_log.specs.Slots.{IsMarked};
 
     ghost Value = { List (Option CommitRecord) };
 
     ghost view = { λ s. map (option_map record_of) s.records.items };
 
-    ghost invariant = { λ s. length s.records.items ≡ SLOTS };
+    ghost invariant = { λ s. IsMarked s.records.items s.used };
 }
 
 impl Slots {
@@ -35,7 +37,7 @@ impl Slots {
         ensures many { IfOk result (λ s. length s ≡ SLOTS) }
     {
         let records = closed_gates(alloc, SLOTS)?;
-        Ok(Slots { records })
+        Ok(Slots { records, used: 0 })
     }
 
     /// The lowest slot whose gate is closed.
@@ -54,7 +56,7 @@ impl Slots {
         ensures none { IfNone result (first_of id (open_records self.now) ≡ None) }
         ensures many { length self.now ≡ SLOTS }
     {
-        first_with(&self.records, id)
+        first_with(&self.records[..self.used], id)
     }
 
     /// The record of slot k.
@@ -71,14 +73,16 @@ impl Slots {
         ensures slots { self.new ≡ set self.old k (option_map record_of r) }
         ensures many { length self.new ≡ SLOTS }
     {
+        let used = if r.is_some() { self.used.max(k + 1) } else { self.used };
         self.records[k] = r;
+        self.used = used;
     }
 
     /// How many records there are.
     pub fn count(&self) -> u16
         ensures { result ≡ length (open_records self.now) }
     {
-        open_gates(&self.records) as u16
+        open_gates(&self.records[..self.used]) as u16
     }
 }
 
