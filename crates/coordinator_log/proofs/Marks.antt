@@ -1,16 +1,12 @@
 -- The slots in memory that were used: no record comes after them.
-use Rattle.std.specs.Prelude.{count_by, is_some, position, slice_index_or}
+use Rattle.std.specs.Prelude.{count_by, is_some, position}
 use Rattle.std.specs.List.{position_from}
-use Rattle.std.proofs.Common.{◌≡◌, ℕ, zero, suc, ◌+◌, ◌≤◌, cond, eqb, List, [], ◌∷◌, take, Option, Some, None, refl, sym, ap, ◌∙◌, inl, inr, arith}
+use Rattle.std.proofs.Common.{◌≡◌, ℕ, zero, suc, ◌+◌, cond, eqb, List, [], ◌∷◌, take, Option, Some, None, refl, sym, ◌∙◌, inl, inr, arith}
 use Rattle.std.proofs.lemmas.Bool.{cases_Bool}
 use Rattle.std.proofs.lemmas.Iterator.Adapters.{position_from-zero}
 use Rattle.std.proofs.lemmas.List.Sums.{sum_by-cons}
 use Rattle.dtx_values.specs.declared.record.LogRecord.{LogRecord}
-use Rattle.coordinator_log.specs.Slots.{has_record_of}
-
--- from here on every gate is closed
-abbrev IsClosedFrom : ℕ → List (Option LogRecord) → Type 0
-IsClosedFrom n ss = (k : ℕ) → n ≤ k → slice_index_or ss k None ≡ None
+use Rattle.coordinator_log.specs.Slots.{IsClosedFrom, has_record_of}
 
 -- a slot with a record isn't closed
 no_record : {X : Type 0} (r : LogRecord) (ss : List (Option LogRecord)) → IsClosedFrom 0 (Some r ∷ ss) → X

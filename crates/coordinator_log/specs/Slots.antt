@@ -20,11 +20,15 @@ abbrev pub has_record_of : ℕ → Option LogRecord → Bool
 has_record_of id None = false
 has_record_of id (Some r) = r.id == id
 
--- there are 1,024 slots of the program's memory, and from this place on their gates are closed
+-- from this place on the slots of the program's memory have no records
+abbrev pub IsClosedFrom : ℕ → List (Option LogRecord) → Type 0
+IsClosedFrom n ss = (k : ℕ) → n ≤ k → slice_index_or ss k None ≡ None
+
+-- there are 1,024 slots in the program's memory, and from this place on their gates are closed
 pub record IsMarked (records : List (Option LogRecord)) (used : ℕ) : Type 0 where
   pub many : length records ≡ 1024
   pub within : used ≤ 1024
-  pub closed : (k : ℕ) → used ≤ k → slice_index_or records k None ≡ None
+  pub closed : IsClosedFrom used records
 
 -- a slot of the form that the log has
 abbrev pub formed : Option CommitRecord → Slot

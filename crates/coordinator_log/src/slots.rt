@@ -73,7 +73,11 @@ impl Slots {
         ensures slots { self.new ≡ set self.old k (option_map record_of r) }
         ensures many { length self.new ≡ SLOTS }
     {
-        let used = if r.is_some() { self.used.max(k + 1) } else { self.used };
+        let used = if r.is_some() {
+            self.used.max(k + 1)
+        } else {
+            self.used
+        };
         self.records[k] = r;
         self.used = used;
     }

@@ -1,5 +1,5 @@
 use Rattle.std.specs.Prelude.{position}
-use Rattle.std.proofs.Common.{◌≡◌, ◌∙◌, ap, take}
+use Rattle.std.proofs.Common.{◌≡◌, ◌∙◌, take}
 use Rattle.coordinator_log.specs.Slots.{has_record_of}
 use Rattle.coordinator_log.proofs.Marks.{position_used}
 use Rattle.coordinator_log.proofs.OpenRecords.{found_some, found_rest, found_none}
