@@ -272,7 +272,8 @@ fn cells_of<N: Run>(
     ensures { IfOk result (λ v. map (λ x. x.transaction.value) v.items ≡ transactions_of s.now) }
 {
     let made = Made::of(s);
-    let mut cells = Vec::new(alloc);
+    // Room for all: a cell is large, and what grows is copied.
+    let mut cells = Vec::with_capacity(alloc, all.len())?;
     let mut n = 0;
     for rows in all {
         n += 1;
