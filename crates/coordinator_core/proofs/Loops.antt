@@ -12,7 +12,7 @@ use Rattle.dtx_values.specs.RecoveryInfo.{pair_of}
 use Rattle.dtx_model.specs.declared.desk.Desk.{Desk}
 use Rattle.dtx_model.specs.Coordinated.{Coordinated, is_prepared, to, to_each}
 use Rattle.coordinator_core.specs.Hearing.{hears, told}
-use Rattle.coordinator_core.proofs.Writing.{written-none, written-written}
+use Rattle.dtx_model.proofs.Writing.{written-none, written-written}
 
 -- the block to these who came back
 abbrev pub to_these : Coordinated → Message → List EnlNo → List Entry

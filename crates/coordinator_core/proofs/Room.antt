@@ -15,9 +15,9 @@ use Rattle.dtx_values.specs.declared.number.EnlNo.{EnlNo}
 use Rattle.dtx_values.specs.Ends.{order_of}
 use Rattle.dtx_values.specs.Table.{enl_number, insert_by}
 use Rattle.dtx_model.specs.declared.desk.Desk.{Desk}
-use Rattle.dtx_model.specs.Coordinated.{Coordinated, accepts, ballot_of, but, desk_number, desks_after, follow, is_active, known_after, waits_after, with_ack, with_ballot, without}
+use Rattle.dtx_model.specs.Coordinated.{Coordinated, accepts, ballot_of, but, desk_number, desks_after, follow, is_active, is_enlisting, known_after, waits_after, with_ack, with_ballot, without}
 use Rattle.dtx_model.proofs.Counts.{length-insert_by}
-use Rattle.coordinator_core.specs.Kept.{IsFew, is_enlisting}
+use Rattle.coordinator_core.specs.Kept.{IsFew}
 
 -- a place is left for a connection that is opened
 opened_fits : (c : Conn) (known : List Conn) → length (insert_by order_of c (without c known)) ≤ CONNECTIONS → length (without c known) < CONNECTIONS

@@ -1,36 +1,8 @@
 -- Blocks that are written after each other.
-use Rattle.std.proofs.Common.{◌≡◌, ◌∙◌, ◌-◌, List, [], ◌∷◌, ◌++◌, length, refl, ap, sym, arith, append_assoc, length-append}
-use Rattle.std.proofs.lemmas.List.{append-nil}
+use Rattle.std.proofs.Common.{◌≡◌, ◌∙◌, List, ◌++◌, ap}
 use Rattle.dtx_values.specs.declared.entry.Entry.{Entry}
-use Rattle.dtx_values.specs.declared.entry.Entry.TheVariants.{Sent}
-use Rattle.dtx_values.specs.declared.message.Conn.{Conn}
-use Rattle.dtx_values.specs.declared.message.Dir.{Dir}
-use Rattle.dtx_values.specs.declared.message.Message.{Message}
-use Rattle.dtx_values.specs.Outgoing.{Outgoing, sends_of, written}
-
--- two blocks send what each sends
-pub sends_of-append : (xs ys : List Entry) → sends_of (xs ++ ys) ≡ sends_of xs ++ sends_of ys
-sends_of-append [] ys = refl
-sends_of-append (Sent c d m ∷ xs) ys = ap (λ (zs : List (Conn × Dir × Message)). (c, d, m) ∷ zs) (sends_of-append xs ys)
-sends_of-append (x ∷ xs) ys = sends_of-append xs ys
-
--- two blocks after each other are one
-pub written-written : (o : Outgoing) (xs ys : List Entry) → written (written o xs) ys ≡ written o (xs ++ ys)
-written-written o xs ys =
-    let both = sends_of-append xs ys in
-    let room : (o.room - length xs) - length ys ≡ o.room - length (xs ++ ys) = omega (arith, length-append xs ys) in
-    let send_room : (o.send_room - length (sends_of xs)) - length (sends_of ys) ≡ o.send_room - length (sends_of (xs ++ ys)) =
-    omega (arith, ap length both, length-append (sends_of xs) (sends_of ys)) in
-    let sends : (o.sends ++ sends_of xs) ++ sends_of ys ≡ o.sends ++ sends_of (xs ++ ys) =
-    append_assoc o.sends (sends_of xs) (sends_of ys) ∙ ap (λ (zs : List (Conn × Dir × Message)). o.sends ++ zs) (sym both) in
-    λ i. record { entries = append_assoc o.entries xs ys i; sends = sends i; room = room i; send_room = send_room i }
-
--- an empty block changes nothing
-pub written-none : (o : Outgoing) → written o [] ≡ o
-written-none o =
-    let room : o.room - 0 ≡ o.room = omega arith in
-    let send_room : o.send_room - 0 ≡ o.send_room = omega arith in
-    λ i. record { entries = append-nil o.entries i; sends = append-nil o.sends i; room = room i; send_room = send_room i }
+use Rattle.dtx_values.specs.Outgoing.{Outgoing, written}
+use Rattle.dtx_model.proofs.Writing.{written-none, written-written}
 
 -- four blocks after each other are one
 pub written-four : (o : Outgoing) (a b c d : List Entry) → written (written (written (written o a) b) c) d ≡ written o (a ++ b ++ c ++ d)

@@ -1,13 +1,13 @@
 -- What the coordinator keeps of one transaction, what a message makes of it, and for how much there is room.
-use Rattle.std.specs.Prelude.{ℕ, ◌+◌, ◌≤◌, Bool, true, false, ◌&&◌, not, List, [], ◌∷◌, filter, map, length, Some, if◌then◌else◌}
+use Rattle.std.specs.Prelude.{ℕ, ◌+◌, ◌≤◌, Bool, ◌&&◌, not, List, [], ◌∷◌, filter, map, length, Some, if◌then◌else◌}
 use Rattle.dtx_values.specs.declared.entry.Entry.{Entry}
 use Rattle.dtx_values.specs.declared.entry.Entry.TheVariants.{Got}
 use Rattle.dtx_values.specs.declared.limits.TheConstants.{CONNECTIONS, DURABLES}
 use Rattle.dtx_values.specs.declared.message.Conn.{Conn}
-use Rattle.dtx_values.specs.declared.message.Conn.TheVariants.{Again, Enl}
+use Rattle.dtx_values.specs.declared.message.Conn.TheVariants.{Again}
 use Rattle.dtx_values.specs.declared.message.Dir.TheVariants.{Up}
 use Rattle.dtx_values.specs.declared.message.Message.{Message}
-use Rattle.dtx_values.specs.declared.message.Message.TheVariants.{EnlistEnlist, ReenlistAborted, ReenlistCommitted}
+use Rattle.dtx_values.specs.declared.message.Message.TheVariants.{ReenlistAborted, ReenlistCommitted}
 use Rattle.dtx_values.specs.declared.number.EnlNo.{EnlNo}
 use Rattle.dtx_values.specs.declared.number.TxNo.{TxNo}
 use Rattle.dtx_values.specs.Ends.{order_of, same_connection}
@@ -61,11 +61,6 @@ voted e b k =
 -- those of these who came back whose connection isn't known
 abbrev pub unreached : List Conn → List EnlNo → List EnlNo
 unreached known es = filter (λ e. not (has (same_connection (Again e)) known)) es
-
--- an ENLIST on the connection of an enlistment
-abbrev pub is_enlisting : Conn → Message → Bool
-is_enlisting (Enl e) (EnlistEnlist i) = true
-is_enlisting _ _ = false
 
 -- it fits: at most 16 enlistments, 34 known connections, and 16 that came back and wait
 pub record IsFew (k : Coordinated) : Type 0 where

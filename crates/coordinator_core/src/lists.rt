@@ -6,9 +6,9 @@ ghost use Rattle.dtx_values.specs.Table.{enl_number, insert_by};
 ghost use Rattle.dtx_values.specs.declared.entry.Entry.TheVariants.{Down as End};
 ghost use Rattle.dtx_values.specs.declared.message.Conn.TheVariants.{Again};
 ghost use Rattle.dtx_values.specs.declared.message.Dir.TheVariants.{Up};
-ghost use Rattle.dtx_model.specs.Coordinated.{but, waits_after, without};
+ghost use Rattle.dtx_model.specs.Coordinated.{but, is_enlisting, waits_after, without};
 ghost use Rattle.dtx_model.specs.Words.{has};
-ghost use Rattle.coordinator_core.specs.Kept.{is_enlisting, unreached};
+ghost use Rattle.coordinator_core.specs.Kept.{unreached};
 
 use arrayvec::ArrayVec;
 use dtx_values::{CONNECTIONS, Conn, DURABLES, EnlNo, Message, Numbered, place_in_order};

@@ -15,6 +15,7 @@ pub mod Classes
 pub mod Narrow
 pub mod Narrowing
 pub mod Writes
+pub mod Writing
 pub mod Blocks
 pub mod Quiet
 pub mod Heeding

@@ -34,17 +34,18 @@ use Rattle.dtx_model.specs.Coordinated.{may_free, may_log}
 use Rattle.dtx_model.specs.Acts.{act_entries as full_act, tell}
 use Rattle.dtx_model.specs.Replies.{due_of, reply_entries as full_reply}
 use Rattle.dtx_model.specs.Answers.{await_answer, clone_answer, complete_answer, gone_answer, if_begun, status_answer, unless_ended, unless_late, wait_for}
-use Rattle.dtx_model.specs.Facts.{begin_promotion, durable_waits, facts_if, has_facts, local_facts, reaches, ticked, is_done, is_wait}
+use Rattle.dtx_model.specs.Facts.{begin_promotion, durable_waits, facts_if, has_facts, local_facts, reaches, ticked, is_done, is_waiting_answer, lost_outcome}
 use Rattle.dtx_model.specs.World.{World, core, facts_at, half, has_left}
 use Rattle.dtx_model.specs.Steps.{LogAnswer, Step, Calls, Replies, Acts, Coordinates, Delivers, Stops, Restarts, after, block_at, core_act, deliveries_on, local_pending, pending}
-use Rattle.dtx_model.specs.Caused.{FreelyCaused, MayCome, Ran, is_begin_sent, is_promoting_entry, is_unpromoted, may_coordinate}
+use Rattle.dtx_model.specs.Caused.{FreelyCaused, MayCome, Ran, is_begin_sent, is_unpromoted, may_coordinate}
 use Rattle.dtx_model.proofs.Bools.{and_both, and_left, and_right, not_both, not_true, or_first, or_second}
-use Rattle.dtx_model.proofs.Narrow.{act_by, act_entries, after_seal, answer, before_seal, block, commit_act, decided_if, facts, is_late, is_to_tell, lost_outcome, reply_entries, time_up, undecided_act, veto_if}
+use Rattle.dtx_model.proofs.Narrow.{act_by, act_entries, after_seal, answer, before_seal, block, commit_act, decided_if, facts, is_late, is_to_tell, reply_entries, time_up, undecided_act, veto_if}
 use Rattle.dtx_model.proofs.Narrowing.{act-narrow}
 use Rattle.dtx_model.proofs.NarrowReplies.{reply-narrow}
 use Rattle.dtx_model.proofs.NarrowCalls.{answer-narrow}
 use Rattle.dtx_model.proofs.NarrowFacts.{call-narrow}
 use Rattle.dtx_model.proofs.Unpromoted.{are_local, at_home, begin-local, coordinate-local, half-local, is_local, left-local, observe-local}
+use Rattle.dtx_model.specs.Promotes.{is_promoting}
 
 -- blocks are local
 veto_local : (b : Bool) → are_local (veto_if b) ≡ true
@@ -70,11 +71,11 @@ if_local : (b : Bool) (es : List Entry) → are_local es ≡ true → are_local 
 if_local true es p = p
 if_local false es p = refl
 
-called_local : (n : ℕ) (a : ActorNo) (x : Answer) (es : List Entry) → is_wait x ≡ false → are_local es ≡ true → are_local (Called n a x ∷ es) ≡ true
+called_local : (n : ℕ) (a : ActorNo) (x : Answer) (es : List Entry) → is_waiting_answer x ≡ false → are_local es ≡ true → are_local (Called n a x ∷ es) ≡ true
 called_local n a Wait es p q = absurd cc
 called_local n a _ es p q = q
 
-pub call_local : (o : Observed) (n : ℕ) (a : ActorNo) (c : Call) (k : ℕ) → is_wait (answer o c k) ≡ false → are_local (block o (Calls n a c k)) ≡ true
+pub call_local : (o : Observed) (n : ℕ) (a : ActorNo) (c : Call) (k : ℕ) → is_waiting_answer (answer o c k) ≡ false → are_local (block o (Calls n a c k)) ≡ true
 unfolding block
 call_local o n a c k p = called_local n a (answer o c k) (facts_if (is_done (answer o c k)) (facts o c)) p (if_local (is_done (answer o c k)) (facts o c) (facts_local o c))
 
@@ -128,54 +129,54 @@ durable_waits_for (Some n) None false false true c p = absurd cc
 durable_waits_for (Some n) None false false false None p = absurd cc
 durable_waits_for (Some n) None false false false (Some x) p = (x, refl)
 
-over_wait : (l : Option ℕ) (d : Option Outcome) (x : Answer) → is_wait x ≡ false → is_wait (if_begun l (unless_ended d x)) ≡ false
+over_wait : (l : Option ℕ) (d : Option Outcome) (x : Answer) → is_waiting_answer x ≡ false → is_waiting_answer (if_begun l (unless_ended d x)) ≡ false
 over_wait None d x p = refl
 over_wait (Some n) (Some y) x p = refl
 over_wait (Some n) None x p = p
 
-begun_wait : (l : Option ℕ) (x : Answer) → is_wait x ≡ false → is_wait (if_begun l x) ≡ false
+begun_wait : (l : Option ℕ) (x : Answer) → is_waiting_answer x ≡ false → is_waiting_answer (if_begun l x) ≡ false
 begun_wait None x p = refl
 begun_wait (Some n) x p = p
 
-one_bar : (a : Bool) → is_wait (if a then TooLate else Fine) ≡ false
+one_bar : (a : Bool) → is_waiting_answer (if a then TooLate else Fine) ≡ false
 one_bar true = refl
 one_bar false = refl
 
-two_bars : (a b : Bool) (x : ℕ) → is_wait (if a then TooLate else if b then Many x else Fine) ≡ false
+two_bars : (a b : Bool) (x : ℕ) → is_waiting_answer (if a then TooLate else if b then Many x else Fine) ≡ false
 two_bars true b x = refl
 two_bars false true x = refl
 two_bars false false x = refl
 
-three_bars : (a b c : Bool) (x : ℕ) → is_wait (if a then TooLate else if not b then False else if c then Many x else True) ≡ false
+three_bars : (a b c : Bool) (x : ℕ) → is_waiting_answer (if a then TooLate else if not b then False else if c then Many x else True) ≡ false
 three_bars true b c x = refl
 three_bars false false c x = refl
 three_bars false true true x = refl
 three_bars false true false x = refl
 
-two_ends : (a b : Bool) → is_wait (if not a then NoSuch else if b then Already else Fine) ≡ false
+two_ends : (a b : Bool) → is_waiting_answer (if not a then NoSuch else if b then Already else Fine) ≡ false
 two_ends false b = refl
 two_ends true true = refl
 two_ends true false = refl
 
-status_wait : (x : Option Outcome) → is_wait (status_answer x) ≡ false
+status_wait : (x : Option Outcome) → is_waiting_answer (status_answer x) ≡ false
 status_wait (Some x) = refl
 status_wait None = refl
 
-await_wait : (x : Option Outcome) → is_wait (await_answer x) ≡ false
+await_wait : (x : Option Outcome) → is_waiting_answer (await_answer x) ≡ false
 await_wait (Some x) = refl
 await_wait None = refl
 
 promotes_durable : (t : ℕ) (w : World) (u : TxNo) (e : EnlNo) (r : RmNo) (s : Support) (k : ℕ) (n : ℕ) (a : ActorNo) (c : Cause) → are_local w.past ≡ true → cause_of (observe w.past).table (is_single s) ≡ Some c →
-    has is_promoting_entry (Called n a Wait ∷ facts_if true (facts_at t w (Durable u e r s) Wait)) ≡ true
+    has is_promoting (Called n a Wait ∷ facts_if true (facts_at t w (Durable u e r s) Wait)) ≡ true
 promotes_durable t w u e r s k n a c p q =
-    ap (λ (h : Half). has is_promoting_entry (durable_waits t h e r (is_single s))) (half-local w.calls w.past p)
-    ∙ ap (λ x. has is_promoting_entry (begin_promotion (at_home (observe w.past) (managed w.calls w.past)) x)) q
+    ap (λ (h : Half). has is_promoting (durable_waits t h e r (is_single s))) (half-local w.calls w.past p)
+    ∙ ap (λ x. has is_promoting (begin_promotion (at_home (observe w.past) (managed w.calls w.past)) x)) q
 
-promotes_marshal : (t : ℕ) (w : World) (u : TxNo) (n : ℕ) (a : ActorNo) → are_local w.past ≡ true → has is_promoting_entry (Called n a Wait ∷ facts_if true (facts_at t w (Marshal u) Wait)) ≡ true
-promotes_marshal t w u n a p = ap (λ (h : Half). has is_promoting_entry (local_facts t h (Marshal u) Wait)) (half-local w.calls w.past p)
+promotes_marshal : (t : ℕ) (w : World) (u : TxNo) (n : ℕ) (a : ActorNo) → are_local w.past ≡ true → has is_promoting (Called n a Wait ∷ facts_if true (facts_at t w (Marshal u) Wait)) ≡ true
+promotes_marshal t w u n a p = ap (λ (h : Half). has is_promoting (local_facts t h (Marshal u) Wait)) (half-local w.calls w.past p)
 
 waits_block : (t : ℕ) (w : World) (n : ℕ) (a : ActorNo) (c : Call) (k : ℕ) → are_local w.past ≡ true → answer (observe w.past) c k ≡ Wait →
-    has is_promoting_entry (Called n a Wait ∷ facts_if true (facts_at t w c Wait)) ≡ true
+    has is_promoting (Called n a Wait ∷ facts_if true (facts_at t w c Wait)) ≡ true
 unfolding answer observe
 waits_block t w n a (Durable u e r s) k p q =
     let o = observe w.past in
@@ -185,36 +186,36 @@ waits_block t w n a (Marshal u) k p q = promotes_marshal t w u n a p
 waits_block t w n a (Begin u d) k p q = absurd cc
 waits_block t w n a (Volatile u e y v) k p q =
     let o = observe w.past in
-    absurd (not_both (is_wait (answer o (Volatile u e y v) k)) (ap is_wait q) (over_wait o.limit o.decided (if o.sealed then TooLate else if nat_le ENLISTMENTS (length o.table) then Many ENLISTMENTS else Fine) (two_bars o.sealed (nat_le ENLISTMENTS (length o.table)) ENLISTMENTS)))
+    absurd (not_both (is_waiting_answer (answer o (Volatile u e y v) k)) (ap is_waiting_answer q) (over_wait o.limit o.decided (if o.sealed then TooLate else if nat_le ENLISTMENTS (length o.table) then Many ENLISTMENTS else Fine) (two_bars o.sealed (nat_le ENLISTMENTS (length o.table)) ENLISTMENTS)))
 waits_block t w n a (Promotable u e r v y z) k p q =
     let o = observe w.past in
-    absurd (not_both (is_wait (answer o (Promotable u e r v y z) k)) (ap is_wait q) (over_wait o.limit o.decided (if o.sealed then TooLate else if not (may_own o.table false) then False else if nat_le ENLISTMENTS (length o.table) then Many ENLISTMENTS else True) (three_bars o.sealed (may_own o.table false) (nat_le ENLISTMENTS (length o.table)) ENLISTMENTS)))
+    absurd (not_both (is_waiting_answer (answer o (Promotable u e r v y z) k)) (ap is_waiting_answer q) (over_wait o.limit o.decided (if o.sealed then TooLate else if not (may_own o.table false) then False else if nat_le ENLISTMENTS (length o.table) then Many ENLISTMENTS else True) (three_bars o.sealed (may_own o.table false) (nat_le ENLISTMENTS (length o.table)) ENLISTMENTS)))
 waits_block t w n a (Clone u c d) k p q =
     let o = observe w.past in
-    absurd (not_both (is_wait (answer o (Clone u c d) k)) (ap is_wait q) (over_wait o.limit o.decided (clone_answer o.commit (length o.clones)) (two_bars o.commit (nat_le CLONES (length o.clones)) CLONES)))
+    absurd (not_both (is_waiting_answer (answer o (Clone u c d) k)) (ap is_waiting_answer q) (over_wait o.limit o.decided (clone_answer o.commit (length o.clones)) (two_bars o.commit (nat_le CLONES (length o.clones)) CLONES)))
 waits_block t w n a (Complete c) k p q =
     let o = observe w.past in
-    absurd (not_both (is_wait (answer o (Complete c) k)) (ap is_wait q) (over_wait o.limit o.decided (complete_answer (has (is_clone c.value) o.clones) (has (is_complete_clone c.value) o.clones)) (two_ends (has (is_clone c.value) o.clones) (has (is_complete_clone c.value) o.clones))))
+    absurd (not_both (is_waiting_answer (answer o (Complete c) k)) (ap is_waiting_answer q) (over_wait o.limit o.decided (complete_answer (has (is_clone c.value) o.clones) (has (is_complete_clone c.value) o.clones)) (two_ends (has (is_clone c.value) o.clones) (has (is_complete_clone c.value) o.clones))))
 waits_block t w n a (Commit u) k p q =
-    let o = observe w.past in absurd (not_both (is_wait (answer o (Commit u) k)) (ap is_wait q) (over_wait o.limit o.decided (unless_late o.commit) (one_bar o.commit)))
+    let o = observe w.past in absurd (not_both (is_waiting_answer (answer o (Commit u) k)) (ap is_waiting_answer q) (over_wait o.limit o.decided (unless_late o.commit) (one_bar o.commit)))
 waits_block t w n a (Rollback u) k p q =
-    let o = observe w.past in absurd (not_both (is_wait (answer o (Rollback u) k)) (ap is_wait q) (over_wait o.limit o.decided (unless_late o.sealed) (one_bar o.sealed)))
+    let o = observe w.past in absurd (not_both (is_waiting_answer (answer o (Rollback u) k)) (ap is_waiting_answer q) (over_wait o.limit o.decided (unless_late o.sealed) (one_bar o.sealed)))
 waits_block t w n a (Status u) k p q =
-    let o = observe w.past in absurd (not_both (is_wait (answer o (Status u) k)) (ap is_wait q) (begun_wait o.limit (status_answer o.decided) (status_wait o.decided)))
+    let o = observe w.past in absurd (not_both (is_waiting_answer (answer o (Status u) k)) (ap is_waiting_answer q) (begun_wait o.limit (status_answer o.decided) (status_wait o.decided)))
 waits_block t w n a (Await u) k p q =
-    let o = observe w.past in absurd (not_both (is_wait (answer o (Await u) k)) (ap is_wait q) (begun_wait o.limit (await_answer o.told_client) (await_wait o.told_client)))
-waits_block t w n a (Tick u m) k p q = let o = observe w.past in absurd (not_both (is_wait (answer o (Tick u m) k)) (ap is_wait q) (begun_wait o.limit Fine refl))
-waits_block t w n a (Do u i m) k p q = let o = observe w.past in absurd (not_both (is_wait (answer o (Do u i m) k)) (ap is_wait q) (begun_wait o.limit (Did k) refl))
-waits_block t w n a (Lose u c i m) k p q = let o = observe w.past in absurd (not_both (is_wait (answer o (Lose u c i m) k)) (ap is_wait q) (begun_wait o.limit NoSuch refl))
+    let o = observe w.past in absurd (not_both (is_waiting_answer (answer o (Await u) k)) (ap is_waiting_answer q) (begun_wait o.limit (await_answer o.told_client) (await_wait o.told_client)))
+waits_block t w n a (Tick u m) k p q = let o = observe w.past in absurd (not_both (is_waiting_answer (answer o (Tick u m) k)) (ap is_waiting_answer q) (begun_wait o.limit Fine refl))
+waits_block t w n a (Do u i m) k p q = let o = observe w.past in absurd (not_both (is_waiting_answer (answer o (Do u i m) k)) (ap is_waiting_answer q) (begun_wait o.limit (Did k) refl))
+waits_block t w n a (Lose u c i m) k p q = let o = observe w.past in absurd (not_both (is_waiting_answer (answer o (Lose u c i m) k)) (ap is_waiting_answer q) (begun_wait o.limit NoSuch refl))
 waits_block t w n a (Gone e) k p q =
-    let o = observe w.past in absurd (not_both (is_wait (answer o (Gone e) k)) (ap is_wait q) (begun_wait o.limit (gone_answer (stands o e.value) (is_gone o e.value)) (two_ends (stands o e.value) (is_gone o e.value))))
-waits_block t w n a (Reenlist e) k p q = let o = observe w.past in absurd (not_both (is_wait (answer o (Reenlist e) k)) (ap is_wait q) (begun_wait o.limit NoSuch refl))
-waits_block t w n a (Recovered u r) k p q = let o = observe w.past in absurd (not_both (is_wait (answer o (Recovered u r) k)) (ap is_wait q) (begun_wait o.limit NoSuch refl))
+    let o = observe w.past in absurd (not_both (is_waiting_answer (answer o (Gone e) k)) (ap is_waiting_answer q) (begun_wait o.limit (gone_answer (stands o e.value) (is_gone o e.value)) (two_ends (stands o e.value) (is_gone o e.value))))
+waits_block t w n a (Reenlist e) k p q = let o = observe w.past in absurd (not_both (is_waiting_answer (answer o (Reenlist e) k)) (ap is_waiting_answer q) (begun_wait o.limit NoSuch refl))
+waits_block t w n a (Recovered u r) k p q = let o = observe w.past in absurd (not_both (is_waiting_answer (answer o (Recovered u r) k)) (ap is_waiting_answer q) (begun_wait o.limit NoSuch refl))
 
-pub waits_promotes : (t : ℕ) (w : World) (n : ℕ) (a : ActorNo) (c : Call) (k : ℕ) → are_local w.past ≡ true → answer (observe w.past) c k ≡ Wait → has is_promoting_entry (block_at t w (Calls n a c k)) ≡ true
+pub waits_promotes : (t : ℕ) (w : World) (n : ℕ) (a : ActorNo) (c : Call) (k : ℕ) → are_local w.past ≡ true → answer (observe w.past) c k ≡ Wait → has is_promoting (block_at t w (Calls n a c k)) ≡ true
 unfolding block_at
 waits_promotes t w n a c k p q =
-    ap (λ x. has is_promoting_entry (Called n a x ∷ facts_if (has_facts x) (facts_at t w c x))) (answer-narrow t w c k p ∙ q) ∙ waits_block t w n a c k p q
+    ap (λ x. has is_promoting (Called n a x ∷ facts_if (has_facts x) (facts_at t w c x))) (answer-narrow t w c k p ∙ q) ∙ waits_block t w n a c k p q
 
 -- the block of a step that may come, where nothing was promoted before it: the narrow block, or a promotion begins
 abbrev pub IsNarrow : ℕ → World → Step → Type 0
@@ -224,11 +225,11 @@ pub may_nothing : (w : World) (a : LogAnswer) → are_local w.past ≡ true → 
 unfolding may_log may_free
 may_nothing w a p = rw (coordinate-local w.past p) refl
 
-wait_case : (t : ℕ) (w : World) (n : ℕ) (a : ActorNo) (c : Call) (k : ℕ) (x : Answer) → are_local w.past ≡ true → answer (observe w.past) c k ≡ x → (has is_promoting_entry (block_at t w (Calls n a c k)) ≡ true) ⊎ IsNarrow t w (Calls n a c k)
+wait_case : (t : ℕ) (w : World) (n : ℕ) (a : ActorNo) (c : Call) (k : ℕ) (x : Answer) → are_local w.past ≡ true → answer (observe w.past) c k ≡ x → (has is_promoting (block_at t w (Calls n a c k)) ≡ true) ⊎ IsNarrow t w (Calls n a c k)
 wait_case t w n a c k Wait p e = inl (waits_promotes t w n a c k p e)
-wait_case t w n a c k x p e = inr (call-narrow t w n a c k p (ap is_wait e), call_local (observe w.past) n a c k (ap is_wait e))
+wait_case t w n a c k x p e = inr (call-narrow t w n a c k p (ap is_waiting_answer e), call_local (observe w.past) n a c k (ap is_waiting_answer e))
 
-pub step-narrow : (G : ℕ → ActorNo → Call → Type 0) (t : ℕ) (w : World) (m : Step) → are_local w.past ≡ true → MayCome G t w m → (has is_promoting_entry (block_at t w m) ≡ true) ⊎ IsNarrow t w m
+pub step-narrow : (G : ℕ → ActorNo → Call → Type 0) (t : ℕ) (w : World) (m : Step) → are_local w.past ≡ true → MayCome G t w m → (has is_promoting (block_at t w m) ≡ true) ⊎ IsNarrow t w m
 unfolding block_at block
 step-narrow G t w (Calls n a c k) p q = wait_case t w n a c k (answer (observe w.past) c k) p refl
 step-narrow G t w (Replies e r) p q =
@@ -258,23 +259,23 @@ pub has-onto : {A : Type 0} (p : A → Bool) (h xs : List A) → has p (onto h x
 has-onto p h [] = refl
 has-onto p h (x ∷ xs) = has-onto p (x ∷ h) xs ∙ or_turn (has p xs) (p x) (has p h)
 
-local_step : (G : ℕ → ActorNo → Call → Type 0) (t : ℕ) (v : World) (m : Step) → are_local v.past ≡ true → has is_promoting_entry (block_at t v m) ≡ false →
-    (has is_promoting_entry (block_at t v m) ≡ true) ⊎ IsNarrow t v m → are_local (onto v.past (block_at t v m)) ≡ true
-local_step G t v m p q (inl k) = absurd (not_both (has is_promoting_entry (block_at t v m)) k q)
+local_step : (G : ℕ → ActorNo → Call → Type 0) (t : ℕ) (v : World) (m : Step) → are_local v.past ≡ true → has is_promoting (block_at t v m) ≡ false →
+    (has is_promoting (block_at t v m) ≡ true) ⊎ IsNarrow t v m → are_local (onto v.past (block_at t v m)) ≡ true
+local_step G t v m p q (inl k) = absurd (not_both (has is_promoting (block_at t v m)) k q)
 local_step G t v m p q (inr k) = subst (λ xs. are_local (onto v.past xs) ≡ true) (sym k.0) (local_onto v.past (block (observe v.past) m) p k.1)
 
-ran_local : (G : ℕ → ActorNo → Call → Type 0) (t : ℕ) (ms : List Step) (w : World) → Ran G t ms w → has is_promoting_entry w.past ≡ false → are_local w.past ≡ true
+ran_local : (G : ℕ → ActorNo → Call → Type 0) (t : ℕ) (ms : List Step) (w : World) → Ran G t ms w → has is_promoting w.past ≡ false → are_local w.past ≡ true
 unfolding after
 ran_local G t [] w r q = rw r.1 refl
 ran_local G t (m ∷ ms) w r q =
     let v = r.0 in
     let e = ap (λ (w : World). w.past) r.3 in
-    let n = sym (has-onto is_promoting_entry v.past (block_at t v m)) ∙ ap (has is_promoting_entry) (sym e) ∙ q in
-    let p = ran_local G t ms v r.1 (or_second (has is_promoting_entry (block_at t v m)) (has is_promoting_entry v.past) n) in
-    subst (λ h. are_local h ≡ true) (sym e) (local_step G t v m p (or_first (has is_promoting_entry (block_at t v m)) (has is_promoting_entry v.past) n) (step-narrow G t v m p r.2))
+    let n = sym (has-onto is_promoting v.past (block_at t v m)) ∙ ap (has is_promoting) (sym e) ∙ q in
+    let p = ran_local G t ms v r.1 (or_second (has is_promoting (block_at t v m)) (has is_promoting v.past) n) in
+    subst (λ h. are_local h ≡ true) (sym e) (local_step G t v m p (or_first (has is_promoting (block_at t v m)) (has is_promoting v.past) n) (step-narrow G t v m p r.2))
 
 pub free-local : (G : ℕ → ActorNo → Call → Type 0) (t : ℕ) (h : List Entry) → FreelyCaused G t h → is_unpromoted h ≡ true → are_local h ≡ true
-free-local G t h r p = ran_local G t r.1.0 (record { calls = r.0; past = h }) r.1.1 (not_true (has is_promoting_entry h) p)
+free-local G t h r p = ran_local G t r.1.0 (record { calls = r.0; past = h }) r.1.1 (not_true (has is_promoting h) p)
 
 -- what is pending there is pending at the local side
 ends-local : (w : World) → are_local w.past ≡ true → (half w).seen.ends ≡ []

@@ -15,7 +15,7 @@ use Rattle.dtx_values.specs.declared.note.Note.{Note}
 use Rattle.dtx_values.specs.declared.note.Note.TheVariants.{Prepare as PrepareNote, Hand as HandNote}
 use Rattle.dtx_values.specs.declared.words.Class.TheVariants.{DurableSingle, Promotable as PromotableClass}
 use Rattle.dtx_values.specs.declared.words.Outcome.{Outcome}
-use Rattle.dtx_values.specs.declared.words.Outcome.TheVariants.{Committed, Aborted, InDoubt}
+use Rattle.dtx_values.specs.declared.words.Outcome.TheVariants.{Committed, Aborted}
 use Rattle.dtx_values.specs.declared.row.Row.{Row}
 use Rattle.dtx_values.specs.Table.{how_many, voted}
 use Rattle.dtx_values.specs.Clones.{is_clone, is_complete_clone, is_open_rollback}
@@ -30,7 +30,7 @@ use Rattle.dtx_model.specs.Observed.{Observed}
 use Rattle.dtx_model.specs.Half.{stands, is_gone, is_handed, is_aborted}
 use Rattle.dtx_model.specs.Acts.{lasts, tell}
 use Rattle.dtx_model.specs.Answers.{limit_of, class_of, if_begun, unless_over, wait_for, clone_answer, complete_answer, unless_late, gone_answer, status_answer, await_answer}
-use Rattle.dtx_model.specs.Facts.{ticked, reaches, facts_if, is_done}
+use Rattle.dtx_model.specs.Facts.{ticked, reaches, facts_if, is_done, lost_outcome}
 use Rattle.dtx_model.specs.Steps.{Step, Calls, Replies, Acts}
 
 abbrev pub volatile_answer : Bool → List Row → Answer
@@ -82,10 +82,6 @@ time_up late = if late then Late ∷ [] else TimedOut ∷ veto
 -- the facts of a tick to this clock
 abbrev pub tick_facts : Observed → ℕ → List Entry
 tick_facts o n = Clock n ∷ (if reaches o.limit o.clock n then time_up (is_late o) else [])
-
--- how a lost enlistment ends the transaction: in doubt where it was handed the commit, else aborted
-abbrev pub lost_outcome : Bool → Outcome
-lost_outcome handed = if handed then InDoubt else Aborted
 
 abbrev pub decided_if : Bool → Outcome → List Entry
 decided_if true x = Decided x ∷ []

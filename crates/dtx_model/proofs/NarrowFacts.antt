@@ -19,11 +19,11 @@ use Rattle.dtx_model.specs.Observed.{Observed, observe, track}
 use Rattle.dtx_model.specs.Waiting.{managed}
 use Rattle.dtx_model.specs.Half.{Half, decide, is_handed, sees, veto, veto_if as full_veto_if}
 use Rattle.dtx_model.specs.Wires.{is_open_wire}
-use Rattle.dtx_model.specs.Facts.{facts_if, has_facts, is_late as full_late, local_facts, reaches, ticked, time_up as full_time_up, is_wait, is_done}
+use Rattle.dtx_model.specs.Facts.{facts_if, has_facts, is_late as full_late, local_facts, reaches, ticked, time_up as full_time_up, is_done, is_waiting_answer, lost_outcome}
 use Rattle.dtx_model.specs.Answers.{if_begun, unless_ended}
 use Rattle.dtx_model.specs.World.{World, connections_of, facts_at, gone_by, gone_unlinked, half, open_ones}
 use Rattle.dtx_model.specs.Steps.{Calls, block_at}
-use Rattle.dtx_model.proofs.Narrow.{answer, block, decided_if, facts, is_late, lost_outcome, time_up, veto_if}
+use Rattle.dtx_model.proofs.Narrow.{answer, block, decided_if, facts, is_late, time_up, veto_if}
 use Rattle.dtx_model.proofs.Bools.{not_both}
 use Rattle.dtx_model.proofs.NarrowCalls.{answer-narrow, is_answered_here}
 use Rattle.dtx_model.proofs.Unpromoted.{are_local, at_home, half-local, narrow, unopened-local}
@@ -111,7 +111,7 @@ here_same : (t : ℕ) (w : World) (c : Call) (x : Answer) → are_local w.past �
 here_same t w c x p q d =
     written_same t w c x p q ∙ ap (λ (h : Half). local_facts t h c x) (half-local w.calls w.past p) ∙ facts-narrow t (observe w.past) (managed w.calls w.past) c x q d
 
-if_same : (x : Answer) (es fs : List Entry) → is_wait x ≡ false → (is_done x ≡ true → es ≡ fs) → facts_if (has_facts x) es ≡ facts_if (is_done x) fs
+if_same : (x : Answer) (es fs : List Entry) → is_waiting_answer x ≡ false → (is_done x ≡ true → es ≡ fs) → facts_if (has_facts x) es ≡ facts_if (is_done x) fs
 if_same Fine es fs p f = f refl
 if_same True es fs p f = f refl
 if_same Wait es fs p f = absurd cc
@@ -147,7 +147,7 @@ done_facts t w (Await u) k x p e d = here_same t w (Await u) x p refl d
 done_facts t w (Tick u n) k x p e d = here_same t w (Tick u n) x p refl d
 done_facts t w (Do u n m) k x p e d = here_same t w (Do u n m) x p refl d
 
-pub call-narrow : (t : ℕ) (w : World) (n : ℕ) (a : ActorNo) (c : Call) (k : ℕ) → are_local w.past ≡ true → is_wait (answer (observe w.past) c k) ≡ false →
+pub call-narrow : (t : ℕ) (w : World) (n : ℕ) (a : ActorNo) (c : Call) (k : ℕ) → are_local w.past ≡ true → is_waiting_answer (answer (observe w.past) c k) ≡ false →
     block_at t w (Calls n a c k) ≡ block (observe w.past) (Calls n a c k)
 unfolding block_at block
 call-narrow t w n a c k p q =

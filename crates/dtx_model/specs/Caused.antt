@@ -3,7 +3,7 @@ use Rattle.std.specs.Prelude.{ℕ, zero, suc, ◌≡◌, ◌≤◌, ◌<◌, nat
 use Rattle.dtx_values.specs.declared.call.Call.{Call}
 use Rattle.dtx_values.specs.declared.call.Call.TheVariants.{Volatile, Durable, Promotable, Clone, Await, Do}
 use Rattle.dtx_values.specs.declared.entry.Entry.{Entry}
-use Rattle.dtx_values.specs.declared.entry.Entry.TheVariants.{Called, Promoting, Voted, PromoteReply, OwnerAnswered, Requested, Sent}
+use Rattle.dtx_values.specs.declared.entry.Entry.TheVariants.{Called, Voted, PromoteReply, OwnerAnswered, Requested, Sent}
 use Rattle.dtx_values.specs.declared.entry.Request.{Request}
 use Rattle.dtx_values.specs.declared.entry.Request.TheVariants.{Commit as RequestCommit, Abort as RequestAbort}
 use Rattle.dtx_values.specs.declared.message.Conn.TheVariants.{Begin}
@@ -17,10 +17,9 @@ use Rattle.dtx_values.specs.declared.number.RmNo.{RmNo}
 use Rattle.dtx_values.specs.declared.number.TxNo.{TxNo}
 use Rattle.dtx_values.specs.declared.script.Line.{Line}
 use Rattle.dtx_values.specs.declared.words.Outcome.{Outcome}
-use Rattle.dtx_values.specs.declared.words.Outcome.TheVariants.{Aborted}
 use Rattle.dtx_values.specs.declared.words.Vote.{Vote}
 use Rattle.dtx_values.specs.declared.words.Vote.TheVariants.{Yes, No, Done as DoneVote}
-use Rattle.dtx_model.specs.Words.{has, kth, always, put, past_of}
+use Rattle.dtx_model.specs.Words.{has, kth, always, put, past_of, same}
 use Rattle.dtx_model.specs.Entries.{is_call, same_outcome}
 use Rattle.dtx_model.specs.Outcome.{is_empty}
 use Rattle.dtx_model.specs.Coordinated.{Coordinated, may_free, may_log}
@@ -37,6 +36,8 @@ use Rattle.dtx_values.specs.Row.{is_of}
 use Rattle.dtx_values.specs.Clones.{is_clone}
 use Rattle.dtx_model.specs.Observed.{Observed}
 use Rattle.dtx_model.specs.Contexts.{calls_by, lines_before}
+use Rattle.dtx_model.specs.Half.{is_aborted}
+use Rattle.dtx_model.specs.Promotes.{is_promoting}
 
 -- line n of the script, from 1, is by this actor, and gives transaction t this call, by its own words or as a scope line
 pub record IsCallOf (s : List Line) (t n : ℕ) (actor : ActorNo) (call : Call) : Type 0 where
@@ -166,21 +167,13 @@ is_outcome_planned (Some x) y = same_outcome x y
 is_outcome_planned None y = false
 
 -- an owner that plans committed or in doubt requests a commit
-abbrev pub is_abort_planned : Outcome → Bool
-is_abort_planned Aborted = true
-is_abort_planned _ = false
-
 abbrev pub is_request_planned : Option Outcome → Request → Bool
-is_request_planned (Some x) RequestAbort = is_abort_planned x
-is_request_planned (Some x) RequestCommit = not (is_abort_planned x)
+is_request_planned (Some x) RequestAbort = is_aborted x
+is_request_planned (Some x) RequestCommit = not (is_aborted x)
 is_request_planned None r = false
 
-abbrev pub same_promotion : Bool → Bool → Bool
-same_promotion true b = b
-same_promotion false b = not b
-
 abbrev pub is_promotion_planned : Option Bool → Bool → Bool
-is_promotion_planned (Some a) b = same_promotion a b
+is_promotion_planned (Some a) b = same a b
 is_promotion_planned None b = false
 
 -- the reply of an enlistment is one that its plan has, and where it doesn't answer freely it is that; an acknowledgement is always planned
@@ -240,11 +233,6 @@ world_of s h = record { calls = entered_in s h; past = h }
 abbrev pub Settled : List Line → List Entry → Type 0
 Settled s h = pending (world_of s h) ≡ []
 
--- a promotion begins
-abbrev pub is_promoting_entry : Entry → Bool
-is_promoting_entry (Promoting c) = true
-is_promoting_entry _ = false
-
 -- nothing is promoted in the history: no promotion begins
 abbrev pub is_unpromoted : List Entry → Bool
-is_unpromoted h = not (has is_promoting_entry h)
+is_unpromoted h = not (has is_promoting h)

@@ -23,6 +23,8 @@ use Rattle.dtx_model.specs.Words.{has}
 use Rattle.dtx_model.specs.Observed.{Observed}
 use Rattle.dtx_model.specs.Half.{Half, sees, is_promoting, veto, veto_if, enlist_sent}
 use Rattle.dtx_model.specs.Answers.{class_of, limit_of, local_answer}
+use Rattle.dtx_values.specs.declared.words.Outcome.{Outcome}
+use Rattle.dtx_values.specs.declared.words.Outcome.TheVariants.{Aborted, InDoubt}
 
 -- the call was done, or waits: its facts follow
 abbrev pub has_facts : Answer → Bool
@@ -38,9 +40,13 @@ is_done True = true
 is_done _ = false
 
 -- the call has to wait
-abbrev pub is_wait : Answer → Bool
-is_wait Wait = true
-is_wait _ = false
+abbrev pub is_waiting_answer : Answer → Bool
+is_waiting_answer Wait = true
+is_waiting_answer _ = false
+
+-- how a lost enlistment ends the transaction: in doubt where it was handed the commit, else aborted
+abbrev pub lost_outcome : Bool → Outcome
+lost_outcome handed = if handed then InDoubt else Aborted
 
 -- the timeout comes too late: it was decided, the local side said yes, the commit was handed over, or there is evidence
 abbrev pub is_late : Observed → Bool

@@ -15,12 +15,12 @@ use Rattle.dtx_values.specs.Class.{is_promotable}
 use Rattle.dtx_values.specs.Clones.{blocks}
 use Rattle.dtx_values.specs.Table.{how_many}
 use Rattle.dtx_values.specs.Vote.{voted_well}
-use Rattle.dtx_model.specs.Words.{has, each, always, all_of, latest, past_of}
+use Rattle.dtx_model.specs.Words.{has, each, always, all_of, latest, past_of, holds}
 use Rattle.dtx_model.specs.Entries.{client_told_of, clone_of, is_any_owner, is_asked, is_asked_alone, is_asked_to_promote, is_client_told, is_commit, is_hand, is_promote_reply_of, is_request_of, is_vote}
 use Rattle.dtx_model.specs.Outcome.{agree, can_own, enlisted, is_complete, is_rollback, justified}
 use Rattle.dtx_model.specs.Contexts.{context}
 use Rattle.dtx_model.specs.Promotes.{promotes}
-use Rattle.dtx_model.specs.Wires.{WireRun, holds}
+use Rattle.dtx_model.specs.Wires.{WireRun}
 use Rattle.dtx_model.specs.Learned.{Learned, are_answered, is_decided_there}
 use Rattle.dtx_model.specs.Traces.{Placed, at_context, calls, history}
 use Rattle.dtx_model.specs.Caused.{Caused, Settled, is_as_planned, plans_of}

@@ -132,6 +132,10 @@ branch_number b = b.enlistment.value
 abbrev pub is_branch : ℕ → Branch → Bool
 is_branch e b = e == b.enlistment.value
 
+-- it acknowledged, or was told the abort
+abbrev pub is_done_branch : ℕ → Branch → Bool
+is_done_branch e b = is_branch e b && (b.acked || b.aborted)
+
 abbrev pub with_branch : EnlNo → RmNo → List Branch → List Branch
 with_branch e r bs = insert_by branch_number (record { enlistment = e; manager = r; enlisted = false; aborted = false; acked = false; due = None }) (filter (λ b. not (is_branch e.value b)) bs)
 

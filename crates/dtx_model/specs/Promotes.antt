@@ -17,7 +17,7 @@ use Rattle.dtx_values.specs.declared.row.Row.{Row}
 use Rattle.dtx_model.specs.Words.{has, each, always, kth}
 use Rattle.dtx_model.specs.Entries.{is_promoted}
 use Rattle.dtx_model.specs.Outcome.{durables, is_veto}
-use Rattle.dtx_model.specs.Observed.{rows}
+use Rattle.dtx_model.specs.Observed.{is_promotion_failed, rows}
 use Rattle.dtx_values.specs.Support.{is_single}
 use Rattle.dtx_values.specs.Owners.{cause_of}
 
@@ -43,13 +43,9 @@ abbrev pub is_promoting_for : Cause → Entry → Bool
 is_promoting_for c (Promoting d) = same_cause c d
 is_promoting_for c _ = false
 
-abbrev pub is_failed : Entry → Bool
-is_failed PromotionFailed = true
-is_failed _ = false
-
 -- promoting: a promotion began, and neither succeeded nor failed
 abbrev pub is_under_way : List Entry → Bool
-is_under_way h = has is_promoting h && not (has is_promoted h) && not (has is_failed h)
+is_under_way h = has is_promoting h && not (has is_promoted h) && not (has is_promotion_failed h)
 
 -- why the call of this command promotes: a marshal call because it is one, a durable call for the cause that the rows give
 abbrev pub cause_by : List Row → Option Body → Option Cause

@@ -9,7 +9,7 @@ use Rattle.dtx_values.specs.declared.message.Dir.TheVariants.{Up, Down}
 use Rattle.dtx_values.specs.declared.message.Message.{Message}
 pub use Rattle.dtx_values.specs.Lines.{is_opening}
 pub use Rattle.dtx_values.specs.Ends.{same_connection, same_direction}
-use Rattle.dtx_model.specs.Words.{latest}
+use Rattle.dtx_model.specs.Words.{holds, latest}
 use Rattle.dtx_model.specs.Outcome.{is_empty}
 use Rattle.dtx_values.specs.Lines.{has_line}
 
@@ -23,10 +23,6 @@ abbrev pub stop_of : Entry → Option Bool
 stop_of Stopped = Some true
 stop_of (Restarted found) = Some false
 stop_of _ = None
-
-abbrev pub holds : Option Bool → Bool
-holds (Some b) = b
-holds None = false
 
 -- the coordinator stands stopped: the last of `stopped` and `restarted` is `stopped`
 abbrev pub is_stopped : List Entry → Bool

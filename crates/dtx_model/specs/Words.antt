@@ -1,5 +1,5 @@
 -- Words on histories. A history is read newest first: `e ∷ past` is the history `past` with e after it.
-use Rattle.std.specs.Prelude.{ℕ, zero, suc, Bool, true, false, ◌&&◌, ◌||◌, List, [], ◌∷◌, Option, Some, None, slice_get}
+use Rattle.std.specs.Prelude.{ℕ, zero, suc, Bool, true, false, ◌&&◌, ◌||◌, not, List, [], ◌∷◌, Option, Some, None, slice_get}
 use Rattle.std.specs.List.{list_any, list_all}
 
 -- some item passes
@@ -29,6 +29,16 @@ or_else None o = o
 abbrev pub latest : {E A : Type 0} → (E → Option A) → List E → Option A
 latest f [] = None
 latest f (e ∷ past) = or_else (f e) (latest f past)
+
+-- what was given is there, and true
+abbrev pub holds : Option Bool → Bool
+holds (Some b) = b
+holds None = false
+
+-- both or neither
+abbrev pub same : Bool → Bool → Bool
+same true b = b
+same false b = not b
 
 -- the item in front, where there is one
 abbrev pub put : {A : Type 0} → Option A → List A → List A

@@ -22,13 +22,14 @@ use Rattle.dtx_values.specs.Ends.{is_in}
 use Rattle.dtx_model.specs.Words.{has}
 use Rattle.dtx_model.specs.Outcome.{is_empty}
 use Rattle.dtx_model.specs.declared.branch.Branch.{Branch}
-use Rattle.dtx_model.specs.Observed.{Observed, is_branch}
+use Rattle.dtx_model.specs.Observed.{Observed, is_branch, is_done_branch}
 use Rattle.dtx_model.specs.Wires.{is_ended, is_lost_wire, is_open_wire, in_transit, lost_since}
 use Rattle.dtx_model.specs.Coordinated.{Coordinated, coordinate}
 use Rattle.dtx_model.specs.Waiting.{EnteredCall}
 use Rattle.dtx_model.specs.Half.{Half, half_of, sees, decide, veto, reenlist_sent, stands, is_gone, is_handed}
 use Rattle.dtx_model.specs.Answers.{gone_answer, if_begun, local_answer}
 use Rattle.dtx_model.specs.Facts.{local_facts}
+use Rattle.dtx_values.specs.declared.row.Row.{Row}
 
 -- the calls that were entered, newest first, and the history
 pub record World : Type 0 where
@@ -55,12 +56,13 @@ is_linked c past = was_opened c past && (not (is_ended c Up past && is_ended c D
 abbrev pub is_connected : EnlNo → List Entry → Bool
 is_connected e past = is_linked (Enl e) past || is_linked (Again e) past
 
--- it acknowledged, was told the abort, or voted no or done
-abbrev pub voted_out : Observed → ℕ → Bool
-voted_out o e = has (λ x. is_of e x && not (still_hears x.vote)) o.table
+-- it voted no or done
+abbrev pub is_out_row : ℕ → Row → Bool
+is_out_row e x = is_of e x && not (still_hears x.vote)
 
+-- it acknowledged, was told the abort, or voted no or done
 abbrev pub is_finished_there : Observed → ℕ → Bool
-is_finished_there o e = has (λ b. is_branch e b && (b.acked || b.aborted)) o.branches || voted_out o e
+is_finished_there o e = has (is_done_branch e) o.branches || has (is_out_row e) o.table
 
 abbrev pub lose_answer : World → Conn → Answer
 lose_answer w c = if is_open_wire c w.past then Fine else NoSuch

@@ -1,8 +1,6 @@
 -- What the light committer does after the seal.
 use Rattle.std.specs.Prelude.{Bool, ◌||◌, not, List, Option, Some, None, if◌then◌else◌}
 use Rattle.dtx_values.specs.declared.number.EnlNo.{EnlNo}
-use Rattle.dtx_values.specs.declared.words.Outcome.{Outcome}
-use Rattle.dtx_values.specs.declared.words.Outcome.TheVariants.{Aborted, InDoubt}
 use Rattle.dtx_values.specs.Waves.{all_voted}
 use Rattle.dtx_values.specs.Owners.{owner_of}
 use Rattle.dtx_values.specs.declared.row.Row.{Row}
@@ -17,7 +15,3 @@ act_with None = CommitNow
 -- nothing while a volatile hasn't voted, or once the commit was handed over
 abbrev pub light_act : List Row → Bool → LightAct
 light_act xs handed = if not (all_voted xs) || handed then Nothing else act_with (owner_of xs)
-
--- how the transaction ends whose owner is lost: in doubt where it was handed the commit, else aborted
-abbrev pub lost_outcome : Bool → Outcome
-lost_outcome handed = if handed then InDoubt else Aborted

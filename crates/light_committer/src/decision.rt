@@ -6,7 +6,8 @@ ghost use Rattle.dtx_values.specs.Owners.{is_evident};
 ghost use Rattle.dtx_values.specs.Waves.{all_voted};
 ghost use Rattle.dtx_values.specs.Row.{is_lasting, voted_no};
 ghost use Rattle.light_committer.specs.declared.decision.LightAct.TheVariants.{CommitNow};
-ghost use Rattle.light_committer.specs.LightAct.{light_act, lost_outcome};
+ghost use Rattle.light_committer.specs.LightAct.{light_act};
+ghost use Rattle.dtx_model.specs.Facts.{lost_outcome};
 
 use dtx_values::{EnlNo, Outcome};
 use enlist_table::EnlistTable;

@@ -27,13 +27,14 @@ use Rattle.dtx_model.specs.Facts.{call_entries, durable_facts, facts_if, has_fac
 use Rattle.dtx_model.specs.Answers.{gone_answer, if_begun, local_answer}
 use Rattle.dtx_model.specs.World.{World, half, answer_at, facts_at, gone_by, gone_unlinked, open_ones}
 use Rattle.dtx_model.specs.Steps.{Step, Calls, Replies, Acts, after, block_at, entered}
-use Rattle.dtx_model.specs.Caused.{IsIn, MayAnswer, MayCome, is_promoting_entry, is_unpromoted}
+use Rattle.dtx_model.specs.Caused.{IsIn, MayAnswer, MayCome, is_unpromoted}
 use Rattle.dtx_values.specs.declared.words.Cause.{Cause}
 use Rattle.dtx_model.proofs.Heeding.{half_behind, heeds_all_same}
 use Rattle.dtx_model.proofs.Lifting.{lift_ran}
 use Rattle.dtx_model.proofs.Quiet.{q_cons, q_facts, q_gone_decides}
-use Rattle.local_half.specs.Half.{Follows, Known, after as known_after, is_done, is_its_own, is_wait}
+use Rattle.local_half.specs.Half.{Follows, Known, after as known_after, is_done, is_its_own, is_waiting_answer}
 use Rattle.local_half.specs.Taken.{with_call, with_waiter}
+use Rattle.dtx_model.specs.Promotes.{is_promoting}
 
 n_is : (n : ℕ) → (n == n) ≡ true
 n_is n = grind (arith, nat_tests)
@@ -218,26 +219,26 @@ wait_known t k n a c w =
     ∙ ap (λ (h : Half). record { transaction = k.transaction; half = h }) (heeds_all_same ks (with_waiter n c k).half (local_facts t k.half c Wait) (q_facts t k.half c Wait))
 
 -- a call that wasn't done, and doesn't wait, writes its entry alone, and changes nothing that is known
-no_facts : (x : Answer) (es : List Entry) → is_done x ≡ false → is_wait x ≡ false → facts_if (has_facts x) es ≡ []
+no_facts : (x : Answer) (es : List Entry) → is_done x ≡ false → is_waiting_answer x ≡ false → facts_if (has_facts x) es ≡ []
 no_facts Fine es d w = absurd (cc)
 no_facts True es d w = absurd (cc)
 no_facts Wait es d w = absurd (cc)
 no_facts _ es d w = refl
 
-unheard : (ks : List EnteredCall) (h : Half) (n : ℕ) (a : ActorNo) (x : Answer) → is_done x ≡ false → is_wait x ≡ false → heeds ks h (Called n a x) ≡ h
+unheard : (ks : List EnteredCall) (h : Half) (n : ℕ) (a : ActorNo) (x : Answer) → is_done x ≡ false → is_waiting_answer x ≡ false → heeds ks h (Called n a x) ≡ h
 unfolding track
 unheard ks h n a Fine d w = absurd (cc)
 unheard ks h n a True d w = absurd (cc)
 unheard ks h n a Wait d w = absurd (cc)
 unheard ks h n a _ d w = refl
 
-pub undone_entries : (t : ℕ) (h : Half) (n : ℕ) (a : ActorNo) (c : Call) → is_done (local_answer t h c 0) ≡ false → is_wait (local_answer t h c 0) ≡ false
+pub undone_entries : (t : ℕ) (h : Half) (n : ℕ) (a : ActorNo) (c : Call) → is_done (local_answer t h c 0) ≡ false → is_waiting_answer (local_answer t h c 0) ≡ false
     → call_entries t h n a c ≡ Called n a (local_answer t h c 0) ∷ []
 undone_entries t h n a c d w =
     let x = local_answer t h c 0 in
     ap (λ es. Called n a x ∷ es) (no_facts x (local_facts t h c x) d w)
 
-pub undone_known : (t : ℕ) (k : Known) (n : ℕ) (a : ActorNo) (c : Call) → is_done (local_answer t k.half c 0) ≡ false → is_wait (local_answer t k.half c 0) ≡ false
+pub undone_known : (t : ℕ) (k : Known) (n : ℕ) (a : ActorNo) (c : Call) → is_done (local_answer t k.half c 0) ≡ false → is_waiting_answer (local_answer t k.half c 0) ≡ false
     → known_after (entered (Calls n a c 0) []) k (call_entries t k.half n a c) ≡ k
 unfolding heeds_all
 undone_known t k n a c d w =
@@ -246,20 +247,20 @@ undone_known t k n a c d w =
     ∙ ap (λ (h : Half). record { transaction = k.transaction; half = h }) (unheard ks k.half n a (local_answer t k.half c 0) d w)
 
 -- no promotion began in a world in which none is known
-unbegun : (x : Entry) → cause_of_promotion x ≡ None → is_promoting_entry x ≡ false
+unbegun : (x : Entry) → cause_of_promotion x ≡ None → is_promoting x ≡ false
 unbegun (Promoting c) k = absurd (cc)
 unbegun _ k = refl
 
-none_begun : (past : List Entry) → latest cause_of_promotion past ≡ None → has is_promoting_entry past ≡ false
+none_begun : (past : List Entry) → latest cause_of_promotion past ≡ None → has is_promoting past ≡ false
 none_begun [] k = refl
 none_begun (x ∷ past) k = by (cause_of_promotion x) refl k (none_begun past)
   where
-    by : (o : Option Cause) → cause_of_promotion x ≡ o → or_else o (latest cause_of_promotion past) ≡ None → (latest cause_of_promotion past ≡ None → has is_promoting_entry past ≡ false)
-        → has is_promoting_entry (x ∷ past) ≡ false
+    by : (o : Option Cause) → cause_of_promotion x ≡ o → or_else o (latest cause_of_promotion past) ≡ None → (latest cause_of_promotion past ≡ None → has is_promoting past ≡ false)
+        → has is_promoting (x ∷ past) ≡ false
     by (Some c) e k before = absurd (cc)
     by None e k before = rw (unbegun x e) (before k)
 
-some_begun : (past : List Entry) → is_some (latest cause_of_promotion past) ≡ true → has is_promoting_entry past ≡ true
+some_begun : (past : List Entry) → is_some (latest cause_of_promotion past) ≡ true → has is_promoting past ≡ true
 some_begun [] k = absurd (cc)
 some_begun (Promoting c ∷ past) k = refl
 some_begun (x ∷ past) k = some_begun past k
@@ -269,6 +270,6 @@ pub unpromoted : (t : ℕ) (w : World) (h : Half) → Follows t w h → not (is_
 unfolding observe
 unpromoted t w h f = ap (λ (x : Half). not (is_some x.seen.cause)) (sym f.knows) ∙ by (latest cause_of_promotion w.past) refl
   where
-    by : (o : Option Cause) → latest cause_of_promotion w.past ≡ o → not (is_some o) ≡ not (has is_promoting_entry w.past)
+    by : (o : Option Cause) → latest cause_of_promotion w.past ≡ o → not (is_some o) ≡ not (has is_promoting w.past)
     by None k = ap not (sym (none_begun w.past k))
     by (Some c) k = ap not (sym (some_begun w.past (ap is_some k)))

@@ -14,8 +14,8 @@ use Rattle.dtx_values.specs.declared.message.Message.{Message}
 use Rattle.dtx_model.specs.Frames.{frame_of, is_valid}
 use Rattle.dtx_values.specs.Lines.{has_line}
 use Rattle.dtx_model.specs.Outcome.{is_empty}
-use Rattle.dtx_model.specs.Words.{each}
-use Rattle.dtx_model.specs.Wires.{MayCross, begins_ended, ended_after, ends, holds, is_ended, is_kept, is_lost_wire, is_next, is_open_wire, is_opening, is_stopped, kept, in_transit, loses, lost_after, lost_since, opened_with, opens, same_connection, same_direction, sent_behind, without_first}
+use Rattle.dtx_model.specs.Words.{each, holds}
+use Rattle.dtx_model.specs.Wires.{MayCross, begins_ended, ended_after, ends, is_ended, is_kept, is_lost_wire, is_next, is_open_wire, is_opening, is_stopped, kept, in_transit, loses, lost_after, lost_since, opened_with, opens, same_connection, same_direction, sent_behind, without_first}
 use Rattle.oletx_session.specs.Traffic.{Becomes, Delivers, Ends, IsCut, Spells, Wire, fresh, lane, lost_at_once, lost_with, may_send, sent_on, wire_of, with_bytes, with_end}
 use Rattle.oletx_session.specs.Carries.{Carries, IsLane, IsStarted, IsStartedLost, IsWire}
 use Rattle.dtx_model.proofs.Connections.{same_is, same_self, same_way_is}

@@ -7,9 +7,9 @@ use Rattle.dtx_values.specs.declared.message.Conn.{Conn}
 use Rattle.dtx_values.specs.declared.message.Dir.{Dir}
 use Rattle.dtx_values.specs.declared.message.Dir.TheVariants.{Up, Down}
 use Rattle.dtx_values.specs.declared.message.Message.{Message}
-use Rattle.dtx_model.specs.Words.{has}
+use Rattle.dtx_model.specs.Words.{has, holds}
 use Rattle.dtx_values.specs.Lines.{has_line, is_opening}
-use Rattle.dtx_model.specs.Wires.{holds, is_lost_wire, is_next, is_open_wire, is_kept, is_stopped, in_transit, kept, lost_after, lost_since, opened_with, opens, sent_behind, without_first}
+use Rattle.dtx_model.specs.Wires.{is_lost_wire, is_next, is_open_wire, is_kept, is_stopped, in_transit, kept, lost_after, lost_since, opened_with, opens, sent_behind, without_first}
 use Rattle.dtx_values.specs.Ends.{same_connection, same_direction}
 use Rattle.std.proofs.lemmas.Bool.{or_left, true_from_ne_false}
 use Rattle.dtx_model.proofs.Bools.{and_left, and_right, or_case, or_first, or_second, or_false, or_right, not_both}

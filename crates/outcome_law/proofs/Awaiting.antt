@@ -14,11 +14,11 @@ use Rattle.dtx_values.specs.declared.number.EnlNo.{EnlNo}
 use Rattle.dtx_values.specs.Ends.{order_of, same_connection, same_direction}
 use Rattle.dtx_values.specs.Lines.{has_line, is_opening}
 use Rattle.dtx_values.specs.Table.{enl_number, insert_by}
-use Rattle.dtx_model.specs.Words.{has}
+use Rattle.dtx_model.specs.Words.{has, holds}
 use Rattle.dtx_model.specs.Entries.{is_told}
 use Rattle.dtx_model.specs.Outcome.{is_empty}
 use Rattle.dtx_model.specs.Learned.{breaks_off}
-use Rattle.dtx_model.specs.Wires.{MayCross, holds, in_transit, is_kept, is_lost_wire, is_next, is_open_wire, is_stopped, loses, lost_after, lost_since, opened_with, opens, sent_behind, without_first}
+use Rattle.dtx_model.specs.Wires.{MayCross, in_transit, is_kept, is_lost_wire, is_next, is_open_wire, is_stopped, loses, lost_after, lost_since, opened_with, opens, sent_behind, without_first}
 use Rattle.dtx_model.specs.Coordinated.{but, coordinate, follow, known_after, waits_after, without}
 use Rattle.dtx_model.proofs.Bools.{and_both, and_left, and_never, and_right, not_both, not_false, not_true, or_case, or_right}
 use Rattle.dtx_model.proofs.Connections.{same_is}

@@ -19,13 +19,13 @@ use Rattle.dtx_values.specs.declared.words.Vote.{Vote}
 use Rattle.dtx_values.specs.declared.words.Vote.TheVariants.{Done, No, Yes}
 use Rattle.dtx_values.specs.Ends.{same_connection, same_direction}
 use Rattle.dtx_values.specs.Lines.{is_opening}
-use Rattle.dtx_model.specs.Words.{all_of, each, ever, has, onto}
+use Rattle.dtx_model.specs.Words.{all_of, each, ever, has, holds, onto}
 use Rattle.dtx_model.specs.Entries.{is_vote, is_vote_got, is_yes}
 use Rattle.dtx_model.specs.Observed.{is_branch}
 use Rattle.dtx_model.specs.Learned.{coordinator_aborted}
 use Rattle.dtx_model.specs.Promotes.{is_begun_got}
 use Rattle.dtx_model.specs.Tied.{enlist_got}
-use Rattle.dtx_model.specs.Wires.{holds, in_transit, is_kept, is_lost_wire, is_open_wire, is_stopped, loses, lost_after, lost_since, opens}
+use Rattle.dtx_model.specs.Wires.{in_transit, is_kept, is_lost_wire, is_open_wire, is_stopped, loses, lost_after, lost_since, opens}
 use Rattle.dtx_model.specs.Half.{veto}
 use Rattle.dtx_model.specs.Facts.{facts_if, has_facts, is_late, reaches, ticked}
 use Rattle.dtx_model.specs.World.{World, answer_at, connections_of, cut_upward, gone_by, half, is_promotable_row, on_the_way, open_ones, reenlist_facts}

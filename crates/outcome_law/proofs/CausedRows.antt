@@ -29,11 +29,12 @@ use Rattle.outcome_law.proofs.Scans.{has_more}
 use Rattle.outcome_law.proofs.Owned.{has_filter}
 use Rattle.outcome_law.proofs.Rule.{is_answer, is_certain, is_decided, is_enlisted, is_only}
 use Rattle.outcome_law.proofs.Going.{is_no_vote}
-use Rattle.outcome_law.proofs.Fine.{any_class, blames, ends_aborted, ends_requested, has_cause, is_caused, is_made, is_restart}
+use Rattle.outcome_law.proofs.Fine.{any_class, blames, ends_aborted, ends_requested, has_cause, is_caused, is_made}
 use Rattle.outcome_law.proofs.Table.{brings, but_failed, decision_row, ends_again, ends_called_off, ends_with, hears_decision, hears_here, is_abort_decided, is_abort_request, is_cast, is_lost_there, message_row, rule, stands_promotable}
 use Rattle.outcome_law.proofs.Keeping.{Keeps, keeps_before, newest}
 use Rattle.outcome_law.proofs.Evident.{hand_stands}
 use Rattle.outcome_law.proofs.BeforeRows.{by_keeping, row_of}
+use Rattle.dtx_model.specs.AtLog.{is_restart}
 
 -- who stands with a class that passes was made with one
 pub listed_made : (e : ℕ) (q : Class → Bool) (h : List Entry) → has (λ x. (e == x.0.value) && q x.1) (enlisted h) ≡ has (is_made e q) h

@@ -52,7 +52,7 @@ use Rattle.outcome_law.proofs.Makers.{of-found, ran_made, waiter_more, IsWaiter,
 use Rattle.outcome_law.proofs.Coming.{after_start_onto, block_coming, inert_coming, is_inert, list_coming, managed_coming, sent_coming, AreComing, keep_place}
 use Rattle.dtx_model.specs.declared.waiting.EnteredCall.{EnteredCall}
 use Rattle.dtx_model.specs.declared.waiting.Wanted.TheVariants.{Identifier, Place}
-use Rattle.dtx_model.specs.Promotes.{identifier_of, is_failed, is_promoting, is_under_way}
+use Rattle.dtx_model.specs.Promotes.{identifier_of, is_promoting, is_under_way}
 use Rattle.dtx_model.proofs.Bools.{and_both, and_left, and_right, not_both, or_case, or_right}
 use Rattle.outcome_law.proofs.Scans.{each_more}
 use Rattle.outcome_law.proofs.Tests.{eq_self}
@@ -122,7 +122,7 @@ placed_coming G ks h n f r c w o p z j = λ d e s g.
     let old = j d e s g in
     let place : has (is_place_of e.value) (waiting ks h) ≡ true =
     or_case (is_under_way h && is_handed (handover h) e.value) (has is_promoted h && has (is_place_of e.value) (waiting ks h))
-    (λ q. absurd (settled (has is_promoting h) (has is_promoted h) (has is_failed h) p (and_left (is_under_way h) (is_handed (handover h) e.value) q)))
+    (λ q. absurd (settled (has is_promoting h) (has is_promoted h) (has is_promotion_failed h) p (and_left (is_under_way h) (is_handed (handover h) e.value) q)))
     (λ q. and_right (has is_promoted h) (has (is_place_of e.value) (waiting ks h)) q) old in
     or_right (is_under_way h && is_handed (handover h) e.value) (has is_promoted h && has (is_place_of e.value) (filter (λ v. not (n == v.0)) (waiting ks h)))
     (and_both (has is_promoted h) (has (is_place_of e.value) (filter (λ v. not (n == v.0)) (waiting ks h))) p
@@ -152,7 +152,7 @@ none_coming : (ks : List EnteredCall) (h : List Entry) → AreComing ks h → is
 none_coming ks h j w f d e s g =
     or_case (is_under_way h && is_handed (handover h) e.value) (has is_promoted h && has (is_place_of e.value) (waiting ks h))
     (λ q. not_both (has (is_got_on (Enl e) Down ENLISTED) h) (f e (and_right (is_under_way h) (is_handed (handover h) e.value) q)) g)
-    (λ q. not_both (has is_promoted h) (and_left (has is_promoted h) (has (is_place_of e.value) (waiting ks h)) q) (unpromoted_way (has is_promoting h) (has is_promoted h) (has is_failed h) w)) (j d e s g)
+    (λ q. not_both (has is_promoted h) (and_left (has is_promoted h) (has (is_place_of e.value) (waiting ks h)) q) (unpromoted_way (has is_promoting h) (has is_promoted h) (has is_promotion_failed h) w)) (j d e s g)
 
 ended_coming : (G : ℕ → ActorNo → Call → Type 0) (ks : List EnteredCall) (t : ℕ) (h : List Entry) (v : Half) → IsKnown ks h v → OfEach (IsWaiter G ks h) (waiting ks h) → is_promoting_now v.seen ≡ true
     → ((e : EnlNo) → is_handed (handover h) e.value ≡ true → has (is_got_on (Enl e) Down ENLISTED) h ≡ true) → AreComing ks h → AreComing ks (onto h (over t v))

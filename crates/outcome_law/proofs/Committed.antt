@@ -24,7 +24,7 @@ use Rattle.dtx_values.specs.Vote.{is_no}
 use Rattle.dtx_values.specs.Class.{is_promotable}
 use Rattle.dtx_values.specs.Ends.{knows, same_connection, same_direction}
 use Rattle.dtx_model.proofs.Bools.{and_left, and_right, and_both, not_false, not_true, not_both, or_case, or_first, or_second, or_right}
-use Rattle.outcome_law.proofs.Fine.{IsFine, is_bad, is_restart}
+use Rattle.outcome_law.proofs.Fine.{IsFine, is_bad}
 use Rattle.outcome_law.proofs.Messages.{ASK, BEGIN, BEGUN, COMMIT, COMMITTED, CREATED, PREPARE, VOTE, VOTED, YES}
 use Rattle.outcome_law.proofs.Debts.{has_promotable, is_volatile_made, knows_there}
 use Rattle.outcome_law.proofs.Knowledge.{knows_got, opening_known}
@@ -39,6 +39,7 @@ use Rattle.outcome_law.proofs.Foregoing.{commit_promoted}
 use Rattle.outcome_law.proofs.Wired.{IsFirm, firm_before, firm_unended}
 use Rattle.outcome_law.proofs.Rest.{IsQuiet, is_sound}
 use Rattle.outcome_law.proofs.Crossed.{is_sent_on, is_got_on, got_sent}
+use Rattle.dtx_model.specs.AtLog.{is_restart}
 
 -- a history in which nothing is decided
 pub record IsOpen (h : List Entry) : Type 0 where

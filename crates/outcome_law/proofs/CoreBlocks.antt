@@ -24,7 +24,7 @@ use Rattle.dtx_model.specs.Promotes.{is_begun_got, is_created_got, is_promoting,
 use Rattle.dtx_model.specs.Tied.{can_log, has_mark, is_logged}
 use Rattle.dtx_model.specs.Wires.{MayCross, is_stopped}
 use Rattle.dtx_model.specs.Caused.{is_begin_sent, is_full_answer, may_coordinate}
-use Rattle.dtx_model.specs.Coordinated.{Coordinated, abort_sends, aborts, commit_sends, coordinate, core_down, core_got, follow, has_aborted, is_active, is_early, is_prepared, is_recorded, is_undecided, may_free, may_log, opening_answer, opening_by, still_hears, to, to_each, to_waiting}
+use Rattle.dtx_model.specs.Coordinated.{Coordinated, abort_sends, aborts, commit_sends, coordinate, core_down, core_got, follow, has_aborted, is_active, is_early, is_enlisting, is_prepared, is_recorded, is_undecided, may_free, may_log, opening_answer, opening_by, still_hears, to, to_each, to_waiting}
 use Rattle.dtx_model.specs.Steps.{Done, Full, LogAnswer, StoppedBefore, StoppedNow, appended, coordinates, freed, restarted}
 use Rattle.dtx_model.proofs.Bools.{and_left, and_right, and_both, not_both, not_false, not_true, or_right}
 use Rattle.outcome_law.proofs.Tests.{first_of_five, second_of_five, first_of_three, second_of_three, four_hold, first_of_four, second_of_four, third_of_four, fourth_of_four}
@@ -232,11 +232,6 @@ voter_early : (u : ℕ) (h : List Entry) → Keeps (Got Voter Up (VoterVoter u) 
 voter_early u h k =
     let past = keeps_before (Got Voter Up (VoterVoter u)) h k in
     false_from_ne_true (has is_commit_got h) (λ t. not_both (has (is_opening_got Voter) h) (commit_voter h past t) (voter_new u h past k.wires.0))
-
--- the message is an ENLIST
-abbrev pub is_enlisting : Conn → Message → Bool
-is_enlisting (Enl e) (EnlistEnlist i) = true
-is_enlisting _ _ = false
 
 -- the answer has a line
 answer_line : (c : Conn) (good abort : Message) (refused : ℕ → Message) → has_line c Down good ≡ true → has_line c Down abort ≡ true → ((n : ℕ) → has_line c Down (refused n) ≡ true) → (s : Stage) (b : Bool)

@@ -20,8 +20,9 @@ use Rattle.dtx_model.specs.Steps.{Step, Calls, Replies, Acts, Coordinates, Deliv
 use Rattle.dtx_model.specs.Caused.{MayCome}
 use Rattle.outcome_law.proofs.Table.{ruled}
 use Rattle.outcome_law.proofs.Keeping.{Keeps}
-use Rattle.outcome_law.proofs.CoreBlocks.{act_ruled, end_ruled, got_ruled, is_enlisting, restart_ruled, stops_ruled}
+use Rattle.outcome_law.proofs.CoreBlocks.{act_ruled, end_ruled, got_ruled, restart_ruled, stops_ruled}
 use Rattle.dtx_model.proofs.Quiet.{is_end, takes_next}
+use Rattle.dtx_model.specs.Coordinated.{is_enlisting}
 
 -- the step is of the coordinator's side
 abbrev pub is_core_step : Step → Bool

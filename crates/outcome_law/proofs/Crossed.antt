@@ -11,9 +11,9 @@ use Rattle.dtx_values.specs.declared.message.Dir.TheVariants.{Up, Down}
 use Rattle.dtx_values.specs.declared.message.Message.{Message}
 use Rattle.dtx_values.specs.Ends.{same_connection, same_direction}
 use Rattle.dtx_values.specs.Lines.{has_line, is_opening}
-use Rattle.dtx_model.specs.Words.{has}
+use Rattle.dtx_model.specs.Words.{has, holds}
 use Rattle.dtx_model.specs.Outcome.{is_empty}
-use Rattle.dtx_model.specs.Wires.{MayCross, WireRun, ended_after, ends, holds, in_transit, is_ended, is_kept, is_lost_wire, is_next, is_open_wire, is_stopped, kept, loses, lost_after, lost_since, opened_with, opens, sent_behind, transit_after, transit_after_stop, without_first}
+use Rattle.dtx_model.specs.Wires.{MayCross, WireRun, ended_after, ends, in_transit, is_ended, is_kept, is_lost_wire, is_next, is_open_wire, is_stopped, kept, loses, lost_after, lost_since, opened_with, opens, sent_behind, transit_after, transit_after_stop, without_first}
 use Rattle.dtx_model.proofs.Bools.{and_left, and_right, and_both, not_both, not_true, or_case, or_right}
 use Rattle.dtx_model.proofs.Connections.{same_is, same_way_is}
 

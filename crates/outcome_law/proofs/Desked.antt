@@ -15,10 +15,10 @@ use Rattle.dtx_model.specs.declared.desk.Ballot.TheVariants.{Prepared, ReadOnly,
 use Rattle.dtx_model.specs.declared.desk.Desk.{Desk}
 use Rattle.dtx_model.specs.declared.desk.Stage.{Stage}
 use Rattle.dtx_model.specs.declared.desk.Stage.TheVariants.{Active, Idle}
-use Rattle.dtx_model.specs.Words.{each, has, latest}
+use Rattle.dtx_model.specs.Words.{each, has, holds, latest}
 use Rattle.dtx_model.specs.Entries.{is_commit_got, is_record, is_vote_got}
 use Rattle.dtx_model.specs.Learned.{coordinator_aborted}
-use Rattle.dtx_model.specs.Tied.{before_first_stop, can_log, has_mark, is_logged, is_marked, is_ready_got, is_unmarked, mark_of}
+use Rattle.dtx_model.specs.Tied.{before_first_stop, can_log, has_mark, is_logged, is_ready_got, is_unmarked, mark_of}
 use Rattle.dtx_model.specs.Coordinated.{abort_if, accepts, ballot_of, coordinate, desk_number, desks_after, follow, has_aborted, has_voted, is_active, is_desk_of, is_prepared, is_undecided, kept_desks, unacked, with_ack, with_ballot}
 use Rattle.dtx_model.proofs.Bools.{and_both, and_left, and_right, not_both, not_false, not_true, or_case, or_right}
 use Rattle.outcome_law.proofs.Scans.{has_more}
@@ -144,7 +144,7 @@ is_gone None = false
 abbrev is_past : List Entry → Bool
 is_past h = is_gone (latest mark_of h) || coordinator_aborted h
 
-unfound : (o : Option Bool) (b : Bool) → is_gone o ≡ true → (is_marked o || (is_unmarked o && b)) ≡ true → ⊥
+unfound : (o : Option Bool) (b : Bool) → is_gone o ≡ true → (holds o || (is_unmarked o && b)) ≡ true → ⊥
 unfound (Some true) b g t = absurd cc
 unfound (Some false) b g t = absurd cc
 unfound None b g t = absurd cc
@@ -296,7 +296,7 @@ accounted_more e x h k t =
     (or_case (not (has (is_enlist_got e.value) h)) (is_still_placed e h) (λ n. absurd (not_both (has (is_enlist_got e.value) h) came (not_true (has (is_enlist_got e.value) h) n))) (λ p. p)
     (and_right (has is_commit_got h) (not (has (is_enlist_got e.value) h) || is_still_placed e h) t)))
 
-marked_there : (o : Option Bool) → is_marked o ≡ true → is_gone o ≡ true → ⊥
+marked_there : (o : Option Bool) → holds o ≡ true → is_gone o ≡ true → ⊥
 marked_there (Some true) m g = absurd cc
 marked_there (Some false) m g = absurd cc
 marked_there None m g = absurd cc

@@ -1,9 +1,6 @@
 -- Histories, good and bad, that show what the definitions of evidence, vetoes, agreement and timeouts say. Each stands oldest first.
 use Rattle.std.proofs.Common.{◌≡◌, Bool, true, false, List, [], ◌∷◌, ◌++◌, refl, lit≤}
-use Rattle.dtx_values.specs.declared.number.ActorNo.{ActorNo}
 use Rattle.dtx_values.specs.declared.number.CloneNo.{CloneNo}
-use Rattle.dtx_values.specs.declared.number.EnlNo.{EnlNo}
-use Rattle.dtx_values.specs.declared.number.TxNo.{TxNo}
 use Rattle.dtx_values.specs.declared.entry.Answer.TheVariants.{Fine}
 use Rattle.dtx_values.specs.declared.entry.Ask.TheVariants.{Prepare}
 use Rattle.dtx_values.specs.declared.entry.Entry.{Entry}
@@ -18,19 +15,7 @@ use Rattle.dtx_values.specs.declared.words.Vote.TheVariants.{Yes, No, Done}
 use Rattle.dtx_model.specs.Words.{always, past_of}
 use Rattle.dtx_model.specs.Seen.{is_timely}
 use Rattle.dtx_model.specs.Outcome.{ready, by_seal, by_owner, by_log, evidence, vetoed, owner_doubt, coordinator_doubt, doubt, may_tell, justified, agree}
-
--- the names of the examples
-abbrev pub t1 : TxNo
-t1 = record { value = 1; in_range = (lit≤ tt, lit≤ tt) }
-
-abbrev pub a1 : ActorNo
-a1 = record { value = 1; in_range = (lit≤ tt, lit≤ tt) }
-
-abbrev pub e1 : EnlNo
-e1 = record { value = 1; in_range = (lit≤ tt, lit≤ tt) }
-
-abbrev pub e2 : EnlNo
-e2 = record { value = 2; in_range = (lit≤ tt, lit≤ tt) }
+use Rattle.dtx_model.proofs.Cast.{a1, e1, e2}
 
 abbrev pub c1 : CloneNo
 c1 = record { value = 1; in_range = (lit≤ tt, lit≤ tt) }

@@ -24,6 +24,7 @@ use Rattle.dtx_model.specs.Wires.{is_stopped}
 use Rattle.outcome_law.proofs.Rule.{is_decided}
 use Rattle.outcome_law.proofs.Going.{is_no_vote}
 use Rattle.outcome_law.proofs.Wired.{IsWired}
+use Rattle.dtx_model.specs.AtLog.{is_restart}
 
 abbrev pub is_bad_message : Message → Bool
 is_bad_message BeginAbort = true
@@ -112,10 +113,6 @@ abbrev pub ends_aborted : List Entry → Bool
 ends_aborted (Got (Enl e) Down EnlistAbort ∷ h) = true
 ends_aborted (Got (Again e) Down ReenlistAborted ∷ h) = true
 ends_aborted _ = false
-
-abbrev pub is_restart : Entry → Bool
-is_restart (Restarted found) = true
-is_restart _ = false
 
 -- a message that is sent: an abort or a No of the local side for its cause, and what else is bad where the coordinator has aborted or was started again
 abbrev pub has_cause : List Entry → Message → Bool

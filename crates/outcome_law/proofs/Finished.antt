@@ -28,8 +28,8 @@ use Rattle.dtx_model.specs.declared.desk.Ballot.TheVariants.{ReadOnly}
 use Rattle.dtx_model.specs.declared.desk.Desk.{Desk}
 use Rattle.dtx_model.specs.Words.{each, has}
 use Rattle.dtx_model.specs.Entries.{is_told}
-use Rattle.dtx_model.specs.Observed.{branch_aborted, branch_acked, branch_number, branches, is_branch, observe, rows}
-use Rattle.dtx_model.specs.World.{is_finished_there}
+use Rattle.dtx_model.specs.Observed.{branch_aborted, branch_acked, branch_number, branches, is_branch, is_done_branch, observe, rows}
+use Rattle.dtx_model.specs.World.{is_finished_there, is_out_row}
 use Rattle.dtx_model.specs.Wires.{opens}
 use Rattle.dtx_model.specs.Coordinated.{accepts, ballot_of, coordinate, desk_number, follow, is_active, is_desk_of, is_prepared, unacked, with_ack, with_ballot}
 use Rattle.dtx_model.proofs.Bools.{and_both, and_left, and_never, and_right, not_both, not_false, not_true, or_case, or_false, or_first, or_right, or_second}
@@ -49,12 +49,6 @@ use Rattle.outcome_law.proofs.Marks.{unopened_again}
 use Rattle.outcome_law.proofs.BeforeRows.{row_of}
 use Rattle.outcome_law.proofs.Managed.{branches_managed, enlist_opens, is_enlist_by, is_managed_branch, opened_branch}
 use Rattle.dtx_model.proofs.SameNumbers.{same_enlistment}
-
-abbrev pub is_done_branch : ℕ → Branch → Bool
-is_done_branch e b = is_branch e b && (b.acked || b.aborted)
-
-abbrev pub is_out_row : ℕ → Row → Bool
-is_out_row e x = is_of e x && not (still_hears x.vote)
 
 -- it acknowledged, was told the abort, or voted no or done
 abbrev pub is_finished : ℕ → List Entry → Bool

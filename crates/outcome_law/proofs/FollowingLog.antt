@@ -9,16 +9,17 @@ use Rattle.dtx_values.specs.declared.number.ActorNo.{ActorNo}
 use Rattle.dtx_values.specs.declared.number.TxNo.{TxNo}
 use Rattle.dtx_values.specs.declared.trace.Place.TheVariants.{Context, Log, Transaction}
 use Rattle.dtx_values.specs.Table.{how_many}
-use Rattle.dtx_model.specs.Words.{each, has, latest, onto}
+use Rattle.dtx_model.specs.Words.{each, has, onto, same}
 use Rattle.dtx_model.specs.Wires.{is_stopped}
 use Rattle.dtx_model.specs.Caused.{is_begin_sent}
 use Rattle.dtx_model.specs.Traces.{Placed, history, noted, placed}
-use Rattle.dtx_model.specs.AtLog.{at_log, follow_log, follows_log, is_hit, is_known, is_log, is_log_up, is_opened, is_restart, is_stop, known, transactions, unless_said, up_of}
+use Rattle.dtx_model.specs.AtLog.{at_log, follow_log, follows_log, is_hit, is_known, is_log, is_log_up, is_opened, is_restart, is_up_by, known, transactions}
 use Rattle.dtx_model.proofs.Bools.{and_both, and_left, and_right, not_both, not_true, or_false, or_first, or_right, or_second}
 use Rattle.dtx_model.proofs.Histories.{entries-other, history-noted, history-other, history-same}
 use Rattle.dtx_model.proofs.Reading.{each-onto, has-onto}
 use Rattle.outcome_law.proofs.PutAt.{one_more}
 use Rattle.outcome_law.proofs.SteadyBlocks.{is_steady, none_restarts, none_stops, steady_restarts, steady_stopped, steady_stops, steady_unstopped}
+use Rattle.dtx_model.specs.Tied.{is_stop}
 
 -- a history follows a log that is up or isn't, with so many stops and openings
 pub record FollowsAt (up : Bool) (stops opens : ℕ) (h : List Entry) : Type 0 where
@@ -76,10 +77,6 @@ at_opening s o found h f = by (has is_begin_sent h) refl
     by true e = let few = f.fewer_restarts in record { unknown = λ n. absurd (not_both (has is_begin_sent h) e n); halted = λ t. refl; fewer_stops = f.fewer_stops; fewer_restarts = omega (arith, few) }
     by false e = let few = f.fewer_restarts in record { unknown = f.unknown; halted = λ t. absurd (not_both (has is_begin_sent h) t e); fewer_stops = f.fewer_stops; fewer_restarts = omega (arith, few) }
 
--- the log with these entries is up
-abbrev pub is_up_by : List Entry → Bool
-is_up_by l = unless_said (latest up_of l)
-
 -- each transaction of the trace follows the log with these entries; and where it isn't up, it was stopped
 pub record FollowsBy (l : List Entry) (T : List Placed) : Type 0 where
   pub at : (t : TxNo) → FollowsAt (is_up_by l) (how_many is_stop l) (how_many is_opened l) (history t.value T)
@@ -105,7 +102,7 @@ follows_one T f t =
     (below (how_many is_restart h) (how_many is_opened (at_log T)) g.fewer_restarts))
     (by (is_known T t) (is_stopped h) (not (is_log_up T)) g.halted)
   where
-    by : (k a b : Bool) → (k ≡ true → a ≡ b) → (not k || (elim a as (λ z. Bool → Bool) [ true ↦ λ c. c | false ↦ λ c. not c ]) b) ≡ true
+    by : (k a b : Bool) → (k ≡ true → a ≡ b) → (not k || same a b) ≡ true
     by false a b e = refl
     by true true true e = refl
     by true true false e = absurd (not_both false (sym (e refl)) refl)

@@ -19,7 +19,7 @@ use Rattle.dtx_model.specs.Words.{has, latest}
 use Rattle.dtx_model.specs.Entries.{is_promoted}
 use Rattle.dtx_model.specs.Observed.{cause_of_promotion, ends_of, is_promotion_failed, observe}
 use Rattle.dtx_model.specs.Half.{is_promoting as sees_promoting}
-use Rattle.dtx_model.specs.Promotes.{is_failed, is_promoting, is_under_way}
+use Rattle.dtx_model.specs.Promotes.{is_promoting, is_under_way}
 use Rattle.dtx_model.specs.Wires.{opens}
 use Rattle.dtx_model.proofs.Bools.{and_both, and_left, and_never, and_right, not_both, or_case, or_right}
 use Rattle.outcome_law.proofs.Tests.{or_between}
@@ -36,7 +36,7 @@ cause_seen (Promoting c ∷ h) = refl
 cause_seen (x ∷ h) = cause_seen h
 
 -- the two words for a promotion that failed say the same
-pub failed_seen : (h : List Entry) → has is_promotion_failed h ≡ has is_failed h
+pub failed_seen : (h : List Entry) → has is_promotion_failed h ≡ has is_promotion_failed h
 failed_seen [] = refl
 failed_seen (PromotionFailed ∷ h) = refl
 failed_seen (x ∷ h) = failed_seen h

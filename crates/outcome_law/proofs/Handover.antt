@@ -22,9 +22,9 @@ use Rattle.dtx_values.specs.Ends.{same_connection}
 use Rattle.dtx_values.specs.Lines.{has_line}
 use Rattle.dtx_model.specs.Words.{all_of, each, ever, has, latest, onto}
 use Rattle.dtx_model.specs.Entries.{decision_of, handed_of, is_any_hand, is_decision, is_hand, is_owner, is_promoted, is_sealed, is_yes}
-use Rattle.dtx_model.specs.Observed.{cause_of_promotion, handover, observe}
+use Rattle.dtx_model.specs.Observed.{cause_of_promotion, handover, is_promotion_failed, observe}
 use Rattle.dtx_model.specs.Outcome.{coordinator_doubt, doubt, enlisted, is_begin_end, is_lost_owner, is_outcome_got, is_voter_end, owner_doubt}
-use Rattle.dtx_model.specs.Promotes.{identifier_of, is_begun_got, is_created_got, is_failed, is_promoting, is_under_way}
+use Rattle.dtx_model.specs.Promotes.{identifier_of, is_begun_got, is_created_got, is_promoting, is_under_way}
 use Rattle.dtx_model.specs.Wires.{opens}
 use Rattle.dtx_model.specs.declared.waiting.Wanted.TheVariants.{Identifier, Place}
 use Rattle.dtx_model.specs.Waiting.{Waiter, is_place_of}
@@ -177,7 +177,7 @@ unfolding observe
 over_stands t h ws ms k d w c b r u a = step (latest cause_of_promotion h) refl
   where
     promoting : has is_promoting h ≡ true
-    promoting = and_left (has is_promoting h) (not (has is_promoted h)) (and_left (has is_promoting h && not (has is_promoted h)) (not (has is_failed h)) w)
+    promoting = and_left (has is_promoting h) (not (has is_promoted h)) (and_left (has is_promoting h && not (has is_promoted h)) (not (has is_promotion_failed h)) w)
 
     same : (v : Waiter) → (x : Cause) → is_unsent h v ≡ true → is_unsent (Promoted (identifier_of t) x ∷ h) v ≡ true
     same (m, Identifier) x q = refl

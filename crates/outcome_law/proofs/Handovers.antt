@@ -41,7 +41,7 @@ use Rattle.dtx_model.specs.Half.{Half, by_manager, enlist_sent, given, is_handed
 use Rattle.dtx_model.specs.Arrivals.{arrived, created, enlisted_at, hand_over, local_got, place_given}
 use Rattle.dtx_model.specs.Acts.{act_entries}
 use Rattle.dtx_model.specs.Replies.{reply_entries}
-use Rattle.dtx_model.specs.Facts.{begin_promotion, durable_facts, facts_if, has_facts}
+use Rattle.dtx_model.specs.Facts.{begin_promotion, durable_facts, facts_if, has_facts, is_waiting_answer}
 use Rattle.dtx_model.specs.World.{World, answer_at, core, facts_at, half}
 use Rattle.dtx_model.specs.Steps.{Step, Calls, Replies, Acts, Coordinates, Delivers, Stops, Restarts, after, block_at, coordinates, delivered, ended_at, got_by, restarted}
 use Rattle.dtx_model.specs.Caused.{MayCome, Ran}
@@ -53,7 +53,7 @@ use Rattle.outcome_law.proofs.TableRows.{each_rows}
 use Rattle.outcome_law.proofs.PlainBlocks.{Plain, is_plain, plain_act, plain_arrived, plain_begin_promotion, plain_called, plain_coordinates, plain_core_got, plain_ended_at, plain_reply, plain_restarted}
 use Rattle.outcome_law.proofs.PaidBlocks.{is_manager_of}
 use Rattle.outcome_law.proofs.Prepared.{has_after}
-use Rattle.outcome_law.proofs.Waiters.{is_waiting_answer, own_call, promotable_gives}
+use Rattle.outcome_law.proofs.Waiters.{own_call, promotable_gives}
 
 -- an enlistment is volatile, or has a manager
 abbrev is_managed : List (EnlNo × RmNo) → EnlNo × Class → Bool

@@ -14,10 +14,10 @@ use Rattle.dtx_values.specs.declared.note.Plan.{Plan}
 use Rattle.dtx_values.specs.Ends.{is_end_of, same_connection, same_direction}
 use Rattle.dtx_values.specs.Lines.{has_line}
 use Rattle.dtx_model.specs.declared.waiting.EnteredCall.{EnteredCall}
-use Rattle.dtx_model.specs.Words.{has, each}
+use Rattle.dtx_model.specs.Words.{has, each, holds}
 use Rattle.dtx_model.specs.Observed.{ends_of, observe}
 use Rattle.dtx_model.specs.Outcome.{enlisted, is_empty}
-use Rattle.dtx_model.specs.Wires.{begins_ended, ended_after, ends, holds, in_transit, is_ended, is_lost_wire, lost_since, opens}
+use Rattle.dtx_model.specs.Wires.{begins_ended, ended_after, ends, in_transit, is_ended, is_lost_wire, lost_since, opens}
 use Rattle.dtx_model.specs.Coordinated.{Coordinated, coordinate, may_free, may_log}
 use Rattle.dtx_model.specs.Plans.{plan_of}
 use Rattle.dtx_model.specs.Half.{half_of}

@@ -19,8 +19,8 @@ use Rattle.dtx_model.specs.Contexts.{scope_block, scope_calls, scopes_of}
 use Rattle.dtx_model.specs.Traces.{Placed, history, is_at, noted, placed}
 use Rattle.dtx_model.specs.World.{World}
 use Rattle.dtx_model.specs.Steps.{Step, Calls, StepName, pending}
-use Rattle.dtx_model.specs.Caused.{IsNamed, MayCome, Settled, is_promoting_entry, is_unpromoted}
-use Rattle.dtx_model.specs.AtLog.{is_local_trace, is_log}
+use Rattle.dtx_model.specs.Caused.{IsNamed, MayCome, Settled, is_unpromoted}
+use Rattle.dtx_model.specs.AtLog.{is_local_trace, is_log, is_log_line}
 use Rattle.dtx_model.specs.Replay.{IsReplayed, IsTurn, block_in, last_turn, world_at}
 use Rattle.dtx_model.proofs.Bools.{and_both, and_left, and_right, not_both, not_true, or_false}
 use Rattle.dtx_model.proofs.Histories.{history-noted, history-other, history-same}
@@ -31,8 +31,9 @@ use Rattle.dtx_model.proofs.Reading.{each-onto}
 use Rattle.dtx_model.proofs.Unpromoted.{are_local, is_local}
 use Rattle.outcome_law.proofs.Runs.{MayComeLocal, may_come}
 use Rattle.outcome_law.proofs.ReplayRuns.{pending_comes}
-use Rattle.outcome_law.proofs.ReplayTurns.{CallDone, LineDone, LinesDone, RoundsDone, StepsDone, after_block, calls_after as blocks_after, has_called, is_log_line, local_quiet, replay_done, scope_after as scope_done}
-use Rattle.dtx_model.specs.Facts.{is_wait}
+use Rattle.outcome_law.proofs.ReplayTurns.{CallDone, LineDone, LinesDone, RoundsDone, StepsDone, after_block, calls_after as blocks_after, has_called, local_quiet, replay_done, scope_after as scope_done}
+use Rattle.dtx_model.specs.Promotes.{is_promoting}
+use Rattle.dtx_model.specs.Facts.{is_waiting_answer}
 
 -- no call may be entered
 abbrev pub NoCall : ℕ → ActorNo → Call → Type 0
@@ -97,35 +98,35 @@ abbrev pub IsLocal : List Placed → Type 0
 IsLocal T = is_local_trace T ≡ true
 
 abbrev pub is_local_place : Placed → Bool
-is_local_place x = not (is_log x.0) && not (is_promoting_entry x.1)
+is_local_place x = not (is_log x.0) && not (is_promoting x.1)
 
 -- so it was before a block
 local_before : (T ys : List Placed) → IsLocal (onto T ys) → IsLocal T
 local_before T ys l = and_right (each is_local_place ys) (each is_local_place T) (sym (each-onto is_local_place T ys) ∙ l)
 
 -- no promotion begins in a block
-block_unpromoted : (t : TxNo) (T : List Placed) (es : List Entry) → IsLocal (onto T (placed t es)) → has is_promoting_entry es ≡ false
+block_unpromoted : (t : TxNo) (T : List Placed) (es : List Entry) → IsLocal (onto T (placed t es)) → has is_promoting es ≡ false
 block_unpromoted t T es l = listed es (and_left (each is_local_place (placed t es)) (each is_local_place T) (sym (each-onto is_local_place T (placed t es)) ∙ l))
   where
-    listed : (es : List Entry) → each is_local_place (map (λ e. (Transaction t, e)) es) ≡ true → has is_promoting_entry es ≡ false
+    listed : (es : List Entry) → each is_local_place (map (λ e. (Transaction t, e)) es) ≡ true → has is_promoting es ≡ false
     listed [] k = refl
     listed (x ∷ es) k =
-        or_false (is_promoting_entry x) (has is_promoting_entry es)
-        (not_true (is_promoting_entry x) (and_left (not (is_promoting_entry x)) (each is_local_place (map (λ e. (Transaction t, e)) es)) k))
-        (listed es (and_right (not (is_promoting_entry x)) (each is_local_place (map (λ e. (Transaction t, e)) es)) k))
+        or_false (is_promoting x) (has is_promoting es)
+        (not_true (is_promoting x) (and_left (not (is_promoting x)) (each is_local_place (map (λ e. (Transaction t, e)) es)) k))
+        (listed es (and_right (not (is_promoting x)) (each is_local_place (map (λ e. (Transaction t, e)) es)) k))
 
 -- nor in a history
 pub history_unpromoted : (u : ℕ) (T : List Placed) → IsLocal T → is_unpromoted (history u T) ≡ true
 history_unpromoted u T l = ap not (none u T l)
   where
-    none : (u : ℕ) (T : List Placed) → IsLocal T → has is_promoting_entry (history u T) ≡ false
+    none : (u : ℕ) (T : List Placed) → IsLocal T → has is_promoting (history u T) ≡ false
     none u [] l = refl
     none u (x ∷ T) l =
-        step (is_at u x.0) (not_true (is_promoting_entry x.1) (and_right (not (is_log x.0)) (not (is_promoting_entry x.1)) (and_left (is_local_place x) (is_local_trace T) l)))
+        step (is_at u x.0) (not_true (is_promoting x.1) (and_right (not (is_log x.0)) (not (is_promoting x.1)) (and_left (is_local_place x) (is_local_trace T) l)))
         (none u T (and_right (is_local_place x) (is_local_trace T) l))
       where
-        step : (b : Bool) → is_promoting_entry x.1 ≡ false → has is_promoting_entry (history u T) ≡ false → has is_promoting_entry (if b then x.1 ∷ history u T else history u T) ≡ false
-        step true p q = or_false (is_promoting_entry x.1) (has is_promoting_entry (history u T)) p q
+        step : (b : Bool) → is_promoting x.1 ≡ false → has is_promoting (history u T) ≡ false → has is_promoting (if b then x.1 ∷ history u T else history u T) ≡ false
+        step true p q = or_false (is_promoting x.1) (has is_promoting (history u T)) p q
         step false p q = q
 
 -- A block comes to that of proofs/Narrow.
@@ -143,10 +144,10 @@ taken_call s t n a c k T p l =
     let w : World = world_at s t T in
     let es : List Entry = block_in s t (Calls n a c k) T in
     let quiet = block_unpromoted t T es l in
-    let waits : is_wait (answer (observe w.past) c k) ≡ false = by_wait (answer (observe w.past) c k) (λ e. not_both (has is_promoting_entry es) (waits_promotes t.value w n a c k p e) quiet) in
+    let waits : is_waiting_answer (answer (observe w.past) c k) ≡ false = by_wait (answer (observe w.past) c k) (λ e. not_both (has is_promoting es) (waits_promotes t.value w n a c k p e) quiet) in
     taken s t (Calls n a c k) T (call-narrow t.value w n a c k p waits) (call_local (observe w.past) n a c k waits)
   where
-    by_wait : (x : Answer) → (x ≡ Wait → ⊥) → is_wait x ≡ false
+    by_wait : (x : Answer) → (x ≡ Wait → ⊥) → is_waiting_answer x ≡ false
     by_wait Wait f = absurd (f refl)
     by_wait _ f = refl
 
@@ -156,8 +157,8 @@ taken_step s t T m p q l =
     let k = narrow (block_unpromoted t T (block_in s t m T) l) (step-narrow NoCall t.value (world_at s t T) m p q) in
     taken s t m T k.0 k.1
   where
-    narrow : has is_promoting_entry (block_in s t m T) ≡ false → (has is_promoting_entry (block_in s t m T) ≡ true) ⊎ IsNarrow t.value (world_at s t T) m → IsNarrow t.value (world_at s t T) m
-    narrow q (inl k) = absurd (not_both (has is_promoting_entry (block_in s t m T)) k q)
+    narrow : has is_promoting (block_in s t m T) ≡ false → (has is_promoting (block_in s t m T) ≡ true) ⊎ IsNarrow t.value (world_at s t T) m → IsNarrow t.value (world_at s t T) m
+    narrow q (inl k) = absurd (not_both (has is_promoting (block_in s t m T)) k q)
     narrow q (inr k) = k
 
 -- each history is local

@@ -24,10 +24,11 @@ use Rattle.dtx_model.specs.Seen.{is_away}
 use Rattle.dtx_model.specs.Replay.{HasDoneAt, HasSettled, IsReplayed, LinesRan}
 use Rattle.dtx_values.specs.Owners.{may_own, owner_of}
 use Rattle.dtx_model.specs.Outcome.{ready, by_seal, by_owner, by_log, evidence, vetoed, owner_doubt, coordinator_doubt, doubt, may_tell, justified}
-use Rattle.outcome_law.proofs.Examples.{a1, e1, e2, t1, just_in, handed_e2}
+use Rattle.outcome_law.proofs.Examples.{just_in, handed_e2}
 use Rattle.outcome_law.proofs.ReplayExample.{at_t1, planned_at_t1}
 use Rattle.outcome_law.proofs.OwnerExample.{begin_line, promotable_line, commit_line, await_line, owner_joined}
 use Rattle.outcome_law.proofs.Replays.{replayed_caused}
+use Rattle.dtx_model.proofs.Cast.{a1, e1, e2, t1}
 
 -- `a1 begin t1 0`, `a1 promotable t1 e2 rm1 yes committed ok`, `a1 commit t1`, `a1 do t1 1 2`, `a1 gone e2` and `a1 await t1`
 abbrev pub losing : List Line

@@ -25,12 +25,12 @@ use Rattle.dtx_values.specs.Ends.{knows, same_connection}
 use Rattle.dtx_values.specs.Table.{voted}
 use Rattle.dtx_model.specs.declared.branch.Branch.{Branch}
 use Rattle.dtx_model.specs.declared.listener.Listener.{Listener}
-use Rattle.dtx_model.specs.Words.{each, has, latest, onto, or_else}
+use Rattle.dtx_model.specs.Words.{each, has, holds, latest, onto, or_else}
 use Rattle.dtx_model.specs.History.{is_still_lost, loss_of}
 use Rattle.dtx_model.specs.Entries.{decision_of, is_decision, is_lost, is_promoted, is_sealed, is_vote}
 use Rattle.dtx_model.specs.Observed.{Observed, come_back, ends_of, hear, is_branch, is_request, listener_number, listeners, lose, observe, rows, track}
 use Rattle.dtx_model.specs.Outcome.{enlisted}
-use Rattle.dtx_model.specs.Wires.{WireRun, holds, is_kept, is_lost_wire, is_open_wire, is_stopped, loses, lost_after, lost_since, opens}
+use Rattle.dtx_model.specs.Wires.{WireRun, is_kept, is_lost_wire, is_open_wire, is_stopped, loses, lost_after, lost_since, opens}
 use Rattle.dtx_model.specs.Half.{Half, decide, is_gone, is_handed, sees, to_up, veto}
 use Rattle.dtx_model.specs.Facts.{facts_if, has_facts, is_late, reaches, ticked}
 use Rattle.dtx_model.specs.Replies.{due_of, request_message, request_of}

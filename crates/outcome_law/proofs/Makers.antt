@@ -43,7 +43,7 @@ use Rattle.dtx_model.specs.Arrivals.{arrived, created, enlisted_at, hand_over, l
 use Rattle.dtx_model.specs.Answers.{class_of}
 use Rattle.dtx_model.specs.Acts.{act_entries}
 use Rattle.dtx_model.specs.Replies.{reply_entries}
-use Rattle.dtx_model.specs.Facts.{begin_promotion, durable_facts, facts_if, has_facts}
+use Rattle.dtx_model.specs.Facts.{begin_promotion, durable_facts, facts_if, has_facts, is_waiting_answer}
 use Rattle.dtx_model.specs.World.{World, answer_at, core, facts_at, half}
 use Rattle.dtx_model.specs.Steps.{Step, Calls, Replies, Acts, Coordinates, Delivers, Stops, Restarts, after, block_at, coordinates, delivered, ended_at, got_by, restarted}
 use Rattle.dtx_model.specs.Caused.{AreMadeOnce, MayCome, Ran, made_by}
@@ -60,7 +60,7 @@ use Rattle.outcome_law.proofs.Debts.{is_volatile_made}
 use Rattle.outcome_law.proofs.OnTheWay.{is_unplaced}
 use Rattle.outcome_law.proofs.Openings.{once_sent}
 use Rattle.outcome_law.proofs.PlainBlocks.{Plain, is_plain, plain_act, plain_arrived, plain_begin_promotion, plain_called, plain_coordinates, plain_core_got, plain_ended_at, plain_reply, plain_restarted}
-use Rattle.outcome_law.proofs.Waiters.{is_waiting_answer, own_call, promotable_gives, volatile_gives}
+use Rattle.outcome_law.proofs.Waiters.{own_call, promotable_gives, volatile_gives}
 use Rattle.outcome_law.proofs.Crossed.{is_sent_on, is_got_on}
 
 -- the call makes this enlistment: any, a volatile one, or a durable or promotable one

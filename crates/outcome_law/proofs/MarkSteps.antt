@@ -32,9 +32,9 @@ use Rattle.dtx_model.specs.declared.branch.Branch.{Branch}
 use Rattle.dtx_model.specs.declared.waiting.EnteredCall.{EnteredCall}
 use Rattle.dtx_model.specs.Words.{each, has, onto}
 use Rattle.dtx_model.specs.Entries.{is_call, is_decision, is_promoted, is_sealed}
-use Rattle.dtx_model.specs.Observed.{ends_of, is_branch, observe, rows}
+use Rattle.dtx_model.specs.Observed.{ends_of, is_branch, is_promotion_failed, observe, rows}
 use Rattle.dtx_model.specs.Outcome.{can_own, durables, enlisted, is_empty}
-use Rattle.dtx_model.specs.Promotes.{identifier_of, is_failed, is_promoting}
+use Rattle.dtx_model.specs.Promotes.{identifier_of, is_promoting}
 use Rattle.dtx_model.specs.Wires.{in_transit, is_ended, opens}
 use Rattle.dtx_model.specs.Waiting.{call_at, waiter_line, waiting, wanted}
 use Rattle.dtx_model.specs.Half.{Half, enlist_sent, info, is_promoting as sees_promoting, sees}
@@ -245,7 +245,7 @@ act_marked G w m =
     })
   where
     begun : sees_promoting (half w).seen ≡ true → has is_promoting w.past ≡ true
-    begun p = and_left (has is_promoting w.past) (not (has is_promoted w.past)) (and_left (has is_promoting w.past && not (has is_promoted w.past)) (not (has is_failed w.past)) (sym (way_seen w.past) ∙ p))
+    begun p = and_left (has is_promoting w.past) (not (has is_promoted w.past)) (and_left (has is_promoting w.past && not (has is_promoted w.past)) (not (has is_promotion_failed w.past)) (sym (way_seen w.past) ∙ p))
 
 -- The deliveries.
 delivered_marked : (G : ℕ → ActorNo → Call → Type 0) (t : ℕ) (w : World) (c : Conn) (d : Dir) (ms : List Message) → Keeps (onto w.past (delivered t w c d ms)) → IsMarked G w.past

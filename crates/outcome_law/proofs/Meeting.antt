@@ -16,7 +16,6 @@ use Rattle.dtx_model.specs.Steps.{Step, Delivers, after, block_at}
 use Rattle.dtx_model.specs.Caused.{Ran}
 use Rattle.dtx_model.proofs.Bools.{and_right, or_second}
 use Rattle.outcome_law.proofs.Messages.{ENLIST, ENLISTED}
-use Rattle.outcome_law.proofs.Fine.{is_restart}
 use Rattle.outcome_law.proofs.Rest.{is_after_start, is_sound}
 use Rattle.outcome_law.proofs.Openings.{once_sent}
 use Rattle.outcome_law.proofs.Stages.{sent_known}
@@ -26,6 +25,7 @@ use Rattle.outcome_law.proofs.PaidRuns.{AreMet, IsMet, MayMeet, committed_met, r
 use Rattle.outcome_law.proofs.Counted.{got_first, is_once}
 use Rattle.outcome_law.proofs.ComingRuns.{enlisted_met, ran_coming}
 use Rattle.outcome_law.proofs.Crossed.{is_sent_on, got_sent}
+use Rattle.dtx_model.specs.AtLog.{is_restart}
 
 -- a history in which no restart came, whose messages are sent after the promotion began, on connections that are known, COMMITTED after a record, and ENLISTED once to each enlistment
 pub record IsMeeting (h : List Entry) : Type 0 where

@@ -24,9 +24,9 @@ use Rattle.dtx_model.specs.Contexts.{calls_by, lines_before}
 use Rattle.dtx_values.specs.Table.{voted}
 use Rattle.dtx_model.specs.Calls.{call_of, complete_call, transaction_of, gone_call, reenlist_call, transaction_with}
 use Rattle.dtx_model.specs.Half.{is_handed}
-use Rattle.dtx_model.specs.Facts.{facts_if, reaches, ticked, is_done}
+use Rattle.dtx_model.specs.Facts.{facts_if, reaches, ticked, is_done, lost_outcome}
 use Rattle.dtx_model.specs.Steps.{Step, Calls, Replies, Acts}
-use Rattle.dtx_model.proofs.Narrow.{answer, facts, veto_if, time_up, is_late, lost_outcome, decided_if, block}
+use Rattle.dtx_model.proofs.Narrow.{answer, facts, veto_if, time_up, is_late, decided_if, block}
 use Rattle.dtx_model.specs.Caused.{IsCallOf, is_new, AreMadeOnce, made_by}
 use Rattle.dtx_model.specs.Grammar.{Name, OfTransaction, OfEnlistment, OfClone, OfScope, same_name, makes, is_made, is_named_well, are_named_well}
 use Rattle.dtx_model.proofs.Bools.{and_left, and_right, or_right, or_case, not_true, not_false, not_both}

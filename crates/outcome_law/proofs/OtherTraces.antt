@@ -10,8 +10,8 @@ use Rattle.dtx_model.specs.AtLog.{is_local_trace}
 use Rattle.dtx_model.specs.Traces.{Placed, placed}
 use Rattle.dtx_model.specs.History.{IsHistory, IsReplay}
 use Rattle.outcome_law.proofs.Determined.{history_same}
-use Rattle.outcome_law.proofs.Examples.{a1, e1, t1}
 use Rattle.outcome_law.proofs.ReplayExample.{did, is_history, is_replay, script, stepped, whole}
+use Rattle.dtx_model.proofs.Cast.{a1, e1, t1}
 
 -- a replay of the script in which nothing is promoted has that trace and no other
 pub no_other : (T : List Placed) → is_local_trace T ≡ true → IsHistory script 0 0 T → IsReplay script 0 true T → placed t1 whole ≡ T

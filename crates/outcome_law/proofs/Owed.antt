@@ -26,12 +26,12 @@ use Rattle.dtx_values.specs.Table.{enl_number, insert_by, voted, was_asked}
 use Rattle.dtx_values.specs.Vote.{voted_well}
 use Rattle.dtx_model.specs.declared.branch.Branch.{Branch}
 use Rattle.dtx_model.specs.declared.listener.Listener.{Listener}
-use Rattle.dtx_model.specs.Words.{has, each, always, latest, or_else}
+use Rattle.dtx_model.specs.Words.{has, each, always, latest, or_else, holds}
 use Rattle.dtx_model.specs.Entries.{decision_of, is_asked, is_asked_alone, is_asked_to_promote, is_decision, is_record, is_told, is_vote, same_outcome}
 use Rattle.dtx_model.specs.Observed.{come_back, ends_of, hear, lose, is_ask_promote, is_ask_single, is_promote_reply, is_request, listener_number, listeners, observe, rows}
 use Rattle.dtx_model.specs.Outcome.{can_own, enlisted}
 use Rattle.dtx_model.specs.Tied.{is_logged}
-use Rattle.dtx_model.specs.Wires.{holds, is_lost_wire}
+use Rattle.dtx_model.specs.Wires.{is_lost_wire}
 use Rattle.dtx_model.specs.Plans.{owner_reply, promote_reply, vote_reply}
 use Rattle.dtx_model.specs.Half.{is_gone, was_told}
 use Rattle.dtx_model.specs.Replies.{conn_due, due_of, may_still_vote, names, note_at, note_of_conn, owes_outcome, owes_promotion, owes_request, owes_vote, row_note, with_name, with_names}

@@ -29,9 +29,10 @@ use Rattle.dtx_model.specs.Caused.{Caused, IsNamed}
 use Rattle.dtx_model.specs.Replay.{HasSettled, IsReplayed, LinesRan, StepsRan, world_at}
 use Rattle.dtx_values.specs.Owners.{may_own, owner_of}
 use Rattle.dtx_model.specs.Outcome.{ready, by_seal, by_owner, by_log, evidence, vetoed, owner_doubt, coordinator_doubt, doubt, may_tell, justified, agree}
-use Rattle.outcome_law.proofs.Examples.{a1, e1, e2, t1, just_in, agree_in, handed_e2}
+use Rattle.outcome_law.proofs.Examples.{just_in, agree_in, handed_e2}
 use Rattle.outcome_law.proofs.ReplayExample.{at_t1, planned_at_t1}
 use Rattle.outcome_law.proofs.Replays.{replayed_caused}
+use Rattle.dtx_model.proofs.Cast.{a1, e1, e2, t1}
 
 abbrev r1 : RmNo
 r1 = record { value = 1; in_range = (lit≤ tt, lit≤ tt) }

@@ -47,7 +47,7 @@ use Rattle.dtx_model.specs.Words.{has, latest, onto}
 use Rattle.dtx_model.specs.Entries.{decision_of, is_decision, is_promoted}
 use Rattle.dtx_model.specs.Observed.{cause_of_promotion, ends_of, handover, is_promotion_failed, observe, rows, track}
 use Rattle.dtx_model.specs.Outcome.{enlisted}
-use Rattle.dtx_model.specs.Promotes.{identifier_of, is_failed, is_promoting, is_under_way}
+use Rattle.dtx_model.specs.Promotes.{identifier_of, is_promoting, is_under_way}
 use Rattle.dtx_model.specs.Wires.{in_transit, is_next}
 use Rattle.dtx_model.specs.Coordinated.{Coordinated, abort_sends, coordinate, core_got, follow, is_active, may_log, opening_by, to_each, without}
 use Rattle.dtx_model.specs.Waiting.{Waiter, is_place_of, managed, waiting}
@@ -98,11 +98,11 @@ lead_first : (q : Entry → Bool) (xs ys : List Entry) → leads q xs ≡ true �
 lead_first q [] ys k = absurd cc
 lead_first q (x ∷ xs) ys k = k
 
-failed_seen : (h : List Entry) → has is_promotion_failed h ≡ has is_failed h
+failed_seen : (h : List Entry) → has is_promotion_failed h ≡ has is_promotion_failed h
 failed_seen [] = refl
-failed_seen (x ∷ h) = ap (λ b. is_promotion_failed x || b) (failed_seen h) ∙ ap (λ b. b || has is_failed h) (one x)
+failed_seen (x ∷ h) = ap (λ b. is_promotion_failed x || b) (failed_seen h) ∙ ap (λ b. b || has is_promotion_failed h) (one x)
   where
-    one : (x : Entry) → is_promotion_failed x ≡ is_failed x
+    one : (x : Entry) → is_promotion_failed x ≡ is_promotion_failed x
     one PromotionFailed = refl
     one _ = refl
 
@@ -443,7 +443,7 @@ arrived_paid t w Voter VoterCreated f p =
     head_paid w.past (Got Voter Down VoterCreated) (is_going_up w.past) (created_next (handover w.past)) (local_got t (half w) Voter VoterCreated) refl
     (going_leads (created_next (handover w.past)) (is_some (latest decision_of w.past)) (has is_decision w.past) (is_promoting_now (observe w.past)) (is_under_way w.past) []
     (hand_over t v (handover w.past)) (decision_seen w.past) (way_seen w.past)
-    (λ q. handed_leads t v (handover w.past) (f (unpromoted_way (has is_promoting w.past) (has is_promoted w.past) (has is_failed w.past) q)) (caused_way (is_some (latest cause_of_promotion w.past)) (has is_promoted w.past) (has is_promotion_failed w.past) (way_seen w.past ∙ q))))
+    (λ q. handed_leads t v (handover w.past) (f (unpromoted_way (has is_promoting w.past) (has is_promoted w.past) (has is_promotion_failed w.past) q)) (caused_way (is_some (latest cause_of_promotion w.past)) (has is_promoted w.past) (has is_promotion_failed w.past) (way_seen w.past ∙ q))))
     (silent_local_got t (half w) Voter VoterCreated) p
 arrived_paid t w (Enl e) EnlistEnlisted f p =
     let v = sees (half w) (Got (Enl e) Down EnlistEnlisted) in

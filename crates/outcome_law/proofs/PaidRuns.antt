@@ -11,8 +11,8 @@ use Rattle.dtx_values.specs.declared.number.ActorNo.{ActorNo}
 use Rattle.dtx_model.specs.declared.waiting.EnteredCall.{EnteredCall}
 use Rattle.dtx_model.specs.Words.{always, has}
 use Rattle.dtx_model.specs.Entries.{is_decision, is_promoted}
-use Rattle.dtx_model.specs.Observed.{handover}
-use Rattle.dtx_model.specs.Promotes.{is_failed, is_promoting, is_under_way}
+use Rattle.dtx_model.specs.Observed.{handover, is_promotion_failed}
+use Rattle.dtx_model.specs.Promotes.{is_promoting, is_under_way}
 use Rattle.dtx_model.specs.Wires.{WireRun, in_transit, is_next}
 use Rattle.dtx_model.specs.Waiting.{is_place_of, waiting}
 use Rattle.dtx_model.specs.Half.{is_handed}
@@ -21,13 +21,13 @@ use Rattle.dtx_model.specs.Steps.{Step, Delivers}
 use Rattle.dtx_model.specs.Caused.{Ran}
 use Rattle.std.specs.Prelude.{Bool, not}
 use Rattle.outcome_law.proofs.Messages.{COMMITTED}
-use Rattle.outcome_law.proofs.Fine.{is_restart}
 use Rattle.outcome_law.proofs.Rest.{is_sound}
 use Rattle.outcome_law.proofs.Committed.{committed_promoted, is_recorded_first}
 use Rattle.outcome_law.proofs.Paid.{IsPaid}
 use Rattle.outcome_law.proofs.PaidBlocks.{MayServe, Serves, step_pays}
 use Rattle.outcome_law.proofs.Handovers.{AreManaged, ran_managed}
 use Rattle.outcome_law.proofs.Crossed.{got_sent}
+use Rattle.dtx_model.specs.AtLog.{is_restart}
 
 -- Where nothing is decided: before ENLISTED that is not the handover's, the promotion is over and a call waits for the place; and before COMMITTED no promotion is
 -- under way.
@@ -65,7 +65,7 @@ ran_pays G t (m ∷ ms) w r f =
 -- What must stand before COMMITTED does, by the table of rules, where no restart came.
 pub committed_met : (h : List Entry) → WireRun h → has is_restart h ≡ false → is_next BeginCommitted (in_transit Begin Down h) → always is_sound h ≡ true → always is_recorded_first h ≡ true → is_under_way h ≡ false
 committed_met h run none n s r =
-    over (has is_promoting h) (has is_promoted h) (has is_failed h)
+    over (has is_promoting h) (has is_promoted h) (has is_promotion_failed h)
     (committed_promoted h run none s r (got_sent Begin Down BeginCommitted COMMITTED h n refl))
   where
     over : (a b c : Bool) → b ≡ true → (a && not b && not c) ≡ false

@@ -16,9 +16,9 @@ use Rattle.dtx_values.specs.Vote.{is_no}
 use Rattle.dtx_values.specs.Owners.{owner_of}
 use Rattle.dtx_values.specs.Table.{voted}
 use Rattle.dtx_model.specs.Half.{is_handed}
-use Rattle.dtx_model.specs.Facts.{facts_if, reaches, ticked}
+use Rattle.dtx_model.specs.Facts.{facts_if, lost_outcome, reaches, ticked}
 use Rattle.dtx_model.specs.Steps.{Step, Calls, Replies, Acts}
-use Rattle.dtx_model.proofs.Narrow.{facts, veto_if, time_up, is_late, lost_outcome, decided_if, block}
+use Rattle.dtx_model.proofs.Narrow.{facts, veto_if, time_up, is_late, decided_if, block}
 use Rattle.dtx_values.specs.Waves.{all_voted, is_over, next_ask}
 use Rattle.dtx_model.specs.Acts.{tell}
 use Rattle.dtx_model.proofs.Narrow.{is_to_tell, before_seal, commit_act, after_seal, undecided_act, act_by, act_entries}

@@ -13,11 +13,11 @@ use Rattle.dtx_values.specs.declared.message.Message.TheVariants.{BeginBegin, Be
 use Rattle.dtx_values.specs.declared.number.EnlNo.{EnlNo}
 use Rattle.dtx_model.specs.Words.{has, always}
 use Rattle.dtx_model.specs.Entries.{is_decision, is_promoted}
-use Rattle.dtx_model.specs.Promotes.{is_failed, is_promoting, is_under_way}
+use Rattle.dtx_model.specs.Promotes.{is_promoting, is_under_way}
 use Rattle.dtx_values.specs.Ends.{same_connection, same_direction}
 use Rattle.dtx_model.proofs.Bools.{and_left, and_right, and_both, not_false, not_true, not_both, or_first, or_second, or_right}
 use Rattle.outcome_law.proofs.Fine.{IsFine, is_bad, is_bad_message}
-use Rattle.dtx_model.specs.Observed.{handover}
+use Rattle.dtx_model.specs.Observed.{handover, is_promotion_failed}
 use Rattle.dtx_model.specs.Half.{is_handed}
 use Rattle.outcome_law.proofs.Messages.{BEGIN, BEGUN, CREATED, ENLIST, ENLISTED, ENLIST_ANSWER, VOTER, VOTER_ANSWER}
 use Rattle.outcome_law.proofs.Debts.{created_next, enlisted_next, is_going_up, when}
@@ -99,10 +99,10 @@ if_so false q k = absurd cc
 -- once it began, such a promotion is under way
 under_way : (o : Option EnlNo) (h : List Entry) → IsRising o h → has is_promoting h ≡ true → is_under_way h ≡ true
 under_way o h r b =
-    and_both (has is_promoting h && not (has is_promoted h)) (not (has is_failed h)) (and_both (has is_promoting h) (not (has is_promoted h)) b (not_false (has is_promoted h) r.unpromoted))
-    (not_false (has is_failed h) (has_less is_failed is_bad failed h r.fine.unbad))
+    and_both (has is_promoting h && not (has is_promoted h)) (not (has is_promotion_failed h)) (and_both (has is_promoting h) (not (has is_promoted h)) b (not_false (has is_promoted h) r.unpromoted))
+    (not_false (has is_promotion_failed h) (has_less is_promotion_failed is_bad failed h r.fine.unbad))
   where
-    failed : (x : Entry) → is_failed x ≡ true → is_bad x ≡ true
+    failed : (x : Entry) → is_promotion_failed x ≡ true → is_bad x ≡ true
     failed PromotionFailed k = refl
     failed x k = absurd cc
 

@@ -46,7 +46,7 @@ use Rattle.dtx_model.specs.Answers.{has_promotion, if_begun, is_crowded, is_full
 use Rattle.dtx_model.specs.Arrivals.{arrived, created, enlisted_at, hand_over, local_got, place_given}
 use Rattle.dtx_model.specs.Acts.{act_entries, commit_sent}
 use Rattle.dtx_model.specs.Replies.{reply_entries}
-use Rattle.dtx_model.specs.Facts.{begin_promotion, facts_if, has_facts}
+use Rattle.dtx_model.specs.Facts.{begin_promotion, facts_if, has_facts, is_waiting_answer}
 use Rattle.dtx_model.specs.World.{World, answer_at, core, facts_at, half}
 use Rattle.dtx_model.specs.Coordinated.{core_got}
 use Rattle.dtx_model.specs.Steps.{Step, Calls, Replies, Acts, Coordinates, Delivers, Stops, Restarts, after, block_at, coordinates, delivered, ended_at, restarted}
@@ -60,7 +60,7 @@ use Rattle.outcome_law.proofs.Deciding.{stays}
 use Rattle.outcome_law.proofs.HalfKnows.{way_seen}
 use Rattle.outcome_law.proofs.ScopeCalls.{given_call, is_scope_call}
 use Rattle.outcome_law.proofs.ScriptCalls.{own_words}
-use Rattle.outcome_law.proofs.Waiters.{is_waiting_answer, other_gives}
+use Rattle.outcome_law.proofs.Waiters.{other_gives}
 use Rattle.outcome_law.proofs.CalmBlocks.{Calm, Seals, act_kind, calm_arrived, calm_called, calm_commit_sent, calm_coordinates, calm_core_got, calm_ended_at, calm_reply, calm_restarted, is_slow}
 use Rattle.outcome_law.proofs.Ordered.{is_called_for, ruled_ordered}
 use Rattle.outcome_law.proofs.HandedOver.{none_to_hand, over_called, own_cause, own_handed}

@@ -22,7 +22,8 @@ use Rattle.dtx_model.specs.Outcome.{ready, by_seal, by_owner, by_log, evidence, 
 use Rattle.dtx_values.specs.Owners.{cause_of}
 use Rattle.dtx_model.specs.Promotes.{ends_refused, promotes}
 use Rattle.dtx_model.specs.Wires.{MayCross, WireRun, in_transit}
-use Rattle.outcome_law.proofs.Examples.{a1, agree_in, e1, e2, just_in, t1}
+use Rattle.outcome_law.proofs.Examples.{agree_in, just_in}
+use Rattle.dtx_model.proofs.Cast.{a1, e1, e2, t1}
 
 -- the identifier of t1
 abbrev u1 : ℕ

@@ -19,7 +19,7 @@ use Rattle.dtx_model.specs.Outcome.{by_log, by_owner, by_seal, can_own, durables
 use Rattle.dtx_model.specs.Learned.{coordinator_aborted, is_abort, is_first_abort}
 use Rattle.dtx_model.specs.Tied.{before_first, before_first_stop, can_log, enlist_got, has_mark, is_logged, is_ready_got, is_stop, is_unmarked, mark_of}
 use Rattle.dtx_model.specs.Wires.{is_stopped}
-use Rattle.dtx_model.specs.Promotes.{is_created_got, is_begun_got, is_promoting, is_under_way, is_failed}
+use Rattle.dtx_model.specs.Promotes.{is_created_got, is_begun_got, is_promoting, is_under_way}
 use Rattle.dtx_model.proofs.Bools.{and_left, and_right, and_both, not_both, not_true, or_case, or_false, or_right, or_second, and_never, three_hold}
 use Rattle.dtx_model.proofs.Connections.{same_is}
 use Rattle.outcome_law.proofs.Tests.{eq_self, second_of_five, third_of_five, fourth_of_five, second_of_three, or_between}
@@ -29,6 +29,7 @@ use Rattle.outcome_law.proofs.Table.{class_row, have_come, is_ask_got, is_enlist
 use Rattle.outcome_law.proofs.Keeping.{Keeps, before, fifth_of_five, keeps_before, newest, newest_tied}
 use Rattle.outcome_law.proofs.Crossed.{no_end_up, nothing_up}
 use Rattle.outcome_law.proofs.Sendings.{good_if_ready, own_info, record_of_mark, yes_if_got}
+use Rattle.dtx_model.specs.Observed.{is_promotion_failed}
 
 -- The rows of the seal and of the local yes.
 seal_commit : (x : Entry) (h : List Entry) → Keeps h → rule h x ≡ true → is_sealed x ≡ true → has is_commit h ≡ true
@@ -55,7 +56,7 @@ promoted_if_yes h k s = before is_yes is_promoted yes_promoted h k s
 promoted_promoting : (x : Entry) (h : List Entry) → Keeps h → rule h x ≡ true → is_promoted x ≡ true → has is_promoting h ≡ true
 promoted_promoting (Promoted u c) h k r t =
     let way = third_of_five (not (has is_decision h)) (not (has is_sealed h)) (is_under_way h) (have_come h) (has is_begun_got h && has is_created_got h) r in
-    and_left (has is_promoting h) (not (has is_promoted h)) (and_left (has is_promoting h && not (has is_promoted h)) (not (has is_failed h)) way)
+    and_left (has is_promoting h) (not (has is_promoted h)) (and_left (has is_promoting h && not (has is_promoted h)) (not (has is_promotion_failed h)) way)
 promoted_promoting _ h k r t = absurd cc
 
 pub promoting_if_promoted : (h : List Entry) → Keeps h → has is_promoted h ≡ true → has is_promoting h ≡ true

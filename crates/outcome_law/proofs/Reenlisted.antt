@@ -13,11 +13,11 @@ use Rattle.dtx_values.specs.declared.message.Message.TheVariants.{EnlistCommit, 
 use Rattle.dtx_values.specs.Ends.{same_connection, same_direction}
 use Rattle.dtx_values.specs.Lines.{has_line}
 use Rattle.dtx_model.specs.declared.branch.Branch.{Branch}
-use Rattle.dtx_model.specs.Words.{each, has}
+use Rattle.dtx_model.specs.Words.{each, has, holds}
 use Rattle.dtx_model.specs.Observed.{branch_number, branches, is_branch}
 use Rattle.outcome_law.proofs.Severed.{is_severing}
 use Rattle.dtx_model.specs.Promotes.{is_enlisted_got}
-use Rattle.dtx_model.specs.Wires.{ended_after, ends, holds, is_ended, is_lost_wire, is_stopped, loses, lost_after, lost_since, opens}
+use Rattle.dtx_model.specs.Wires.{ended_after, ends, is_ended, is_lost_wire, is_stopped, loses, lost_after, lost_since, opens}
 use Rattle.dtx_model.specs.Tied.{is_stop}
 use Rattle.dtx_model.proofs.Bools.{and_both, and_left, and_right, not_both, not_true, or_case, or_right}
 use Rattle.outcome_law.proofs.Tests.{eq_swap}

@@ -37,8 +37,8 @@ use Rattle.dtx_model.specs.History.{IsHistory, IsReplay, is_call_at}
 use Rattle.dtx_model.proofs.Bools.{and_left, and_right}
 use Rattle.dtx_model.proofs.Histories.{history-other, history-same}
 use Rattle.dtx_model.proofs.Quiet.{wire_run_of}
-use Rattle.outcome_law.proofs.Examples.{a1, e1, t1}
 use Rattle.outcome_law.proofs.Replays.{replayed_caused, replayed_called, replayed_noted}
+use Rattle.dtx_model.proofs.Cast.{a1, e1, t1}
 
 -- the lines `a1 begin t1 0`, `a1 volatile t1 e1 none yes`, `a1 commit t1` and `a1 do t1 1 2`
 abbrev pub four_lines : List Line

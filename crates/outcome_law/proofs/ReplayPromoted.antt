@@ -25,9 +25,9 @@ use Rattle.dtx_model.specs.Caused.{Caused, Settled}
 use Rattle.dtx_model.specs.Traces.{history}
 use Rattle.dtx_model.specs.Replay.{HasDoneAt, IsReplayed, LinesRan, RoundsRan, StepsRan}
 use Rattle.outcome_law.specs.LogQuiet.{is_log_quiet}
-use Rattle.outcome_law.proofs.Examples.{a1, t1}
 use Rattle.outcome_law.proofs.ReplayExample.{at_t1, none_passed, planned_at_t1}
 use Rattle.outcome_law.proofs.Replays.{replayed_caused}
+use Rattle.dtx_model.proofs.Cast.{a1, t1}
 
 -- the lines `a1 begin t1 0`, `a1 marshal t1` and `a1 do t1 1 2`
 abbrev marshalled : List Line

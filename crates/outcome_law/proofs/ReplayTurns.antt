@@ -23,13 +23,14 @@ use Rattle.dtx_model.specs.Traces.{Placed, history, noted, placed}
 use Rattle.dtx_model.specs.declared.waiting.EnteredCall.{EnteredCall}
 use Rattle.dtx_model.specs.World.{World, half}
 use Rattle.dtx_model.specs.Steps.{StoppedNow, Step, Calls, Coordinates, StepName, pending}
-use Rattle.dtx_model.specs.Caused.{HasStepped, IsNamed, MayAnswer, Settled, is_begin_sent, is_promoting_entry}
-use Rattle.dtx_model.specs.AtLog.{hit, is_local_trace, is_log, is_log_up, known}
+use Rattle.dtx_model.specs.Caused.{HasStepped, IsNamed, MayAnswer, Settled, is_begin_sent}
+use Rattle.dtx_model.specs.AtLog.{hit, is_local_trace, is_log, is_log_line, is_log_up, known}
 use Rattle.dtx_model.specs.Replay.{CallRan, IsReplayed, IsTurn, LineRan, LinesRan, Reopening, Opens, Faults, Differs, RoundsRan, StepsRan, after_calls, after_halt, after_restart, after_scope, after_turn, at_the_log, block_in, last_turn, others, stop_if, stopped_by_restart, world_at}
 use Rattle.dtx_model.proofs.Bools.{and_both, and_left, and_right, not_false, or_right}
 use Rattle.dtx_model.proofs.Reading.{each-onto}
 use Rattle.outcome_law.specs.LogQuiet.{is_log_quiet}
 use Rattle.outcome_law.proofs.Scans.{each_more}
+use Rattle.dtx_model.specs.Promotes.{is_promoting}
 
 -- nothing stands at the log
 abbrev pub IsQuiet : List Placed → Type 0
@@ -40,7 +41,7 @@ is_off_log x = not (is_log x.0)
 
 -- where nothing is promoted either, nothing stands there
 pub local_quiet : (T : List Placed) → is_local_trace T ≡ true → is_log_quiet T ≡ true
-local_quiet T k = each_more (λ (x : Placed). not (is_log x.0) && not (is_promoting_entry x.1)) is_off_log (λ x h. and_left (not (is_log x.0)) (not (is_promoting_entry x.1)) h) T k
+local_quiet T k = each_more (λ (x : Placed). not (is_log x.0) && not (is_promoting x.1)) is_off_log (λ x h. and_left (not (is_log x.0)) (not (is_promoting x.1)) h) T k
 
 -- so it was before a block
 pub quiet_before : (T ys : List Placed) → IsQuiet (onto T ys) → IsQuiet T
@@ -137,12 +138,6 @@ calls_after s n a (c ∷ cs) T = calls_after s n a cs (after_block s c.0 (Calls 
 
 abbrev pub scope_after : List Line → ℕ → Line → List OpenScope → List Placed → List Placed
 scope_after s n l xs T = calls_after s n l.actor (scope_calls l.body xs) (onto T (noted l.actor (scope_block n l.actor l.body xs)))
-
--- the line stops the log or opens it again
-abbrev pub is_log_line : Body → Bool
-is_log_line (Stop n i) = true
-is_log_line Restart = true
-is_log_line _ = false
 
 abbrev pub LineDone : List Line → List Line → Line → List Placed → List Placed → Type 0
 LineDone s before l start T =

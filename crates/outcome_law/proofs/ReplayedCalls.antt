@@ -30,7 +30,7 @@ use Rattle.dtx_model.specs.Steps.{Step, Calls, Coordinates, StoppedNow, StepName
 use Rattle.dtx_model.specs.Contexts.{scope_answer, scope_calls, scope_entries, scopes_of, written, called_with, scope_block, context, calls_by}
 use Rattle.dtx_model.specs.Caused.{HasStepped, IsNamed, MayAnswer, is_begin_sent}
 use Rattle.dtx_model.specs.Traces.{Placed, history, at_context, placed, noted, called_of, calls}
-use Rattle.dtx_model.specs.AtLog.{hit, is_log_up, known}
+use Rattle.dtx_model.specs.AtLog.{hit, is_log_line, is_log_up, known}
 use Rattle.dtx_model.specs.Replay.{CallRan, LineRan, LinesRan, Reopening, Opens, Faults, Differs, RoundsRan, StepsRan, after_calls, after_halt, after_opening, after_restart, after_scope, after_stop, after_turn, at_its_context, at_log_line, at_the_log, block_in, due_calls, due_by_line, others, put_at, stop_if, stopped_by_restart, world_at}
 use Rattle.dtx_model.proofs.Bools.{and_left, and_right, or_false, or_right}
 use Rattle.dtx_model.proofs.Histories.{onto-append, history-other, history-same, history-noted, context-same, context-other, context-placed}
@@ -38,7 +38,7 @@ use Rattle.dtx_model.proofs.Reading.{has-onto}
 use Rattle.outcome_law.proofs.Scans.{none_more}
 use Rattle.outcome_law.proofs.Pending.{is_not_called}
 use Rattle.outcome_law.proofs.ScopeCalls.{own_line}
-use Rattle.outcome_law.proofs.ReplayTurns.{after_block, is_log_line, world_with}
+use Rattle.outcome_law.proofs.ReplayTurns.{after_block, world_with}
 use Rattle.outcome_law.proofs.ReplayRuns.{block_not_called, facts_not_called, named_no_call}
 
 -- what has no call hasn't this call

@@ -21,8 +21,8 @@ use Rattle.dtx_model.specs.Steps.{block_at}
 use Rattle.dtx_model.specs.AtLog.{follow_log}
 use Rattle.dtx_model.specs.Traces.{Placed, history, placed}
 use Rattle.dtx_model.specs.Replay.{Faults, IsReplayed, LinesRan, Opens}
-use Rattle.outcome_law.proofs.Examples.{a1, t1}
 use Rattle.outcome_law.proofs.Replays.{replayed_followed}
+use Rattle.dtx_model.proofs.Cast.{a1, t1}
 
 -- the lines `a1 restart`, `a1 begin t1 0`, `a1 marshal t1`, `a1 restart` and `a1 restart`
 abbrev restarting : List Line

@@ -35,9 +35,9 @@ use Rattle.dtx_model.proofs.Quiet.{wire_run_of}
 use Rattle.dtx_model.specs.Promotes.{promotes}
 use Rattle.dtx_model.specs.Contexts.{scope_answer, scope_calls, scopes_of}
 use Rattle.dtx_model.proofs.Bools.{and_left, and_right}
-use Rattle.outcome_law.proofs.Examples.{a1, t1}
 use Rattle.outcome_law.proofs.ReplayExample.{none_passed}
 use Rattle.outcome_law.proofs.Replays.{replayed_called, replayed_caused, replayed_noted}
+use Rattle.dtx_model.proofs.Cast.{a1, t1}
 
 abbrev t2 : TxNo
 t2 = record { value = 2; in_range = (lit≤ tt, lit≤ tt) }

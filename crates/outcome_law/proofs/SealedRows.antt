@@ -19,8 +19,8 @@ use Rattle.dtx_values.specs.Ends.{same_connection}
 use Rattle.dtx_values.specs.Lines.{has_line, is_opening}
 use Rattle.dtx_model.specs.Words.{always, each, has, latest, onto}
 use Rattle.dtx_model.specs.Entries.{decision_of, is_asked, is_commit, is_commit_got, is_decision, is_promoted, is_sealed}
-use Rattle.dtx_model.specs.Observed.{handover, observe, track}
-use Rattle.dtx_model.specs.Promotes.{identifier_of, is_failed, is_promoting, is_under_way}
+use Rattle.dtx_model.specs.Observed.{handover, is_promotion_failed, observe, track}
+use Rattle.dtx_model.specs.Promotes.{identifier_of, is_promoting, is_under_way}
 use Rattle.dtx_model.specs.Wires.{MayCross, in_transit, is_next, opens}
 use Rattle.dtx_model.specs.declared.waiting.EnteredCall.{EnteredCall}
 use Rattle.dtx_model.specs.Waiting.{Waiter, is_place_of, waiting}
@@ -165,7 +165,7 @@ unfolding local_got observe track
 place_joins t w e d p z =
     let h = w.past in
     let v = sees (half w) (Got (Enl e) Down EnlistEnlisted) in
-    let way : sees_promoting (observe h) ≡ false = way_seen h ∙ unway (has is_promoting h) (has is_promoted h) (has is_failed h) p in
+    let way : sees_promoting (observe h) ≡ false = way_seen h ∙ unway (has is_promoting h) (has is_promoted h) (has is_promotion_failed h) p in
     let own : (sees_promoting (observe h) && is_handed (handover h) e.value) ≡ false = ap (λ b. b && is_handed (handover h) e.value) way in
     subst (λ (es : List Entry). has (is_enlisted e.value) es ≡ true)
     (sym (third_branch (is_some (latest decision_of h)) (sees_promoting (observe h) && is_handed (handover h) e.value) (has is_promoted h) (over t v) (place_given (find (is_place_of e.value) (waiting w.calls h)))

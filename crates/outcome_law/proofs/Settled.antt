@@ -19,10 +19,9 @@ use Rattle.dtx_values.specs.declared.row.Row.{Row}
 use Rattle.dtx_values.specs.Table.{voted_before}
 use Rattle.dtx_values.specs.Clones.{blocks, is_open_block}
 use Rattle.dtx_model.specs.declared.listener.Listener.{Listener}
-use Rattle.dtx_model.specs.Words.{has, each, ever, always, latest, all_of}
+use Rattle.dtx_model.specs.Words.{has, each, ever, always, latest, all_of, holds}
 use Rattle.dtx_model.specs.Entries.{same_outcome, is_commit, is_sealed, is_yes, is_hand, is_owner, is_asked, is_lost, is_vote, clone_of, handed_of, decision_of, is_decision, client_told_of, is_client_told}
 use Rattle.dtx_model.specs.History.{CanCommit, is_asked_in_time, is_committed, is_ending, is_loss, is_willing}
-use Rattle.dtx_model.specs.Wires.{holds}
 use Rattle.dtx_model.specs.Outcome.{can_own, enlisted, is_complete, is_rollback, evidence, is_veto, is_first_veto, vetoed, is_lost_owner, owner_doubt, is_begin_end, is_voter_end, is_outcome_got, coordinator_doubt, doubt}
 use Rattle.dtx_values.specs.Owners.{owner_of}
 use Rattle.dtx_model.specs.Observed.{observe, rows, clone_rows}

@@ -13,7 +13,7 @@ use Rattle.dtx_values.specs.declared.words.Vote.{Vote}
 use Rattle.dtx_values.specs.Class.{is_volatile}
 use Rattle.dtx_values.specs.Clones.{blocks}
 use Rattle.dtx_values.specs.Row.{has_voted, is_marked}
-use Rattle.dtx_model.specs.Words.{has, each, latest, all_of, or_else}
+use Rattle.dtx_model.specs.Words.{has, each, latest, all_of, or_else, holds}
 use Rattle.dtx_model.specs.Entries.{client_told_of, clone_of, decision_of, handed_of, is_any_owner, is_asked, is_asked_alone, is_commit, is_decision, is_hand, is_lost, is_request_of, is_sealed, is_vote}
 use Rattle.dtx_model.specs.Observed.{observe, rows}
 use Rattle.dtx_model.specs.Outcome.{can_own, durables, enlisted, is_complete}
@@ -22,7 +22,6 @@ use Rattle.dtx_model.specs.Plans.{owner_reply, vote_reply}
 use Rattle.dtx_model.specs.Caused.{plans_of}
 use Rattle.dtx_model.proofs.Narrow.{act_by, act_entries, due_note, is_to_tell, open_note}
 use Rattle.dtx_model.specs.History.{is_silent, is_silent_to_promote, is_still_lost, is_waiting, loss_of}
-use Rattle.dtx_model.specs.Wires.{holds}
 use Rattle.std.proofs.lemmas.Bool.{or_left}
 use Rattle.dtx_model.proofs.Bools.{and_both, and_left, and_right, not_both, or_case, or_first, or_right, or_second}
 use Rattle.outcome_law.proofs.Scans.{each-at, each_more, has_less}

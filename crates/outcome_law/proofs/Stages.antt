@@ -19,7 +19,7 @@ use Rattle.dtx_model.specs.Coordinated.{abort_if, aborts, begin_if, coordinate, 
 use Rattle.dtx_model.proofs.Bools.{and_left, and_right, or_case, or_second, or_right}
 use Rattle.outcome_law.proofs.Scans.{has_less, has_more}
 use Rattle.outcome_law.proofs.Messages.{BEGIN, BEGUN}
-use Rattle.outcome_law.proofs.Fine.{IsFine, is_restart}
+use Rattle.outcome_law.proofs.Fine.{IsFine}
 use Rattle.outcome_law.proofs.Rest.{is_sound, is_ordered, is_begun}
 use Rattle.dtx_model.proofs.Connections.{same_is}
 use Rattle.outcome_law.proofs.Openings.{once_sent, opening_first}
@@ -27,6 +27,7 @@ use Rattle.outcome_law.proofs.Unblamed.{fine_before}
 use Rattle.outcome_law.proofs.CoreKnown.{is_work}
 use Rattle.outcome_law.proofs.CoreStages.{open_before, open_unrecorded, restart_open}
 use Rattle.outcome_law.proofs.Crossed.{is_sent_on, is_got_on, got_sent}
+use Rattle.dtx_model.specs.AtLog.{is_restart}
 
 -- where something that passes p stands, Q holds, if by the row it holds before each such entry, and stays
 pub earlier : (row : List Entry → Entry → Bool) (p : Entry → Bool) (Q : List Entry → Bool) → ((x : Entry) (h : List Entry) → Q h ≡ true → Q (x ∷ h) ≡ true)

@@ -27,11 +27,12 @@ use Rattle.dtx_model.specs.Facts.{facts_if, has_facts}
 use Rattle.dtx_model.specs.World.{World, answer_at, core, facts_at, half}
 use Rattle.dtx_model.specs.Steps.{LogAnswer, Step, Calls, Replies, Acts, Coordinates, Delivers, Stops, Restarts, StoppedNow, StoppedBefore, Done, Full, StepName, ReplyOf, LocalAct, CoordinatorAct, Delivery, block_at, coordinates, delivered, ended_at}
 use Rattle.dtx_model.specs.Caused.{IsNamed, is_begin_sent}
-use Rattle.dtx_model.specs.AtLog.{is_restart, is_stop}
+use Rattle.dtx_model.specs.AtLog.{is_restart}
 use Rattle.dtx_model.specs.Replay.{is_in_replay}
 use Rattle.dtx_model.proofs.Blocks.{of_abort_sends, of_arrived, of_called, of_commit_sends, of_core_down, of_core_got, of_local_down, of_reply, of_whole_act}
 use Rattle.dtx_model.proofs.Bools.{and_left, and_right}
 use Rattle.dtx_model.proofs.Writes.{ByAct, ByCall, ByMessage, ByReply, Each, IsClosed, OfOutcomes, OfWritten, Source, e_cons, e_if, e_one, each_closed, writes}
+use Rattle.dtx_model.specs.Tied.{is_stop}
 
 -- no stop and no restart
 abbrev pub is_steady : Entry → Bool

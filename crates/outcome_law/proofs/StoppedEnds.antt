@@ -12,12 +12,12 @@ use Rattle.dtx_values.specs.declared.message.Dir.TheVariants.{Up, Down}
 use Rattle.dtx_values.specs.declared.message.Message.TheVariants.{BeginBegin}
 use Rattle.dtx_values.specs.Ends.{same_connection, same_direction}
 use Rattle.dtx_values.specs.Lines.{has_line}
-use Rattle.dtx_model.specs.Words.{has}
+use Rattle.dtx_model.specs.Words.{has, holds}
 use Rattle.dtx_model.specs.Caused.{is_begin_sent}
 use Rattle.dtx_model.specs.Observed.{ends_of}
 use Rattle.dtx_model.specs.Steps.{deliveries_on}
 use Rattle.dtx_model.specs.Tied.{is_stop}
-use Rattle.dtx_model.specs.Wires.{ended_after, ends, holds, is_ended, is_lost_wire, is_stopped, loses, lost_after, lost_since, opens}
+use Rattle.dtx_model.specs.Wires.{ended_after, ends, is_ended, is_lost_wire, is_stopped, loses, lost_after, lost_since, opens}
 use Rattle.dtx_model.proofs.Bools.{and_left, and_right, not_both, not_true, or_case, or_right}
 use Rattle.outcome_law.proofs.Scans.{has_more}
 use Rattle.outcome_law.proofs.Keeping.{Keeps, keeps_before, newest}

@@ -24,8 +24,8 @@ use Rattle.dtx_model.specs.declared.branch.Branch.{Branch}
 use Rattle.dtx_model.specs.declared.listener.Listener.{Listener}
 use Rattle.dtx_model.specs.Words.{always, each, has, latest, onto}
 use Rattle.dtx_model.specs.Entries.{decision_of, is_decision, is_promoted}
-use Rattle.dtx_model.specs.Observed.{handover, is_branch, observe, track}
-use Rattle.dtx_model.specs.Promotes.{identifier_of, is_enlisted_got, is_failed, is_promoting, is_under_way}
+use Rattle.dtx_model.specs.Observed.{handover, is_branch, is_promotion_failed, observe, track}
+use Rattle.dtx_model.specs.Promotes.{identifier_of, is_enlisted_got, is_promoting, is_under_way}
 use Rattle.dtx_model.specs.Wires.{in_transit, opens}
 use Rattle.dtx_model.specs.declared.waiting.Wanted.TheVariants.{Identifier, Place}
 use Rattle.dtx_model.specs.Waiting.{Waiter, is_place_of, waiting}
@@ -138,7 +138,7 @@ enlisted_then n h false false true xs ys e f g k = k
 
 -- where it is promoted no promotion is under way
 not_promoting : (h : List Entry) → has is_promoted h ≡ true → sees_promoting (observe h) ≡ false
-not_promoting h p = way_seen h ∙ step (has is_promoting h) (has is_promoted h) (has is_failed h) p
+not_promoting h p = way_seen h ∙ step (has is_promoting h) (has is_promoted h) (has is_promotion_failed h) p
   where
     step : (a b c : Bool) → b ≡ true → (a && not b && not c) ≡ false
     step true true c e = refl

@@ -31,7 +31,7 @@ use Rattle.dtx_model.specs.Replies.{due_of, may_still_vote, names, owes_promotio
 use Rattle.dtx_model.specs.Steps.{Step}
 use Rattle.dtx_model.specs.World.{World}
 use Rattle.dtx_model.specs.Grammar.{OfEnlistment, are_named_well}
-use Rattle.dtx_model.specs.Caused.{AreMadeOnce, Caused, IsCallOf, Ran, Settled, entered_in, is_promoting_entry, plans_of}
+use Rattle.dtx_model.specs.Caused.{AreMadeOnce, Caused, IsCallOf, Ran, Settled, entered_in, plans_of}
 use Rattle.dtx_model.specs.History.{IsToldOrWaits, is_silent, is_silent_to_promote, is_still_lost, is_waiting}
 use Rattle.dtx_model.proofs.Bools.{and_both, and_left, and_right, not_both, not_false, not_true, or_first, or_right, or_second}
 use Rattle.dtx_model.proofs.Local.{free-local}
@@ -57,7 +57,7 @@ use Rattle.outcome_law.proofs.Meeting.{ran_paid}
 use Rattle.outcome_law.proofs.OnTheWay.{is_on_its_way, is_unplaced}
 use Rattle.outcome_law.proofs.Wired.{IsWired, unstopped}
 use Rattle.outcome_law.proofs.Joined.{IsJoined}
-use Rattle.outcome_law.proofs.Fine.{IsFine, is_restart}
+use Rattle.outcome_law.proofs.Fine.{IsFine}
 use Rattle.outcome_law.proofs.Rest.{IsAtRest, IsQuiet, IsUnmoved}
 use Rattle.outcome_law.proofs.Climbed.{told_at_rest}
 use Rattle.outcome_law.proofs.Owed.{AreHeeded, ArePromised, IsHeeded, IsUnowed, all_answered, all_voted, commit_requested, heeded_promised, promotion_replied}
@@ -81,6 +81,7 @@ use Rattle.outcome_law.proofs.Foregoing.{commit_promoted, vote_cast, vote_stood}
 use Rattle.outcome_law.proofs.UndecidedFine.{IsSettling, undecided_fine, undecided_joined}
 use Rattle.outcome_law.proofs.LostVoters.{AreVoters, gone_cast, gone_was_lost, lost_is_gone, ran_voters}
 use Rattle.dtx_model.specs.Half.{is_gone}
+use Rattle.dtx_model.specs.AtLog.{is_restart}
 
 -- no restart comes where the coordinator didn't stop
 unrestarted : (h : List Entry) → Keeps h → has is_stop h ≡ false → has is_restart h ≡ false
@@ -328,9 +329,9 @@ none_silent s t h r quiet = λ i x e there.
 
 -- Where the coordinator didn't stop: a settled history in which the commit was asked for, promoted or not. Where it waits for nothing, it is at rest; so its client was told.
 pub told_promoted : (s : List Line) (k t : ℕ) (h : List Entry) → are_named_well s ≡ true → Caused s k t h → has is_stop h ≡ false → IsToldOrWaits s h
-told_promoted s k t h named c running = λ settled asked. by settled asked (has is_promoting_entry h) refl
+told_promoted s k t h named c running = λ settled asked. by settled asked (has is_promoting h) refl
   where
-    same_entry : (x : Entry) → is_promoting_entry x ≡ true → is_promoting x ≡ true
+    same_entry : (x : Entry) → is_promoting x ≡ true → is_promoting x ≡ true
     same_entry (Promoting c) k = k
     same_entry _ k = absurd cc
 
@@ -344,10 +345,10 @@ told_promoted s k t h named c running = λ settled asked. by settled asked (has 
         let silent = has (λ x. is_silent (plans_of s x.0.value) h x.0.value) (enlisted h) in
         at_rest s t h r began asked (open_blocks h r.stands.keeps ∙ or_first blocked silent idles) (none_silent s t h r (or_second blocked silent idles))
 
-    by : Settled s h → has is_commit h ≡ true → (b : Bool) → has is_promoting_entry h ≡ b → (is_some (latest client_told_of h) || is_waiting s h) ≡ true
+    by : Settled s h → has is_commit h ≡ true → (b : Bool) → has is_promoting h ≡ b → (is_some (latest client_told_of h) || is_waiting s h) ≡ true
     by settled asked true q =
         waits (is_waiting s h) refl
-        (λ n. told_at_rest (entered_in s h) h (rests (settled_run s k t h named c running settled) (has_more is_promoting_entry is_promoting same_entry h q) asked n))
+        (λ n. told_at_rest (entered_in s h) h (rests (settled_run s k t h named c running settled) (has_more is_promoting is_promoting same_entry h q) asked n))
     by settled asked false q =
         let kept = script_kept s t h named c.freely (ap not q) in
         let home = free-local (IsCallOf s t) t h c.freely (ap not q) in

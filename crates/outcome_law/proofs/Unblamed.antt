@@ -24,14 +24,14 @@ use Rattle.dtx_values.specs.Class.{is_promotable}
 use Rattle.dtx_values.specs.Ends.{same_connection, same_direction}
 use Rattle.dtx_values.specs.Lines.{has_line}
 use Rattle.dtx_values.specs.Vote.{is_no, voted_well}
-use Rattle.dtx_model.specs.Words.{has, each, ever, always, latest, all_of}
+use Rattle.dtx_model.specs.Words.{has, each, ever, always, latest, all_of, holds}
 use Rattle.dtx_model.specs.Entries.{decision_of, handed_of, is_decision, is_owner, is_yes, same_outcome}
 use Rattle.dtx_model.specs.Caused.{is_as_planned, is_outcome_planned, is_promotion_planned, is_request_planned, is_vote_planned}
 use Rattle.dtx_model.specs.History.{is_asked_in_time, is_committed, is_ending, is_loss, is_willing, nobody}
 use Rattle.dtx_model.specs.Learned.{coordinator_aborted, is_abort, is_first_abort}
 use Rattle.dtx_model.specs.Outcome.{can_own, coordinator_doubt, doubt, enlisted, is_begin_end, is_lost_owner, is_outcome_got, is_veto, is_veto_end, is_voter_end, owner_doubt}
-use Rattle.dtx_model.specs.Promotes.{ends_refused, ends_told, is_failed, is_refusal}
-use Rattle.dtx_model.specs.Wires.{WireRun, holds, is_next, is_stopped, in_transit}
+use Rattle.dtx_model.specs.Promotes.{ends_refused, ends_told, is_refusal}
+use Rattle.dtx_model.specs.Wires.{WireRun, is_next, is_stopped, in_transit}
 use Rattle.dtx_model.proofs.Bools.{and_both, and_left, and_never, and_right, or_case, or_false, or_first, or_second, not_both, not_false, not_true}
 use Rattle.dtx_model.proofs.Connections.{same_is}
 use Rattle.outcome_law.proofs.Rule.{is_decided}
@@ -39,8 +39,10 @@ use Rattle.outcome_law.proofs.Going.{is_no_vote}
 use Rattle.outcome_law.proofs.Scans.{has_more, has_less}
 use Rattle.outcome_law.proofs.Settled.{asked_well}
 use Rattle.outcome_law.proofs.Wired.{IsWired, is_any_end, is_end_on, newest, unlost_unended, unstopped, wired_before}
-use Rattle.outcome_law.proofs.Fine.{IsFine, any_class, blames, ends_aborted, ends_requested, has_cause, is_bad, is_bad_message, is_bad_outcome, is_caused, is_made, is_origin, is_pair, is_restart, is_spared, is_spared_down}
+use Rattle.outcome_law.proofs.Fine.{IsFine, any_class, blames, ends_aborted, ends_requested, has_cause, is_bad, is_bad_message, is_bad_outcome, is_caused, is_made, is_origin, is_pair, is_spared, is_spared_down}
 use Rattle.outcome_law.proofs.Crossed.{is_sent_on, got_sent}
+use Rattle.dtx_model.specs.AtLog.{is_restart}
+use Rattle.dtx_model.specs.Observed.{is_promotion_failed}
 
 -- While the local side hasn't said yes, the end of b or of v is a veto there: where each end there is spared, none came.
 early_veto : (c : Conn) (h : List Entry) → is_pair c ≡ true → has is_yes h ≡ false → is_veto_end h c Down ≡ true
@@ -265,7 +267,7 @@ good_told InDoubt h f r = decided_well InDoubt h f.unbad (either (is_decided InD
     either false k = absurd cc
 
 -- the newest entry isn't bad, where it doesn't end the transaction of itself, and is no decision and no failure of the promotion
-good_open : (x : Entry) (h : List Entry) → IsFine h → WireRun (x ∷ h) → is_origin x ≡ false → is_decision x ≡ false → is_failed x ≡ false → is_caused h x ≡ true → is_bad x ≡ false
+good_open : (x : Entry) (h : List Entry) → IsFine h → WireRun (x ∷ h) → is_origin x ≡ false → is_decision x ≡ false → is_promotion_failed x ≡ false → is_caused h x ≡ true → is_bad x ≡ false
 good_open RollbackAsked h f run n d u r = absurd cc
 good_open TimedOut h f run n d u r = absurd cc
 good_open LogFull h f run n d u r = absurd cc
@@ -302,18 +304,18 @@ unblamed (x ∷ h) w a n l r =
     (and_left (is_caused h x) (always is_caused h) r)) past
 
 -- nor where no end is a veto, nothing is decided, the promotion didn't fail, and nothing ends the transaction of itself, whatever was lost
-pub open_unblamed : (h : List Entry) → IsWired h → always is_spared h ≡ true → always is_asked_in_time h ≡ true → has is_origin h ≡ false → has is_decision h ≡ false → has is_failed h ≡ false
+pub open_unblamed : (h : List Entry) → IsWired h → always is_spared h ≡ true → always is_asked_in_time h ≡ true → has is_origin h ≡ false → has is_decision h ≡ false → has is_promotion_failed h ≡ false
     → always is_caused h ≡ true → has is_bad h ≡ false
 open_unblamed [] w s a n d u r = refl
 open_unblamed (x ∷ h) w s a n d u r =
     let in_time = and_right (is_asked_in_time h x) (always is_asked_in_time h) a in
     let before = wired_before x h w in
     let spared = and_right (is_spared h x) (always is_spared h) s in
-    let past = open_unblamed h before spared in_time (or_second (is_origin x) (has is_origin h) n) (or_second (is_decision x) (has is_decision h) d) (or_second (is_failed x) (has is_failed h) u)
+    let past = open_unblamed h before spared in_time (or_second (is_origin x) (has is_origin h) n) (or_second (is_decision x) (has is_decision h) d) (or_second (is_promotion_failed x) (has is_promotion_failed h) u)
     (and_right (is_caused h x) (always is_caused h) r) in
     or_false (is_bad x) (has is_bad h)
     (good_open x h (record { wired = before; in_time = in_time; unbad = past; spared = spared }) w.run (or_first (is_origin x) (has is_origin h) n) (or_first (is_decision x) (has is_decision h) d)
-    (or_first (is_failed x) (has is_failed h) u) (and_left (is_caused h x) (always is_caused h) r)) past
+    (or_first (is_promotion_failed x) (has is_promotion_failed h) u) (and_left (is_caused h x) (always is_caused h) r)) past
 
 -- an enlistment of a number is willing, with a class that passes
 abbrev all_willing : (ℕ → Plan) → List Entry → Bool

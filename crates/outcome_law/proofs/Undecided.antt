@@ -14,8 +14,8 @@ use Rattle.dtx_values.specs.Owners.{is_evident}
 use Rattle.dtx_model.specs.Words.{each, has, latest}
 use Rattle.dtx_model.specs.Entries.{handed_of, is_any_hand, is_commit, is_decision, is_good_vote, is_hand, is_owner, is_promoted, is_record, is_sealed, is_vote, is_yes}
 use Rattle.dtx_model.specs.Outcome.{by_log, by_owner, by_seal, can_own, durables, enlisted, evidence, is_empty, is_outcome_got, owner_committed, ready, volatiles, voters}
-use Rattle.dtx_model.specs.Observed.{observe, rows}
-use Rattle.dtx_model.specs.Promotes.{is_failed, is_promoting, is_under_way}
+use Rattle.dtx_model.specs.Observed.{is_promotion_failed, observe, rows}
+use Rattle.dtx_model.specs.Promotes.{is_promoting, is_under_way}
 use Rattle.dtx_model.specs.Half.{is_handed}
 use Rattle.dtx_model.specs.Tied.{is_tied}
 use Rattle.dtx_model.specs.Wires.{MayCross}
@@ -44,7 +44,7 @@ all_willing h = each (is_willing h) (enlisted h)
 
 abbrev pub is_going : List Entry → Bool
 is_going h =
-    has is_decision h || (all_willing h && not (has is_answer h) && (not (has is_commit h) || all_closed h) && (not (has is_failed h) && not (has is_outcome_got h)))
+    has is_decision h || (all_willing h && not (has is_answer h) && (not (has is_commit h) || all_closed h) && (not (has is_promotion_failed h) && not (has is_outcome_got h)))
 
 -- what holds at the end of each block
 pub record Stands (h : List Entry) : Type 0 where
@@ -64,27 +64,27 @@ pub record IsOpen (h : List Entry) : Type 0 where
   pub willing : all_willing h ≡ true
   pub unanswered : has is_answer h ≡ false
   pub closed : (not (has is_commit h) || all_closed h) ≡ true
-  pub unfailed : has is_failed h ≡ false
+  pub unfailed : has is_promotion_failed h ≡ false
   pub unheard : has is_outcome_got h ≡ false
 
 pub goes_on : (h : List Entry) → Stands h → has is_decision h ≡ false → IsOpen h
 goes_on h k d = step (has is_decision h) d k.going
   where
-    step : (b : Bool) → b ≡ false → (b || (all_willing h && not (has is_answer h) && (not (has is_commit h) || all_closed h) && (not (has is_failed h) && not (has is_outcome_got h)))) ≡ true → IsOpen h
+    step : (b : Bool) → b ≡ false → (b || (all_willing h && not (has is_answer h) && (not (has is_commit h) || all_closed h) && (not (has is_promotion_failed h) && not (has is_outcome_got h)))) ≡ true → IsOpen h
     step true e g = absurd cc
     step false e g =
-        let first = and_left (all_willing h && not (has is_answer h) && (not (has is_commit h) || all_closed h)) (not (has is_failed h) && not (has is_outcome_got h)) g in
-        let last = and_right (all_willing h && not (has is_answer h) && (not (has is_commit h) || all_closed h)) (not (has is_failed h) && not (has is_outcome_got h)) g in
+        let first = and_left (all_willing h && not (has is_answer h) && (not (has is_commit h) || all_closed h)) (not (has is_promotion_failed h) && not (has is_outcome_got h)) g in
+        let last = and_right (all_willing h && not (has is_answer h) && (not (has is_commit h) || all_closed h)) (not (has is_promotion_failed h) && not (has is_outcome_got h)) g in
         record {
           willing = first_of_three (all_willing h) (not (has is_answer h)) (not (has is_commit h) || all_closed h) first;
           unanswered = not_true (has is_answer h) (second_of_three (all_willing h) (not (has is_answer h)) (not (has is_commit h) || all_closed h) first);
           closed = and_right (all_willing h && not (has is_answer h)) (not (has is_commit h) || all_closed h) first;
-          unfailed = not_true (has is_failed h) (and_left (not (has is_failed h)) (not (has is_outcome_got h)) last);
-          unheard = not_true (has is_outcome_got h) (and_right (not (has is_failed h)) (not (has is_outcome_got h)) last);
+          unfailed = not_true (has is_promotion_failed h) (and_left (not (has is_promotion_failed h)) (not (has is_outcome_got h)) last);
+          unheard = not_true (has is_outcome_got h) (and_right (not (has is_promotion_failed h)) (not (has is_outcome_got h)) last);
         }
 
 -- A promotion is under way where one began, and it neither succeeded nor failed.
-pub promotes_on : (h : List Entry) → has is_promoting h ≡ true → has is_promoted h ≡ false → has is_failed h ≡ false → is_under_way h ≡ true
+pub promotes_on : (h : List Entry) → has is_promoting h ≡ true → has is_promoted h ≡ false → has is_promotion_failed h ≡ false → is_under_way h ≡ true
 promotes_on h p q f = rw (p, q, f) refl
 
 -- where nothing is decided and the local side sees no promotion, none began
@@ -98,7 +98,7 @@ none_began h k d n =
 -- what is under way isn't sealed
 pub way_unsealed : (h : List Entry) → Keeps h → is_under_way h ≡ true → has is_sealed h ≡ false
 way_unsealed h k w =
-    let both = and_left (has is_promoting h && not (has is_promoted h)) (not (has is_failed h)) w in
+    let both = and_left (has is_promoting h && not (has is_promoted h)) (not (has is_promotion_failed h)) w in
     false_from_ne_true (has is_sealed h) (λ s. not_both (has is_promoted h) (promoted_if_sealed h k s (and_left (has is_promoting h) (not (has is_promoted h)) both))
     (not_true (has is_promoted h) (and_right (has is_promoting h) (not (has is_promoted h)) both)))
 

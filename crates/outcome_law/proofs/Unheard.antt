@@ -7,12 +7,12 @@ use Rattle.dtx_values.specs.declared.entry.Entry.{Entry}
 use Rattle.dtx_values.specs.declared.entry.Entry.TheVariants.{Decided, Freed, Logged, OwnerAnswered, Restarted, Stopped, Told}
 use Rattle.dtx_values.specs.declared.number.EnlNo.{EnlNo}
 use Rattle.dtx_values.specs.declared.words.Outcome.TheVariants.{Committed, Aborted}
-use Rattle.dtx_model.specs.Words.{all_of, always, each, ever, has, latest}
+use Rattle.dtx_model.specs.Words.{all_of, always, each, ever, has, holds, latest}
 use Rattle.dtx_model.specs.Entries.{decision_of, is_commit_got, is_final, is_good_vote, is_record, is_vote, is_yes, is_yes_got}
 use Rattle.dtx_model.specs.Outcome.{evidence}
 use Rattle.dtx_model.specs.Learned.{coordinator_aborted, is_first_abort}
 use Rattle.dtx_model.specs.Promotes.{is_promoting}
-use Rattle.dtx_model.specs.Tied.{before_first, before_first_stop, can_log, enlist_got, is_logged, is_marked, is_ready_got, is_stop, is_unmarked, mark_of}
+use Rattle.dtx_model.specs.Tied.{before_first, before_first_stop, can_log, enlist_got, is_logged, is_ready_got, is_stop, is_unmarked, mark_of}
 use Rattle.dtx_model.specs.AtLog.{is_restart}
 use Rattle.outcome_law.specs.Appended.{stopped_at_append}
 use Rattle.outcome_law.specs.Stopped.{is_outcome_said, is_record_unknown, is_outcome_withheld, restarts_without_evidence}
@@ -36,7 +36,7 @@ can_unlogged h t =
     not_true (has is_logged h) (and_right before_stop (not (has is_logged h)) (and_left (before_stop && not (has is_logged h)) (not (has is_stop h)) t))
 
 -- While nothing stopped and nothing was logged, nothing says whether there is a record.
-marked_apart : (o : Option Bool) → is_marked o ≡ true → is_unmarked o ≡ true → ⊥
+marked_apart : (o : Option Bool) → holds o ≡ true → is_unmarked o ≡ true → ⊥
 marked_apart (Some b) m u = absurd cc
 marked_apart None m u = absurd cc
 

@@ -12,7 +12,7 @@ use Rattle.dtx_values.specs.declared.words.Class.{Class}
 use Rattle.dtx_model.specs.declared.waiting.Wanted.TheVariants.{Identifier, Place}
 use Rattle.dtx_model.specs.Words.{each, has}
 use Rattle.dtx_model.specs.Entries.{is_promoted}
-use Rattle.dtx_model.specs.Promotes.{is_created_got, is_failed, is_promoting, is_under_way}
+use Rattle.dtx_model.specs.Promotes.{is_created_got, is_promoting, is_under_way}
 use Rattle.dtx_model.specs.Wires.{opens}
 use Rattle.dtx_model.specs.Waiting.{Waiter, is_place_of, waiting}
 use Rattle.dtx_model.specs.World.{World}
@@ -33,6 +33,7 @@ use Rattle.outcome_law.proofs.Climbed.{handover_stands}
 use Rattle.outcome_law.proofs.Handing.{IsHanding, ran_after, ran_handing}
 use Rattle.outcome_law.proofs.OnlyHanded.{handed_lasting, lasting_firm, only_handed}
 use Rattle.outcome_law.proofs.WaitingApart.{ran_apart}
+use Rattle.dtx_model.specs.Observed.{is_promotion_failed}
 
 -- until the promotion succeeds the place of each that waits is free: no ENLIST was sent but that of the handover, which stands
 place_free : (h : List Entry) → IsHanding h → has is_promoted h ≡ false → (v : Waiter) → is_unplaced h v ≡ true → is_unsent h v ≡ true
@@ -59,9 +60,9 @@ ran_waited G t ms w once r k =
     let handing = ran_handing G t ms w r k in
     let apart = ran_apart G t ms w once r in
     let unplaced = all_unplaced G w.calls h once made in
-    let started : is_under_way h ≡ true → has is_promoting h ≡ true = λ y. first_of_three (has is_promoting h) (not (has is_promoted h)) (not (has is_failed h)) y in
+    let started : is_under_way h ≡ true → has is_promoting h ≡ true = λ y. first_of_three (has is_promoting h) (not (has is_promoted h)) (not (has is_promotion_failed h)) y in
     let going : is_under_way h ≡ true → has is_promoted h ≡ false =
-    λ y. not_true (has is_promoted h) (second_of_three (has is_promoting h) (not (has is_promoted h)) (not (has is_failed h)) y) in
+    λ y. not_true (has is_promoted h) (second_of_three (has is_promoting h) (not (has is_promoted h)) (not (has is_promotion_failed h)) y) in
     record {
       handed = λ y. only_handed h k handing (started y) (going y);
       lasting = λ e q. lasting_firm e.value h k (handed_lasting e h k q);

@@ -44,7 +44,7 @@ use Rattle.dtx_model.specs.Arrivals.{arrived, created, enlisted_at, hand_over, l
 use Rattle.dtx_model.specs.Acts.{act_entries}
 use Rattle.dtx_model.specs.Replies.{reply_entries}
 use Rattle.dtx_model.specs.Answers.{await_answer, durable_answer, marshal_answer, has_promotion, promotable_answer, volatile_answer, if_begun, is_crowded, is_full, local_answer, status_answer, unless_ended, unless_late, unless_over}
-use Rattle.dtx_model.specs.Facts.{begin_promotion, durable_facts, facts_if, has_facts}
+use Rattle.dtx_model.specs.Facts.{begin_promotion, durable_facts, facts_if, has_facts, is_waiting_answer}
 use Rattle.dtx_model.specs.World.{World, answer_at, branches_by, core, facts_at, half, is_connected, is_finished_there, is_unfinished_link, reenlist_by, unless_connected, unless_stopped}
 use Rattle.dtx_model.specs.Steps.{Step, Calls, Replies, Acts, Coordinates, Delivers, Stops, Restarts, after, block_at, coordinates, delivered, ended_at, got_by, restarted}
 use Rattle.dtx_model.specs.Caused.{MayCome, Ran}
@@ -153,11 +153,6 @@ delivered_keeps : (t : ℕ) (w : World) (c : Conn) (d : Dir) (ms : List Message)
 delivered_keeps t w c d [] k = still_keeps w.calls w.past (Ended c d ∷ ended_at w c d) (all_still (plain_ended_at w c d)) k
 delivered_keeps t w c Up (m ∷ ms) k = still_keeps w.calls w.past (Got c Up m ∷ got_by t w c Up m) (all_still (plain_core_got (identifier_of t) (core w) c m)) k
 delivered_keeps t w c Down (m ∷ ms) k = got_keeps t w c m k
-
--- The calls: which wait.
-abbrev pub is_waiting_answer : Answer → Bool
-is_waiting_answer Wait = true
-is_waiting_answer _ = false
 
 abbrev pub is_durable_call : Call → Bool
 is_durable_call (Durable u e r s) = true

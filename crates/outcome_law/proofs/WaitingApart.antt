@@ -38,7 +38,7 @@ use Rattle.dtx_model.specs.Half.{Half, by_manager, enlist_sent, given, info, is_
 use Rattle.dtx_model.specs.Arrivals.{arrived, created, enlisted_at, hand_over, local_got, place_given}
 use Rattle.dtx_model.specs.Acts.{act_entries, commit_sent}
 use Rattle.dtx_model.specs.Replies.{reply_entries}
-use Rattle.dtx_model.specs.Facts.{begin_promotion, durable_facts, facts_if, has_facts}
+use Rattle.dtx_model.specs.Facts.{begin_promotion, durable_facts, facts_if, has_facts, is_waiting_answer}
 use Rattle.dtx_model.specs.World.{World, answer_at, core, facts_at, half}
 use Rattle.dtx_model.specs.Steps.{Step, Calls, Replies, Acts, Coordinates, Delivers, Stops, Restarts, after, block_at, coordinates, delivered, ended_at, got_by, restarted}
 use Rattle.dtx_model.specs.Caused.{AreMadeOnce, MayCome, Ran}
@@ -51,7 +51,7 @@ use Rattle.outcome_law.proofs.Handover.{are_apart, same_place}
 use Rattle.outcome_law.proofs.CalmBlocks.{Calm, Seals, act_kind, calm_arrived, calm_called, calm_commit_sent, calm_coordinates, calm_core_got, calm_ended_at, calm_reply, calm_restarted, is_slow}
 use Rattle.outcome_law.proofs.CoreStages.{kept_some}
 use Rattle.outcome_law.proofs.Upward.{none_waits}
-use Rattle.outcome_law.proofs.Waiters.{is_waiting_answer, own_call, sealed_gives}
+use Rattle.outcome_law.proofs.Waiters.{own_call, sealed_gives}
 use Rattle.outcome_law.proofs.Makers.{IsWaiter, lasting_makes, makes_enlistment, makes_name, place_made, ran_made}
 
 -- no two calls wait for one place, and after the seal none waits

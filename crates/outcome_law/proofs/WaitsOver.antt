@@ -33,7 +33,7 @@ use Rattle.dtx_model.specs.Half.{Half, enlist_sent, is_promoting, sees}
 use Rattle.dtx_model.specs.Arrivals.{created, enlisted_at, local_got}
 use Rattle.dtx_model.specs.Acts.{act_entries}
 use Rattle.dtx_model.specs.Replies.{reply_entries}
-use Rattle.dtx_model.specs.Facts.{begin_promotion, durable_facts, facts_if, has_facts}
+use Rattle.dtx_model.specs.Facts.{begin_promotion, durable_facts, facts_if, has_facts, is_waiting_answer}
 use Rattle.dtx_model.specs.World.{World, answer_at, core, facts_at, half}
 use Rattle.dtx_model.specs.Steps.{Step, Calls, Replies, Acts, Coordinates, Delivers, Stops, Restarts, after, block_at, coordinates, delivered, restarted}
 use Rattle.dtx_model.specs.Caused.{MayCome, Ran}
@@ -48,7 +48,7 @@ use Rattle.outcome_law.proofs.OnTheWay.{each_but}
 use Rattle.outcome_law.proofs.PlainBlocks.{Plain, is_plain, plain_act, plain_coordinates, plain_reply, plain_restarted}
 use Rattle.outcome_law.proofs.DecidingBlocks.{are_answered, kept_act, kept_arrived, kept_called, kept_coordinates, kept_core_got, kept_ended_at, kept_reply, kept_restarted}
 use Rattle.dtx_model.proofs.Writes.{may_begin}
-use Rattle.outcome_law.proofs.Waiters.{decided_gives, is_waiting_answer, other_gives, waits_as}
+use Rattle.outcome_law.proofs.Waiters.{decided_gives, other_gives, waits_as}
 use Rattle.outcome_law.proofs.WaitingApart.{PassesGiven, created_pass, enlisted_pass, idle_call, idle_delivered, is_idle}
 
 -- once it is decided no call waits

@@ -9,11 +9,11 @@ use Rattle.dtx_values.specs.declared.message.Dir.{Dir}
 use Rattle.dtx_values.specs.declared.message.Dir.TheVariants.{Up}
 use Rattle.dtx_values.specs.Ends.{same_connection, same_direction}
 use Rattle.dtx_values.specs.Lines.{has_line, is_opening}
-use Rattle.dtx_model.specs.Words.{has, always}
+use Rattle.dtx_model.specs.Words.{has, always, holds}
 use Rattle.dtx_model.specs.History.{is_loss}
 use Rattle.dtx_model.specs.Outcome.{is_empty}
 use Rattle.dtx_model.specs.Tied.{is_stop}
-use Rattle.dtx_model.specs.Wires.{MayCross, WireRun, holds, is_ended, is_lost_wire, is_stopped, in_transit, loses, lost_after, lost_since, opens}
+use Rattle.dtx_model.specs.Wires.{MayCross, WireRun, is_ended, is_lost_wire, is_stopped, in_transit, loses, lost_after, lost_since, opens}
 use Rattle.dtx_model.proofs.Bools.{and_left, and_right, or_false, or_first, or_second, not_both}
 use Rattle.dtx_model.proofs.Connections.{same_is}
 use Rattle.outcome_law.proofs.Severed.{is_severing}

@@ -26,9 +26,9 @@ use Rattle.dtx_values.specs.Row.{is_of}
 use Rattle.dtx_values.specs.Vote.{is_good, is_no}
 use Rattle.dtx_model.specs.Words.{all_of, each, has, latest, onto}
 use Rattle.dtx_model.specs.Entries.{decision_of, handed_of, is_any_hand, is_asked, is_decision, is_good_vote, is_hand, is_lost, is_owner, is_promoted, is_sealed, is_vote, is_yes}
-use Rattle.dtx_model.specs.Observed.{is_ask_promote, is_ask_single, is_promote_reply, is_request, observe, rows, track}
+use Rattle.dtx_model.specs.Observed.{is_ask_promote, is_ask_single, is_promote_reply, is_promotion_failed, is_request, observe, rows, track}
 use Rattle.dtx_model.specs.Outcome.{doubt, enlisted, evidence, owner_doubt}
-use Rattle.dtx_model.specs.Promotes.{is_begun_got, is_failed, is_promoting, is_under_way}
+use Rattle.dtx_model.specs.Promotes.{is_begun_got, is_promoting, is_under_way}
 use Rattle.dtx_model.specs.Wires.{opens}
 use Rattle.dtx_model.specs.Waiting.{Waiter, managed, waiting}
 use Rattle.dtx_model.specs.Half.{decide, fails_if, is_handed, sees, to_up, veto_if, is_promoting as sees_promoting}
@@ -188,7 +188,7 @@ may_promote h e ok n k a w =
     }
 
 way_promoting : (h : List Entry) → is_under_way h ≡ true → has is_promoting h ≡ true
-way_promoting h w = and_left (has is_promoting h) (not (has is_promoted h)) (and_left (has is_promoting h && not (has is_promoted h)) (not (has is_failed h)) w)
+way_promoting h w = and_left (has is_promoting h) (not (has is_promoted h)) (and_left (has is_promoting h && not (has is_promoted h)) (not (has is_promotion_failed h)) w)
 
 promote_reply : (w : World) (e : EnlNo) (ok : Bool) → Stands w.past → MayPromote w.past e → Stands (onto w.past (promote_entries (half w) e ok))
 unfolding observe track

@@ -12,10 +12,10 @@ use Rattle.dtx_values.specs.declared.number.EnlNo.{EnlNo}
 use Rattle.dtx_values.specs.declared.number.RmNo.{RmNo}
 use Rattle.dtx_values.specs.declared.words.Outcome.TheVariants.{Aborted}
 use Rattle.dtx_model.specs.declared.branch.Branch.{Branch}
-use Rattle.dtx_model.specs.Observed.{branch_aborted, branch_acked, branch_due, branch_enlisted, branch_number, branches_after, is_branch, with_branch}
+use Rattle.dtx_model.specs.Observed.{branch_aborted, branch_acked, branch_due, branch_enlisted, branch_number, branches_after, is_branch, is_done_branch, with_branch}
 use Rattle.dtx_model.specs.Words.{has}
 use Rattle.dtx_model.proofs.Bools.{and_left, and_never, not_true}
-use Rattle.reenlist_recovery.specs.Enlisted.{accepted_if, is_accepted, is_told, seat_after, seat_of, sent_if, told_if}
+use Rattle.reenlist_recovery.specs.Enlisted.{accepted_if, is_accepted, seat_after, seat_of, sent_if, told_if}
 use Rattle.reenlist_recovery.proofs.Found.{find-left, find-map, find-none, find-other, find-own, found, has-found, has-insert_by, has-left, has-map, has-more, has-none, same_number, third_number}
 
 -- a branch that was just made
@@ -26,7 +26,7 @@ made f r = record { enlistment = f; manager = r; enlisted = false; aborted = fal
 not_its : (e f : ℕ) → (e == f) ≡ true → (b : Branch) → not (is_branch f b) ≡ true → is_branch e b ≡ false
 not_its e f same b k = same_number e f b.enlistment.value same (not_true (is_branch f b) k)
 
-not_told : (e f : ℕ) → (e == f) ≡ true → (b : Branch) → not (is_branch f b) ≡ true → is_told e b ≡ false
+not_told : (e f : ℕ) → (e == f) ≡ true → (b : Branch) → not (is_branch f b) ≡ true → is_done_branch e b ≡ false
 not_told e f same b k = rw (not_its e f same b k) refl
 
 stays_out : (c : Bool) → c ≡ false → not c ≡ true
@@ -39,7 +39,7 @@ apart_number e f n k l = third_number e f n l ∙ k
 its_stays : (e f : ℕ) → (e == f) ≡ false → (b : Branch) → is_branch e b ≡ true → not (is_branch f b) ≡ true
 its_stays e f apart b k = stays_out (is_branch f b) (apart_number e f b.enlistment.value apart k)
 
-told_stays : (e f : ℕ) → (e == f) ≡ false → (b : Branch) → is_told e b ≡ true → not (is_branch f b) ≡ true
+told_stays : (e f : ℕ) → (e == f) ≡ false → (b : Branch) → is_done_branch e b ≡ true → not (is_branch f b) ≡ true
 told_stays e f apart b k = its_stays e f apart b (and_left (is_branch e b) (b.acked || b.aborted) k)
 
 -- its ENLIST is sent
@@ -48,8 +48,8 @@ sent_seat e f r bs true same =
     let b = made f r in
     let others = filter (λ (x : Branch). not (is_branch f.value x)) bs in
     let first = find-own (is_branch e) branch_number b others same (find-none (is_branch e) (λ (x : Branch). not (is_branch f.value x)) (not_its e f.value same) bs) in
-    let told = has-insert_by (is_told e) branch_number b others in
-    let none = has-none (is_told e) (λ (x : Branch). not (is_branch f.value x)) (not_told e f.value same) bs in
+    let told = has-insert_by (is_done_branch e) branch_number b others in
+    let none = has-none (is_done_branch e) (λ (x : Branch). not (is_branch f.value x)) (not_told e f.value same) bs in
     λ k. record {
       manager = option_map (λ (x : Branch). x.manager) (first k);
       enlisted = is_accepted (first k);
@@ -59,8 +59,8 @@ sent_seat e f r bs false apart =
     let b = made f r in
     let others = filter (λ (x : Branch). not (is_branch f.value x)) bs in
     let first = find-other (is_branch e) branch_number b others apart ∙ find-left (is_branch e) (λ (x : Branch). not (is_branch f.value x)) (its_stays e f.value apart) bs in
-    let told = has-insert_by (is_told e) branch_number b others in
-    let left = has-left (is_told e) (λ (x : Branch). not (is_branch f.value x)) (told_stays e f.value apart) bs in
+    let told = has-insert_by (is_done_branch e) branch_number b others in
+    let left = has-left (is_done_branch e) (λ (x : Branch). not (is_branch f.value x)) (told_stays e f.value apart) bs in
     λ k. record {
       manager = option_map (λ (x : Branch). x.manager) (first k);
       enlisted = is_accepted (first k);
@@ -98,7 +98,7 @@ accepted_seat e f bs =
     λ k. record {
       manager = ((λ j. option_map (λ (x : Branch). x.manager) (first j)) ∙ manager_same (branch_enlisted f) (λ b. refl) o) k;
       enlisted = ((λ j. is_accepted (first j)) ∙ accepted_more e f o (found (is_branch e) bs)) k;
-      told = has-map (is_told e) (branch_enlisted f) (λ b. refl) bs k;
+      told = has-map (is_done_branch e) (branch_enlisted f) (λ b. refl) bs k;
     }
 
 -- it is told the abort, or acknowledges
@@ -117,14 +117,14 @@ turn_acked false true aborted = refl
 turn_acked false false true = refl
 turn_acked false false false = refl
 
-aborted_told : (e f : ℕ) (b : Branch) → is_told e (branch_aborted f b) ≡ (is_told e b || ((e == f) && is_branch e b))
+aborted_told : (e f : ℕ) (b : Branch) → is_done_branch e (branch_aborted f b) ≡ (is_done_branch e b || ((e == f) && is_branch e b))
 aborted_told e f b = by (is_branch e b) refl
   where
     by : (s : Bool) → is_branch e b ≡ s → (s && (b.acked || (is_branch f b || b.aborted))) ≡ ((s && (b.acked || b.aborted)) || ((e == f) && s))
     by true k = (λ j. b.acked || (third_number e f b.enlistment.value k j || b.aborted)) ∙ turn_aborted (e == f) b.acked b.aborted
     by false k = sym (and_never (e == f))
 
-acked_told : (e f : ℕ) (b : Branch) → is_told e (branch_acked f b) ≡ (is_told e b || ((e == f) && is_branch e b))
+acked_told : (e f : ℕ) (b : Branch) → is_done_branch e (branch_acked f b) ≡ (is_done_branch e b || ((e == f) && is_branch e b))
 acked_told e f b = by (is_branch e b) refl
   where
     by : (s : Bool) → is_branch e b ≡ s → (s && ((is_branch f b || b.acked) || b.aborted)) ≡ ((s && (b.acked || b.aborted)) || ((e == f) && s))
@@ -133,7 +133,7 @@ acked_told e f b = by (is_branch e b) refl
 
 -- by a change that leaves all else
 told_seat : (e f : ℕ) (g : Branch → Branch) → ((b : Branch) → is_branch e (g b) ≡ is_branch e b) → ((b : Branch) → (g b).manager ≡ b.manager) → ((b : Branch) → (g b).enlisted ≡ b.enlisted)
-    → ((b : Branch) → is_told e (g b) ≡ (is_told e b || ((e == f) && is_branch e b))) → (bs : List Branch) → seat_of e (map g bs) ≡ told_if (e == f) (seat_of e bs)
+    → ((b : Branch) → is_done_branch e (g b) ≡ (is_done_branch e b || ((e == f) && is_branch e b))) → (bs : List Branch) → seat_of e (map g bs) ≡ told_if (e == f) (seat_of e bs)
 told_seat e f g number manager enlisted told bs =
     let o = find (is_branch e) bs in
     let first = find-map (is_branch e) g number bs in
@@ -141,9 +141,9 @@ told_seat e f g number manager enlisted told bs =
       manager = ((λ j. option_map (λ (x : Branch). x.manager) (first j)) ∙ manager_same g manager o) k;
       enlisted = ((λ j. is_accepted (first j)) ∙ accepted_same g enlisted o) k;
       told =
-          (has-more (is_told e) (is_told e) (is_branch e) g (e == f) told bs
-          ∙ (λ j. has (is_told e) bs || ((e == f) && has-found (is_branch e) bs j))
-          ∙ (λ j. has (is_told e) bs || ((e == f) && some_manager o j))) k;
+          (has-more (is_done_branch e) (is_done_branch e) (is_branch e) g (e == f) told bs
+          ∙ (λ j. has (is_done_branch e) bs || ((e == f) && has-found (is_branch e) bs j))
+          ∙ (λ j. has (is_done_branch e) bs || ((e == f) && some_manager o j))) k;
     }
 
 -- a commit that is due changes nothing of it
@@ -154,7 +154,7 @@ due_seat e f c bs =
     λ k. record {
       manager = ((λ j. option_map (λ (x : Branch). x.manager) (first j)) ∙ manager_same (branch_due f c) (λ b. refl) o) k;
       enlisted = ((λ j. is_accepted (first j)) ∙ accepted_same (branch_due f c) (λ b. refl) o) k;
-      told = has-map (is_told e) (branch_due f c) (λ b. refl) bs k;
+      told = has-map (is_done_branch e) (branch_due f c) (λ b. refl) bs k;
     }
 
 -- what the branches say after one more entry

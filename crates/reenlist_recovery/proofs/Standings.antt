@@ -13,8 +13,8 @@ use Rattle.dtx_values.specs.Ends.{is_in}
 use Rattle.dtx_model.specs.declared.branch.Branch.{Branch}
 use Rattle.dtx_model.specs.Coordinated.{coordinate, follow, stopped_after}
 use Rattle.dtx_model.specs.Observed.{branches, is_branch, observe, rows}
-use Rattle.dtx_model.specs.Wires.{holds, is_stopped, stop_of}
-use Rattle.dtx_model.specs.Words.{latest, or_else, past_of}
+use Rattle.dtx_model.specs.Wires.{is_stopped, stop_of}
+use Rattle.dtx_model.specs.Words.{holds, latest, or_else, past_of}
 use Rattle.dtx_model.specs.World.{is_connected, is_finished_there, reenlist_by}
 use Rattle.dtx_model.proofs.Pasts.{length-past}
 use Rattle.dtx_model.proofs.Prefixes.{past-more}

@@ -10,9 +10,10 @@ use Rattle.dtx_values.specs.declared.message.Dir.TheVariants.{Up, Down}
 use Rattle.dtx_values.specs.declared.message.Message.{Message}
 use Rattle.dtx_values.specs.Lines.{has_line}
 use Rattle.dtx_model.specs.Outcome.{is_empty}
-use Rattle.dtx_model.specs.Wires.{ended_after, ends, holds, in_transit, is_ended, is_open_wire, is_stopped, kept, lost_after, lost_since, opened_with, opens, same_connection, same_direction, sent_behind, transit_after, transit_after_stop, without_first}
+use Rattle.dtx_model.specs.Wires.{ended_after, ends, in_transit, is_ended, is_open_wire, is_stopped, kept, lost_after, lost_since, opened_with, opens, same_connection, same_direction, sent_behind, transit_after, transit_after_stop, without_first}
 use Rattle.dtx_model.specs.World.{is_linked}
 use Rattle.reenlist_recovery.specs.Connections.{count_after, count_got, count_next, count_opened, count_sent, count_stopped, is_linked_wire, lost_next, wire_after, wire_of}
+use Rattle.dtx_model.specs.Words.{holds}
 
 -- whether it is lost
 lost-more : (c : Conn) (past : List Entry) (x : Entry) (o : Option Bool) → lost_after c past x o ≡ lost_next c (is_stopped past) x o

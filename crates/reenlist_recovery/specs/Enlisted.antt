@@ -14,10 +14,11 @@ use Rattle.dtx_values.specs.declared.words.Vote.{Vote}
 use Rattle.dtx_values.specs.Row.{has_voted, is_of}
 use Rattle.dtx_values.specs.Vote.{still_hears}
 use Rattle.dtx_model.specs.declared.branch.Branch.{Branch}
-use Rattle.dtx_model.specs.Observed.{is_branch}
+use Rattle.dtx_model.specs.Observed.{is_branch, is_done_branch}
 use Rattle.dtx_model.specs.Words.{has}
 use Rattle.reenlist_recovery.specs.declared.ballot.Ballot.{Ballot}
 use Rattle.reenlist_recovery.specs.declared.seat.Seat.{Seat}
+use Rattle.dtx_model.specs.World.{is_out_row}
 
 -- no enlistment
 abbrev pub no_ballot : Ballot
@@ -31,11 +32,8 @@ still_hears_by v = still_hears (Some v)
 abbrev pub is_unvoted : ℕ → Row → Bool
 is_unvoted e x = is_of e x && not (has_voted x)
 
-abbrev pub is_out : ℕ → Row → Bool
-is_out e x = is_of e x && not (still_hears x.vote)
-
 abbrev pub ballot_of : ℕ → List Row → Ballot
-ballot_of e xs = record { unvoted = has (is_unvoted e) xs; out = has (is_out e) xs }
+ballot_of e xs = record { unvoted = has (is_unvoted e) xs; out = has (is_out_row e) xs }
 
 -- it is made, where the entry is of it
 abbrev pub made_if : Bool → Ballot → Ballot
@@ -60,11 +58,8 @@ is_accepted (Some b) = b.enlisted
 is_accepted None = false
 
 -- what the branches say of the enlistment: its manager, whether it was accepted, and whether it was told the abort or acknowledged
-abbrev pub is_told : ℕ → Branch → Bool
-is_told e b = is_branch e b && (b.acked || b.aborted)
-
 abbrev pub seat_of : ℕ → List Branch → Seat
-seat_of e bs = record { manager = option_map (λ b. b.manager) (find (is_branch e) bs); enlisted = is_accepted (find (is_branch e) bs); told = has (is_told e) bs }
+seat_of e bs = record { manager = option_map (λ b. b.manager) (find (is_branch e) bs); enlisted = is_accepted (find (is_branch e) bs); told = has (is_done_branch e) bs }
 
 -- its ENLIST is sent by this manager, where the entry is of it
 abbrev pub sent_if : Bool → RmNo → Seat → Seat

@@ -14,10 +14,10 @@ use Rattle.tx_cells.specs.declared.error.TurnError.{TurnError}
 use Rattle.tx_cells.specs.declared.error.TurnError.TheVariants.{Memory, Differs as TheyDiffer}
 use Rattle.tx_cells.specs.Turns.{with_tx}
 use Rattle.tx_world.specs.State.{TxState, is_hit_by, is_reached_by}
-use Rattle.run_endings.specs.Finished.{follows}
 use Rattle.run_endings.specs.Stops.{AreAmiss, HasUntied, IsReason, run_stop}
 use Rattle.run_endings.specs.declared.stop.RunStop.{RunStop}
 use Rattle.run_endings.specs.declared.stop.RunStop.TheVariants as Stop
+use Rattle.dtx_model.specs.AtLog.{follows}
 
 -- the reason why the run stops so is that the two don't tie
 differing : {D : Type 0} (x : TxState) (log : LogState D) (e : TurnError) → IsReason x log e → run_stop e ≡ Stop.Differs → TiesWith x log → ⊥

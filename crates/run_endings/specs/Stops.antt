@@ -9,9 +9,9 @@ use Rattle.tx_cells.specs.Ties.{IsCause, TiesWith}
 use Rattle.tx_world.specs.State.{TxState}
 use Rattle.tx_cells.specs.declared.error.TurnError.{TurnError}
 use Rattle.tx_cells.specs.declared.error.TurnError.TheVariants.{Memory, Differs as TheyDiffer}
-use Rattle.run_endings.specs.Finished.{follows}
 use Rattle.run_endings.specs.declared.stop.RunStop.{RunStop}
 use Rattle.run_endings.specs.declared.stop.RunStop.TheVariants as Stop
+use Rattle.dtx_model.specs.AtLog.{follows}
 
 -- what a turn that isn't done makes of the run
 abbrev pub run_stop : TurnError → RunStop

@@ -7,10 +7,10 @@ use Rattle.dtx_values.specs.declared.script.Body.TheVariants.{Commit as CommitLi
 use Rattle.dtx_values.specs.declared.script.Line.{Line}
 use Rattle.dtx_values.specs.declared.words.Image.TheVariants.{Keep}
 use Rattle.dtx_values.specs.declared.words.Timeout.TheVariants.{Default as DefaultTimeout}
-use Rattle.outcome_law.proofs.Examples.{a1, t1}
 use Rattle.outcome_law.proofs.ScopeExample.{scoped}
 use Rattle.script_calls.specs.declared.calls.LogCall.TheVariants.{Stop as StopCall, Restart as RestartCall}
 use Rattle.script_calls.specs.Due.{calls_at, log_calls_at}
+use Rattle.dtx_model.proofs.Cast.{a1, t1}
 
 abbrev a2 : ActorNo
 a2 = record { value = 2; in_range = (lit≤ tt, lit≤ tt) }

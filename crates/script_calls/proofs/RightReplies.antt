@@ -12,12 +12,12 @@ use Rattle.dtx_values.specs.declared.words.Outcome.{Outcome}
 use Rattle.dtx_values.specs.declared.words.Outcome.TheVariants.{Committed, Aborted, InDoubt}
 use Rattle.dtx_values.specs.declared.words.Vote.{Vote}
 use Rattle.dtx_values.specs.declared.words.Vote.TheVariants.{Yes, No, Done as VoteDone}
-use Rattle.dtx_model.specs.Words.{always, each, onto}
+use Rattle.dtx_model.specs.Words.{always, each, onto, same}
 use Rattle.dtx_model.specs.World.{World}
 use Rattle.dtx_model.specs.Steps.{Done, Full, StoppedNow, StoppedBefore, Step, Calls, Replies, Acts, Coordinates, Delivers, Stops, Restarts, block_at}
 use Rattle.dtx_model.specs.Plans.{owner_reply, planned as reply_planned, promote_reply, vote_reply}
 use Rattle.dtx_model.specs.Replies.{fits, request_of}
-use Rattle.dtx_model.specs.Caused.{is_as_planned, is_outcome_planned, is_promotion_planned, is_request_planned, is_vote_planned, same_promotion, same_vote}
+use Rattle.dtx_model.specs.Caused.{is_as_planned, is_outcome_planned, is_promotion_planned, is_request_planned, is_vote_planned, same_vote}
 use Rattle.dtx_model.specs.Entries.{same_outcome}
 use Rattle.dtx_model.proofs.Bools.{and_both, and_left, and_right, or_right}
 use Rattle.script_calls.proofs.StepBlocks.{OfReply, OfStep, is_deed, of_block}
@@ -75,7 +75,7 @@ outcome_itself Committed = refl
 outcome_itself Aborted = refl
 outcome_itself InDoubt = refl
 
-promotion_itself : (b : Bool) → same_promotion b b ≡ true
+promotion_itself : (b : Bool) → same b b ≡ true
 promotion_itself true = refl
 promotion_itself false = refl
 

@@ -39,9 +39,10 @@ use Rattle.tx_world.specs.Recorded.{record_after}
 use Rattle.tx_world.specs.State.{TxState}
 use Rattle.tx_world.specs.Tried.{IsTried}
 use Rattle.tx_world.proofs.Fitting.{one_found}
-use Rattle.tx_world.proofs.FreedRecords.{each_info, enlist_by, is_desk_for, is_enlist_as, noted_recorded, recovered_seen}
+use Rattle.tx_world.proofs.FreedRecords.{each_info, enlist_by, is_enlist_as, noted_recorded, recovered_seen}
 use Rattle.script_runner.specs.Ending.{are_ever_named, are_named, names}
 use Rattle.script_runner.specs.RunState.{IsRecordKept}
+use Rattle.outcome_law.proofs.Desked.{is_prepared_desk}
 
 -- A desk that said PREPARED is in the record.
 abbrev is_pair : Info → ℕ × ℕ → Bool
@@ -50,11 +51,11 @@ is_pair i p = (i.rm.value == p.0) && (i.enl.value == p.1)
 abbrev prepared_in : List Desk → List (ℕ × ℕ)
 prepared_in ds = map (λ d. pair_of (d.manager, d.enlistment)) (filter (λ d. is_prepared d.ballot) ds)
 
-pair_there : (h : List Entry) → Keeps h → (i : Info) → has (is_enlist_by i.enl.value i.rm.value) h ≡ true → (ds : List Desk) → each (is_managed_desk h) ds ≡ true → has (is_desk_for i.enl.value) ds ≡ true
+pair_there : (h : List Entry) → Keeps h → (i : Info) → has (is_enlist_by i.enl.value i.rm.value) h ≡ true → (ds : List Desk) → each (is_managed_desk h) ds ≡ true → has (is_prepared_desk i.enl.value) ds ≡ true
     → has (is_pair i) (prepared_in ds) ≡ true
 pair_there h k i sent [] m t = absurd cc
 pair_there h k i sent (d ∷ ds) m t =
-    or_case (is_desk_for i.enl.value d) (has (is_desk_for i.enl.value) ds)
+    or_case (is_prepared_desk i.enl.value d) (has (is_prepared_desk i.enl.value) ds)
     (λ s. here (and_left (is_desk_of i.enl.value d) (is_prepared d.ballot) s) (is_prepared d.ballot) (and_right (is_desk_of i.enl.value d) (is_prepared d.ballot) s))
     (λ s. there (is_prepared d.ballot) (pair_there h k i sent ds (and_right (is_managed_desk h d) (each (is_managed_desk h) ds) m) s)) t
   where

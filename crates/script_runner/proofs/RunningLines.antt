@@ -20,9 +20,9 @@ use Rattle.dtx_model.specs.Traces.{Placed}
 use Rattle.dtx_model.proofs.Bools.{and_left, and_right, or_first, or_second}
 use Rattle.dtx_model.proofs.Pasts.{length-past}
 use Rattle.scope_context.specs.Standing.{Standing}
-use Rattle.script_runner.specs.LogRun.{is_log_line}
 use Rattle.script_calls.specs.Scoped.{AreOpen, scopes_at}
 use Rattle.script_calls.proofs.Openings.{after_scope-none, no_scope_call, past_next}
+use Rattle.dtx_model.specs.AtLog.{is_log_line}
 
 -- a line that neither arms a stop nor opens the log again,
 line_ran : (s before : List Line) (a : ActorNo) (b : Body) (start T : List Placed) → is_log_line b ≡ false

@@ -8,7 +8,7 @@ use Rattle.dtx_values.specs.declared.entry.Entry.{Entry}
 use Rattle.dtx_values.specs.declared.number.ActorNo.{ActorNo}
 use Rattle.dtx_values.specs.declared.number.TxNo.{TxNo}
 use Rattle.dtx_values.specs.declared.script.Line.{Line}
-use Rattle.dtx_model.specs.AtLog.{armed, at_log, faults as faults_told, is_log_up, one_if}
+use Rattle.dtx_model.specs.AtLog.{armed, at_log, faults as faults_told, is_log_up, is_up_by, one_if}
 use Rattle.dtx_model.specs.Caused.{IsOwnRun}
 use Rattle.dtx_model.specs.Grammar.{OfTransaction, is_made}
 use Rattle.dtx_model.specs.Log.{CommitRecord, log_has}
@@ -25,7 +25,7 @@ use Rattle.script_calls.specs.Rows.{are_entered}
 use Rattle.script_calls.specs.SeenRow.{SeenRow}
 use Rattle.call_order.specs.InOrder.{lines_of}
 use Rattle.tx_cells.specs.Cell.{Cell}
-use Rattle.tx_cells.specs.LogCell.{AreCounted, AreOwn, IsLogKept, LAST, LogCell, is_left, is_up_by}
+use Rattle.tx_cells.specs.LogCell.{AreCounted, AreOwn, IsLogKept, LAST, LogCell, is_left}
 use Rattle.thread_runs.specs.Contexts.{entries_of}
 use Rattle.run_endings.specs.Finished.{AreFinished}
 use Rattle.thread_runs.specs.Gathering.{HasContexts, IsCellOf, with_histories, with_log}

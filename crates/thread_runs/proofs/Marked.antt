@@ -7,11 +7,11 @@ use Rattle.dtx_values.specs.declared.entry.Entry.{Entry}
 use Rattle.dtx_values.specs.declared.number.TxNo.{TxNo}
 use Rattle.dtx_values.specs.declared.script.Line.{Line}
 use Rattle.dtx_values.specs.Table.{how_many}
-use Rattle.dtx_model.specs.AtLog.{is_opened, is_restart, is_stop}
+use Rattle.dtx_model.specs.AtLog.{follows, is_opened, is_restart, is_up_by}
 use Rattle.dtx_model.specs.Caused.{is_begin_sent}
 use Rattle.dtx_model.specs.Log.{CommitRecord, first_of, is_record_of}
 use Rattle.dtx_model.specs.Promotes.{identifier_of}
-use Rattle.dtx_model.specs.Tied.{has_mark}
+use Rattle.dtx_model.specs.Tied.{has_mark, is_stop}
 use Rattle.dtx_model.specs.Wires.{is_stopped}
 use Rattle.dtx_model.specs.Words.{each, has}
 use Rattle.dtx_model.specs.World.{core}
@@ -23,8 +23,7 @@ use Rattle.tx_world.proofs.Begun.{stopped_begun}
 use Rattle.tx_world.proofs.Fitting.{one_found}
 use Rattle.tx_cells.specs.Board.{transactions_of}
 use Rattle.tx_cells.specs.Cell.{Cell}
-use Rattle.tx_cells.specs.LogCell.{AreOwn, LogCell, is_own, is_up_by}
-use Rattle.run_endings.specs.Finished.{follows}
+use Rattle.tx_cells.specs.LogCell.{AreOwn, LogCell, is_own}
 use Rattle.thread_runs.specs.Run.{records_of}
 use Rattle.thread_runs.proofs.ByCell.{is_among}
 use Rattle.thread_runs.proofs.Standing.{IsDone, Stands}

@@ -2,14 +2,13 @@
 use Rattle.std.proofs.Common.{◌≡◌, ◌⊎◌, ℕ, nat_le, Bool, true, false, List, [], ◌∷◌, arith, inl, inr, refl, ap, sym, subst, ◌∙◌}
 use Rattle.std.specs.Prelude.{IsTrue}
 use Rattle.std.specs.List.{All}
-use Rattle.std.proofs.lemmas.Bool.{cases_Bool}
 use Rattle.std.proofs.lemmas.Bool.Decides.{nat_tests}
 use Rattle.std.proofs.lemmas.List.Elements.{All-tail}
 use Rattle.dtx_values.specs.declared.entry.Entry.{Entry}
 use Rattle.dtx_values.specs.declared.number.TxNo.{TxNo}
 use Rattle.dtx_values.specs.declared.script.Line.{Line}
 use Rattle.dtx_values.specs.Table.{how_many}
-use Rattle.dtx_model.specs.AtLog.{at_log, follow_log, follows_log, is_opened, is_stop, transactions}
+use Rattle.dtx_model.specs.AtLog.{at_log, follow_log, follows, follows_log, is_opened, transactions}
 use Rattle.dtx_model.specs.Caused.{Caused, IsCallOf, IsIn, Settled}
 use Rattle.dtx_model.specs.Outcome.{is_empty}
 use Rattle.dtx_model.specs.Acts.{act_entries}
@@ -17,9 +16,8 @@ use Rattle.dtx_model.specs.Coordinated.{coordinate, may_free, may_log}
 use Rattle.dtx_model.specs.Observed.{observe}
 use Rattle.dtx_model.specs.Replies.{all_due}
 use Rattle.dtx_model.specs.Steps.{local_pending, pending}
-use Rattle.dtx_model.specs.Tied.{tied}
+use Rattle.dtx_model.specs.Tied.{is_stop, tied}
 use Rattle.dtx_model.specs.Traces.{Placed, history}
-use Rattle.dtx_model.specs.Wires.{is_stopped}
 use Rattle.dtx_model.specs.Words.{each}
 use Rattle.dtx_model.proofs.Bools.{and_both, and_left, and_right}
 use Rattle.dtx_model.proofs.Lifting.{lift_ran}
@@ -31,7 +29,6 @@ use Rattle.tx_cells.specs.Board.{transactions_of}
 use Rattle.tx_cells.specs.Cell.{Cell}
 use Rattle.tx_cells.specs.LogCell.{LogCell}
 use Rattle.tx_cells.specs.Ties.{TiesWith}
-use Rattle.run_endings.specs.Finished.{follows}
 use Rattle.thread_runs.specs.Gathering.{IsCellOf}
 use Rattle.thread_runs.proofs.ByCell.{AllOf, IsFound, is_among, numbers}
 
@@ -105,12 +102,8 @@ tied_there s k honest log t h sure (inl f) = ap tied f.3 ∙ f.2.cell.kept.sound
 tied_there s k honest log t h sure (inr f) = ap tied f.1
 
 -- It follows the log.
-follows_alike : (T : List Placed) (t : TxNo) → ((is_stopped (history t.value T) ≡ true) ⊎ (is_stopped (history t.value T) ≡ false)) → follows_log T t ≡ follows (at_log T) (history t.value T)
-follows_alike T t (inl e) = rw e refl
-follows_alike T t (inr e) = rw e refl
-
 same_follows : (T : List Placed) (t : TxNo) (h l : List Entry) → history t.value T ≡ h → at_log T ≡ l → follows_log T t ≡ follows l h
-same_follows T t h l is log = follows_alike T t (cases_Bool (is_stopped (history t.value T))) ∙ (ap (λ (x : List Entry). follows (at_log T) x) is ∙ ap (λ (x : List Entry). follows x h) log)
+same_follows T t h l is log = ap (λ (x : List Entry). follows (at_log T) x) is ∙ ap (λ (x : List Entry). follows x h) log
 
 at_least_none : (n : ℕ) → nat_le 0 n ≡ true
 at_least_none n = grind (arith, nat_tests)

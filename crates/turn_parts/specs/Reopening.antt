@@ -12,6 +12,7 @@ use Rattle.coordinator_log.specs.Slots.{open_records}
 use Rattle.coordinator_log.specs.State.{LogState}
 use Rattle.coordinator_log.specs.declared.refusal.LogRefusal.{LogRefusal}
 use Rattle.coordinator_log.specs.declared.refusal.LogRefusal.TheVariants as Refusal
+use Rattle.tx_world.specs.Kept.{stop_if}
 
 -- The log was stopped and opened again, or wasn't opened: `found` says how many records it then has, or why it wasn't. That comes by a fault alone, or over a disk that isn't honest.
 pub record IsReopened {D : Type 0} (faults : D → ℕ) (honest : Bool) (seen : D → List ℕ) (found : Result ℕ LogRefusal) (from to : LogState D) : Type 0 where
@@ -30,18 +31,13 @@ restart_answer (Ok n) = Fine
 restart_answer (Err (Refusal.NotALog p)) = NotALog p
 restart_answer (Err r) = Fault
 
--- `stopped` is written where the log was up
-abbrev pub stopped_where : Bool → List Entry → List Entry
-stopped_where true past = Stopped ∷ past
-stopped_where false past = past
-
 abbrev pub opened_where : Result ℕ LogRefusal → List Entry → List Entry
 opened_where (Ok n) past = LogWord (Opened n) ∷ past
 opened_where (Err r) past = past
 
 -- a restart by line n writes its call, `stopped` where the log was up, and `opened` where it was opened
 abbrev pub restarted : ℕ → ActorNo → Bool → Result ℕ LogRefusal → List Entry → List Entry
-restarted n a was_up r past = opened_where r (stopped_where was_up (Called n a (restart_answer r) ∷ past))
+restarted n a was_up r past = opened_where r (stop_if was_up (Called n a (restart_answer r) ∷ past))
 
 -- a step that stopped the log, which was up before and isn't any more, writes `stopped` there
 abbrev pub stop_noted : Bool → Bool → List Entry → List Entry

@@ -2,7 +2,8 @@
 ghost use Rattle.std.specs.Prelude.{◌≡◌, ◌≤◌, ◌<◌, ◌+◌, ◌-◌, ◌^◌, ◌⊎◌, ℕ, IfErr, IsTrue, vec_capacity, vec_len};
 ghost use Rattle.outside.specs.Disk.{AreWithin};
 ghost use Rattle.dtx_model.specs.Words.{past_of};
-ghost use Rattle.turn_parts.specs.Reopening.{IsReopened, opened_where, restart_answer, restarted, stop_noted, stopped_where};
+ghost use Rattle.turn_parts.specs.Reopening.{IsReopened, opened_where, restart_answer, restarted, stop_noted};
+ghost use Rattle.tx_world.specs.Kept.{stop_if};
 
 use coordinator_log::{Log, LogRefusal};
 use dtx_values::{ActorNo, Answer, Entry, LogNote};
@@ -61,7 +62,7 @@ pub fn write_stop(entries: &mut Vec<Entry>, was_up: bool, is_up: bool)
 /// Writes `stopped` where the log was up.
 fn write_stopped(entries: &mut Vec<Entry>, was_up: bool)
     requires { vec_len entries.old + 1 ≤ vec_capacity entries.old }
-    ensures past { past_of entries.new.items ≡ stopped_where was_up (past_of entries.old.items) }
+    ensures past { past_of entries.new.items ≡ stop_if was_up (past_of entries.old.items) }
     ensures room { vec_len entries.new ≤ vec_len entries.old + 1 }
     ensures capacity { vec_capacity entries.new ≡ vec_capacity entries.old }
 {

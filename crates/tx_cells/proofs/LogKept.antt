@@ -8,7 +8,7 @@ use Rattle.dtx_values.specs.declared.entry.Entry.{Entry}
 use Rattle.dtx_values.specs.declared.entry.Entry.TheVariants.{Called}
 use Rattle.dtx_values.specs.declared.number.ActorNo.{ActorNo}
 use Rattle.dtx_values.specs.declared.script.Line.{Line}
-use Rattle.dtx_model.specs.AtLog.{armed, faults as faults_told, is_called, one_if}
+use Rattle.dtx_model.specs.AtLog.{armed, faults as faults_told, is_called, is_up_by, one_if}
 use Rattle.dtx_model.specs.Log.{log_has}
 use Rattle.dtx_model.specs.Words.{has}
 use Rattle.coordinator_log.specs.Slots.{open_records}
@@ -20,7 +20,7 @@ use Rattle.script_calls.specs.Prefix.{IsLogPrefix, lines_by}
 use Rattle.script_calls.specs.SeenRow.{SeenRow}
 use Rattle.script_calls.specs.declared.calls.LogCall.{LogCall}
 use Rattle.tx_cells.specs.LogAnswers.{is_no_log_answer, stop_armed}
-use Rattle.tx_cells.specs.LogCell.{AreCounted, AreOwn, IsLogKept, LAST, LogCell, is_left, is_up_by}
+use Rattle.tx_cells.specs.LogCell.{AreCounted, AreOwn, IsLogKept, LAST, LogCell, is_left}
 use Rattle.turn_parts.specs.Reopening.{IsReopened, restart_answer, restarted}
 
 -- Of what is counted, where as much is told as before,

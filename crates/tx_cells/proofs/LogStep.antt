@@ -9,7 +9,7 @@ use Rattle.dtx_values.specs.declared.entry.Entry.{Entry}
 use Rattle.dtx_values.specs.declared.entry.Entry.TheVariants.{Stopped}
 use Rattle.dtx_values.specs.declared.number.TxNo.{TxNo}
 use Rattle.dtx_values.specs.declared.script.Line.{Line}
-use Rattle.dtx_model.specs.AtLog.{armed, faults as faults_told, is_called, is_unarmed, one_if}
+use Rattle.dtx_model.specs.AtLog.{armed, faults as faults_told, is_called, is_unarmed, is_up_by, one_if}
 use Rattle.dtx_model.specs.Grammar.{OfTransaction, is_made}
 use Rattle.dtx_model.specs.Log.{CommitRecord, first_of, is_record_of, log_has}
 use Rattle.dtx_model.specs.Promotes.{identifier_of}
@@ -28,7 +28,7 @@ use Rattle.tx_world.specs.State.{TxState}
 use Rattle.tx_world.specs.Stepping.{IsAnswered}
 use Rattle.tx_cells.specs.Board.{transactions_of}
 use Rattle.tx_cells.specs.LogAnswers.{is_no_log_answer}
-use Rattle.tx_cells.specs.LogCell.{AreCounted, AreOwn, IsLogKept, LAST, LogCell, is_left, is_own, is_up_by}
+use Rattle.tx_cells.specs.LogCell.{AreCounted, AreOwn, IsLogKept, LAST, LogCell, is_left, is_own}
 use Rattle.turn_parts.specs.Reopening.{stop_noted}
 
 -- A count that doesn't fall, and one that rose

@@ -2,10 +2,10 @@
 use Rattle.std.specs.Prelude.{ℕ, ◌+◌, ◌-◌, ◌^◌, ◌==◌, ◌≡◌, ◌<◌, ◌≤◌, Bool, true, false, List, length, Option, Some, None, IsTrue}
 use Rattle.dtx_values.specs.declared.entry.Entry.{Entry}
 use Rattle.dtx_values.specs.declared.script.Line.{Line}
-use Rattle.dtx_model.specs.AtLog.{armed, faults as faults_told, is_called, one_if, unless_said, up_of}
+use Rattle.dtx_model.specs.AtLog.{armed, faults as faults_told, is_called, is_up_by, one_if}
 use Rattle.dtx_model.specs.Log.{CommitRecord}
 use Rattle.dtx_model.specs.Promotes.{identifier_of}
-use Rattle.dtx_model.specs.Words.{each, has, latest}
+use Rattle.dtx_model.specs.Words.{each, has}
 use Rattle.coordinator_log.specs.Slots.{open_records}
 use Rattle.coordinator_log.specs.State.{LogState}
 use Rattle.coordinator_log.specs.declared.stop.ArmedStop.{ArmedStop}
@@ -46,10 +46,6 @@ is_own s r = has (λ t. r.id == identifier_of t) (transactions_of s)
 pub record AreOwn (s : List Line) (rs : List CommitRecord) : Type 0 where
   pub own : each (is_own s) rs ≡ true
   pub once : (id : ℕ) → AtMostOne id rs
-
--- of `stopped` and `opened` at the log the last isn't `stopped`
-abbrev pub is_up_by : List Entry → Bool
-is_up_by past = unless_said (latest up_of past)
 
 -- What the log's cell keeps in a run of the script s whose disk tells what it holds where `tells` says so, and whose count of faults was `before` at the start: of each actor's calls there those
 -- that were entered are the first ones, in order; each stop has its cause, and each fault that is told of rose the count; the log is up exactly where its entries say so, and a call isn't the last of them then; over an honest disk no

@@ -28,7 +28,7 @@ use Rattle.dtx_model.proofs.Heeding.{heeds_all_same}
 use Rattle.dtx_model.proofs.Quiet.{Quiet, q_cons, q_gone_decides}
 use Rattle.dtx_model.proofs.Histories.{past_of-snoc}
 use Rattle.outcome_law.proofs.Tests.{eq_self}
-use Rattle.local_half.specs.Half.{Known, after as known_after, is_free, is_its_own, is_wait}
+use Rattle.local_half.specs.Half.{Known, after as known_after, is_free, is_its_own, is_waiting_answer}
 use Rattle.coordinator_core.specs.Kept.{Kept as CoreKept}
 use Rattle.world_laws.specs.Course.{is_near}
 use Rattle.tx_world.specs.Entering.{called_with, half_answer, half_facts, is_local, is_unlinked, local_call}
@@ -52,14 +52,14 @@ manages_none (Promotable t e r v o p) ms u = absurd cc
 manages_none _ ms u = refl
 
 -- the entry of such a call changes nothing of what is known
-pub call_heeded : (h : Half) (n : ℕ) (a : ActorNo) (c : Call) (x : Answer) → is_unmanaged c ≡ true → is_wait x ≡ false → heeds (record { line = n; actor = a; call = c } ∷ []) h (Called n a x) ≡ h
+pub call_heeded : (h : Half) (n : ℕ) (a : ActorNo) (c : Call) (x : Answer) → is_unmanaged c ≡ true → is_waiting_answer x ≡ false → heeds (record { line = n; actor = a; call = c } ∷ []) h (Called n a x) ≡ h
 unfolding track
 call_heeded h n a c Wait u k = absurd cc
 call_heeded h n a c Fine u k = rw (eq_self n, manages_none c h.managers u) refl
 call_heeded h n a c True u k = rw (eq_self n, manages_none c h.managers u) refl
 call_heeded h n a c _ u k = refl
 
-called_alone : (h : Known) (n : ℕ) (a : ActorNo) (c : Call) (x : Answer) → is_unmanaged c ≡ true → is_wait x ≡ false → h ≡ known_after (record { line = n; actor = a; call = c } ∷ []) h (Called n a x ∷ [])
+called_alone : (h : Known) (n : ℕ) (a : ActorNo) (c : Call) (x : Answer) → is_unmanaged c ≡ true → is_waiting_answer x ≡ false → h ≡ known_after (record { line = n; actor = a; call = c } ∷ []) h (Called n a x ∷ [])
 unfolding heeds_all
 called_alone h n a c x u k = ap (λ (g : Half). record { transaction = h.transaction; half = g }) (sym (call_heeded h.half n a c x u k))
 
@@ -92,11 +92,11 @@ pub await_answered : (t : ℕ) (h : Half) (c : Call) (u : TxNo) (m : ℕ) → c 
 unfolding local_answer
 await_answered t h c u m e = rw e refl
 
-did_wait : (l : Option ℕ) (m : ℕ) → is_wait (if_begun l (Did m)) ≡ false
+did_wait : (l : Option ℕ) (m : ℕ) → is_waiting_answer (if_begun l (Did m)) ≡ false
 did_wait None m = refl
 did_wait (Some d) m = refl
 
-await_wait : (l : Option ℕ) (x : Option Outcome) → is_wait (if_begun l (await_answer x)) ≡ false
+await_wait : (l : Option ℕ) (x : Option Outcome) → is_waiting_answer (if_begun l (await_answer x)) ≡ false
 await_wait None x = refl
 await_wait (Some d) (Some x) = refl
 await_wait (Some d) None = refl
@@ -112,7 +112,7 @@ told_block t h n a (Await u) m k = let x = half_answer t h (Await u) m in ap (λ
 told_block t h n a (Do u j i) m k = let x = half_answer t h (Do u j i) m in ap (λ (es : List Entry). Called n a x ∷ es) (sym (facts_none (has_facts x)))
 told_block t h n a _ m k = absurd cc
 
-told_wait : (t : ℕ) (h : Half) (c : Call) (m : ℕ) → is_told c ≡ true → is_wait (half_answer t h c m) ≡ false
+told_wait : (t : ℕ) (h : Half) (c : Call) (m : ℕ) → is_told c ≡ true → is_waiting_answer (half_answer t h c m) ≡ false
 unfolding local_answer
 told_wait t h (Await u) m k = await_wait h.seen.limit h.seen.told_client
 told_wait t h (Do u j i) m k = did_wait h.seen.limit m
@@ -135,14 +135,14 @@ gone_done (Some l) false lost x e d = rw e refl
 gone_done (Some l) true true x e d = rw e refl
 gone_done (Some l) true false x e d = absurd (d e)
 
-gone_waits : (limit : Option ℕ) (stands lost : Bool) → is_wait (if_begun limit (gone_answer stands lost)) ≡ false
+gone_waits : (limit : Option ℕ) (stands lost : Bool) → is_waiting_answer (if_begun limit (gone_answer stands lost)) ≡ false
 gone_waits None stands lost = refl
 gone_waits (Some l) false lost = refl
 gone_waits (Some l) true true = refl
 gone_waits (Some l) true false = refl
 
-gone_wait : (t : ℕ) (h : Half) (e : EnlNo) (x : Answer) → x ≡ half_answer t h (Gone e) 0 → is_wait x ≡ false
-gone_wait t h e x k = ap is_wait k ∙ gone_waits h.seen.limit (stands h.seen e.value) (is_gone h.seen e.value)
+gone_wait : (t : ℕ) (h : Half) (e : EnlNo) (x : Answer) → x ≡ half_answer t h (Gone e) 0 → is_waiting_answer x ≡ false
+gone_wait t h e x k = ap is_waiting_answer k ∙ gone_waits h.seen.limit (stands h.seen e.value) (is_gone h.seen e.value)
 
 -- the block of a `gone` that is answered ok, and of one that isn't
 pub gone_fine : (t : ℕ) (h : Half) (n : ℕ) (a : ActorNo) (e : EnlNo) (x : Answer) → x ≡ half_answer t h (Gone e) 0 → x ≡ Fine → Called n a x ∷ gone_unlinked h e ≡ local_call t h n a (Gone e) 0

@@ -16,20 +16,21 @@ use Rattle.dtx_values.specs.declared.words.Outcome.{Outcome}
 use Rattle.dtx_model.specs.declared.listener.Listener.{Listener}
 use Rattle.dtx_model.specs.Words.{has, onto}
 use Rattle.dtx_model.specs.Acts.{tell}
-use Rattle.dtx_model.specs.Facts.{facts_if, is_done, reaches, ticked}
+use Rattle.dtx_model.specs.Facts.{facts_if, is_done, lost_outcome, reaches, ticked}
 use Rattle.dtx_model.specs.Half.{is_handed}
 use Rattle.dtx_model.specs.Observed.{Observed, observe}
 use Rattle.dtx_model.specs.World.{World}
 use Rattle.dtx_model.specs.Steps.{Step, Acts, Calls, Replies, block_at, entered}
-use Rattle.dtx_model.specs.Caused.{IsIn, is_promoting_entry, is_unpromoted}
+use Rattle.dtx_model.specs.Caused.{IsIn, is_unpromoted}
 use Rattle.dtx_model.proofs.Bools.{not_both}
 use Rattle.dtx_model.proofs.Local.{IsNarrow, free-local, step-narrow}
-use Rattle.dtx_model.proofs.Narrow.{act_by, act_entries, after_seal, answer, before_seal, block, commit_act, decided_if, facts, is_late, is_to_tell, lost_outcome, reply_entries, time_up, undecided_act, veto_if}
+use Rattle.dtx_model.proofs.Narrow.{act_by, act_entries, after_seal, answer, before_seal, block, commit_act, decided_if, facts, is_late, is_to_tell, reply_entries, time_up, undecided_act, veto_if}
 use Rattle.local_half.specs.Half.{Follows, Known}
 use Rattle.coordinator_core.specs.Kept.{Kept as CoreKept}
 use Rattle.tx_world.specs.Kept.{Kept}
 use Rattle.tx_world.proofs.Sending.{unpromoted_there}
 use Rattle.tx_world.proofs.Written.{Ready}
+use Rattle.dtx_model.specs.Promotes.{is_promoting}
 
 few_veto : (b : Bool) → length (veto_if b) ≤ 1
 few_veto true = lit≤ tt
@@ -102,14 +103,14 @@ length-onto h [] = omega arith
 length-onto h (x ∷ xs) = omega (arith, length-onto (x ∷ h) xs)
 
 -- so has what such a step writes
-pub few_there : {t : TxNo} {w : World} {m : Step} {h g : Known} {j k : CoreKept} {p xs : List Entry} (u : Bool) → Kept t w h j → Ready t w m g k p xs → p ≡ w.past → has is_promoting_entry (block_at t.value w m) ≡ false
+pub few_there : {t : TxNo} {w : World} {m : Step} {h g : Known} {j k : CoreKept} {p xs : List Entry} (u : Bool) → Kept t w h j → Ready t w m g k p xs → p ≡ w.past → has is_promoting (block_at t.value w m) ≡ false
     → ((v : World) → Follows h.transaction.value v h.half → u ≡ is_unpromoted v.past) → not u ≡ false → length xs ≤ 4
 few_there {t} {w} {m} {h} {g} {j} {k} {p} {xs} u kept r same calm says n =
     let local = free-local (IsIn w.calls) t.value w.past (w.calls, kept.ran) (unpromoted_there u kept says n) in
     by (step-narrow (IsIn (entered m w.calls)) t.value w m local r.came)
   where
-    by : (has is_promoting_entry (block_at t.value w m) ≡ true) ⊎ IsNarrow t.value w m → length xs ≤ 4
-    by (inl b) = absurd (not_both (has is_promoting_entry (block_at t.value w m)) b calm)
+    by : (has is_promoting (block_at t.value w m) ≡ true) ⊎ IsNarrow t.value w m → length xs ≤ 4
+    by (inl b) = absurd (not_both (has is_promoting (block_at t.value w m)) b calm)
     by (inr narrow) =
         let few : length (block_at t.value w m) ≤ 4 = subst (λ (es : List Entry). length es ≤ 4) (sym narrow.0) (few_block (observe w.past) m) in
         omega (arith, few, length-onto p xs, ap length r.past, length-onto w.past (block_at t.value w m), ap length same)

@@ -45,6 +45,7 @@ use Rattle.outcome_law.proofs.CoreKnown.{aborted_there, desk_there, enlist_of, h
 use Rattle.outcome_law.proofs.Recorded.{each_inserted}
 use Rattle.outcome_law.proofs.Managed.{desks_managed, is_enlist_by, is_managed_desk, one_manager}
 use Rattle.outcome_law.proofs.HalfKnows.{one_tag_more}
+use Rattle.outcome_law.proofs.Desked.{is_prepared_desk}
 
 -- An enlistment that said PREPARED said nothing else: it votes once.
 abbrev is_unprepared : ℕ → Entry → Bool
@@ -144,14 +145,11 @@ came_before : (e f : EnlNo) (h : List Entry) → (e.value == f.value) ≡ true �
 came_before e f h q k = has_more (is_opening_got (Enl f)) (is_enlist_got e.value) (enlist_of e.value f q) h (later_opened (Enl f) EnlistPrepared h k refl)
 
 -- The desk of an enlistment that said PREPARED: no message but another vote of it undoes that.
-abbrev pub is_desk_for : ℕ → Desk → Bool
-is_desk_for e d = is_desk_of e d && is_prepared d.ballot
-
-for_ballot : (e f : ℕ) (o : Option Ballot) (d : Desk) → (is_prepared o ≡ true) ⊎ ((o ≡ None) ⊎ ((e == f) ≡ false)) → is_desk_for e d ≡ true → is_desk_for e (with_ballot f o d) ≡ true
+for_ballot : (e f : ℕ) (o : Option Ballot) (d : Desk) → (is_prepared o ≡ true) ⊎ ((o ≡ None) ⊎ ((e == f) ≡ false)) → is_prepared_desk e d ≡ true → is_prepared_desk e (with_ballot f o d) ≡ true
 for_ballot e f None d c t = t
 for_ballot e f (Some b) d c t = by (is_desk_of f d) refl
   where
-    by : (z : Bool) → is_desk_of f d ≡ z → is_desk_for e (if z then record { enlistment = d.enlistment; manager = d.manager; ballot = Some b; acked = d.acked } else d) ≡ true
+    by : (z : Bool) → is_desk_of f d ≡ z → is_prepared_desk e (if z then record { enlistment = d.enlistment; manager = d.manager; ballot = Some b; acked = d.acked } else d) ≡ true
     by false q = t
     by true q =
         let here = and_left (is_desk_of e d) (is_prepared d.ballot) t in
@@ -163,7 +161,7 @@ for_ballot e f (Some b) d c t = by (is_desk_of f d) refl
         none : Some b ≡ None → ⊥
         none m = absurd cc
 
-for_acked : (e f : ℕ) (d : Desk) → is_desk_for e d ≡ true → is_desk_for e (with_ack f d) ≡ true
+for_acked : (e f : ℕ) (d : Desk) → is_prepared_desk e d ≡ true → is_prepared_desk e (with_ack f d) ≡ true
 for_acked e f d t = t
 
 if_both : {A : Type 0} (p : A → Bool) (b : Bool) (xs ys : List A) → has p xs ≡ true → has p ys ≡ true → has p (if b then xs else ys) ≡ true
@@ -174,23 +172,23 @@ if_runs : {A : Type 0} (p : A → Bool) (b : Bool) (xs ys : List A) → (b ≡ t
 if_runs p true xs ys a k = a refl
 if_runs p false xs ys a k = k
 
-ballot_stays : (e : ℕ) (f : EnlNo) (m : Message) (k : Coordinated) → (is_active k.stage ≡ true → (is_prepared (ballot_of m) ≡ true) ⊎ ((ballot_of m ≡ None) ⊎ ((e == f.value) ≡ false))) → has (is_desk_for e) k.desks ≡ true
-    → has (is_desk_for e) (if is_active k.stage then map (with_ballot f.value (ballot_of m)) k.desks else k.desks) ≡ true
+ballot_stays : (e : ℕ) (f : EnlNo) (m : Message) (k : Coordinated) → (is_active k.stage ≡ true → (is_prepared (ballot_of m) ≡ true) ⊎ ((ballot_of m ≡ None) ⊎ ((e == f.value) ≡ false))) → has (is_prepared_desk e) k.desks ≡ true
+    → has (is_prepared_desk e) (if is_active k.stage then map (with_ballot f.value (ballot_of m)) k.desks else k.desks) ≡ true
 ballot_stays e f m k c t =
-    if_runs (is_desk_for e) (is_active k.stage) (map (with_ballot f.value (ballot_of m)) k.desks) k.desks
-    (λ a. has_made (is_desk_for e) (is_desk_for e) (with_ballot f.value (ballot_of m)) (λ d s. for_ballot e f.value (ballot_of m) d (c a) s) k.desks t) t
+    if_runs (is_prepared_desk e) (is_active k.stage) (map (with_ballot f.value (ballot_of m)) k.desks) k.desks
+    (λ a. has_made (is_prepared_desk e) (is_prepared_desk e) (with_ballot f.value (ballot_of m)) (λ d s. for_ballot e f.value (ballot_of m) d (c a) s) k.desks t) t
 
 -- the entry is no restart
 abbrev is_no_restart : Entry → Bool
 is_no_restart (Restarted found) = false
 is_no_restart _ = true
 
-desk_stays : (e : ℕ) (k : Coordinated) (x : Entry) → is_no_restart x ≡ true → (is_active k.stage ≡ true → is_unprepared e x ≡ false) → has (is_desk_for e) k.desks ≡ true → has (is_desk_for e) (desks_after k x) ≡ true
+desk_stays : (e : ℕ) (k : Coordinated) (x : Entry) → is_no_restart x ≡ true → (is_active k.stage ≡ true → is_unprepared e x ≡ false) → has (is_prepared_desk e) k.desks ≡ true → has (is_prepared_desk e) (desks_after k x) ≡ true
 desk_stays e k (Got (Enl f) Up (EnlistEnlist i)) n u t =
     let new : Desk = record { enlistment = f; manager = i.rm; ballot = None; acked = false } in
-    if_both (is_desk_for e) (accepts k) (insert_by desk_number new k.desks) k.desks (has-insert (is_desk_for e) desk_number new k.desks ∙ or_right (is_desk_for e new) (has (is_desk_for e) k.desks) t) t
-desk_stays e k (Got (Enl f) Up EnlistAck) n u t = has_made (is_desk_for e) (is_desk_for e) (with_ack f.value) (λ d a. for_acked e f.value d a) k.desks t
-desk_stays e k (Got (Again f) Up ReenlistAck) n u t = has_made (is_desk_for e) (is_desk_for e) (with_ack f.value) (λ d a. for_acked e f.value d a) k.desks t
+    if_both (is_prepared_desk e) (accepts k) (insert_by desk_number new k.desks) k.desks (has-insert (is_prepared_desk e) desk_number new k.desks ∙ or_right (is_prepared_desk e new) (has (is_prepared_desk e) k.desks) t) t
+desk_stays e k (Got (Enl f) Up EnlistAck) n u t = has_made (is_prepared_desk e) (is_prepared_desk e) (with_ack f.value) (λ d a. for_acked e f.value d a) k.desks t
+desk_stays e k (Got (Again f) Up ReenlistAck) n u t = has_made (is_prepared_desk e) (is_prepared_desk e) (with_ack f.value) (λ d a. for_acked e f.value d a) k.desks t
 desk_stays e k (Got (Enl f) Up EnlistPrepared) n u t = ballot_stays e f EnlistPrepared k (λ a. inl refl) t
 desk_stays e k (Got (Enl f) Up EnlistNo) n u t = ballot_stays e f EnlistNo k (λ a. inr (inr (u a))) t
 desk_stays e k (Got (Enl f) Up EnlistReadonly) n u t = ballot_stays e f EnlistReadonly k (λ a. inr (inr (u a))) t
@@ -199,29 +197,29 @@ desk_stays e k (Restarted b) n u t = absurd cc
 desk_stays e k x n u t = t
 
 -- a restart that finds the record keeps it
-for_kept : (e : ℕ) (ds : List Desk) → has (is_desk_for e) ds ≡ true → has (is_desk_for e) (map unacked (filter (λ d. is_prepared d.ballot) ds)) ≡ true
+for_kept : (e : ℕ) (ds : List Desk) → has (is_prepared_desk e) ds ≡ true → has (is_prepared_desk e) (map unacked (filter (λ d. is_prepared d.ballot) ds)) ≡ true
 for_kept e [] t = absurd cc
 for_kept e (d ∷ ds) t = by (for_kept e ds) (is_prepared d.ballot) refl
   where
-    by : (has (is_desk_for e) ds ≡ true → has (is_desk_for e) (map unacked (filter (λ d. is_prepared d.ballot) ds)) ≡ true) → (b : Bool) → is_prepared d.ballot ≡ b
-        → has (is_desk_for e) (map unacked (if b then d ∷ filter (λ d. is_prepared d.ballot) ds else filter (λ d. is_prepared d.ballot) ds)) ≡ true
+    by : (has (is_prepared_desk e) ds ≡ true → has (is_prepared_desk e) (map unacked (filter (λ d. is_prepared d.ballot) ds)) ≡ true) → (b : Bool) → is_prepared d.ballot ≡ b
+        → has (is_prepared_desk e) (map unacked (if b then d ∷ filter (λ d. is_prepared d.ballot) ds else filter (λ d. is_prepared d.ballot) ds)) ≡ true
     by ih true q =
-        or_case (is_desk_for e d) (has (is_desk_for e) ds) (λ a. or_left (is_desk_for e d) (has (is_desk_for e) (map unacked (filter (λ d. is_prepared d.ballot) ds))) a)
-        (λ a. or_right (is_desk_for e d) (has (is_desk_for e) (map unacked (filter (λ d. is_prepared d.ballot) ds))) (ih a)) t
+        or_case (is_prepared_desk e d) (has (is_prepared_desk e) ds) (λ a. or_left (is_prepared_desk e d) (has (is_prepared_desk e) (map unacked (filter (λ d. is_prepared d.ballot) ds))) a)
+        (λ a. or_right (is_prepared_desk e d) (has (is_prepared_desk e) (map unacked (filter (λ d. is_prepared d.ballot) ds))) (ih a)) t
     by ih false q =
-        or_case (is_desk_for e d) (has (is_desk_for e) ds) (λ a. absurd (not_both (is_prepared d.ballot) (and_right (is_desk_of e d) (is_prepared d.ballot) a) q)) ih t
+        or_case (is_prepared_desk e d) (has (is_prepared_desk e) ds) (λ a. absurd (not_both (is_prepared d.ballot) (and_right (is_desk_of e d) (is_prepared d.ballot) a) q)) ih t
 
 -- PREPARED is noted at the desk, while nothing is decided,
 noted_now : (e : EnlNo) (f : EnlNo) (k : Coordinated) → (e.value == f.value) ≡ true → is_active k.stage ≡ true → has (is_desk_of e.value) k.desks ≡ true
-    → has (is_desk_for e.value) (if is_active k.stage then map (with_ballot f.value (Some Prepared)) k.desks else k.desks) ≡ true
+    → has (is_prepared_desk e.value) (if is_active k.stage then map (with_ballot f.value (Some Prepared)) k.desks else k.desks) ≡ true
 noted_now e f k q a t =
-    let P : Bool → Type 0 = λ c. has (is_desk_for e.value) (if c then map (with_ballot f.value (Some Prepared)) k.desks else k.desks) ≡ true in
-    subst P (sym a) (has_made (is_desk_of e.value) (is_desk_for e.value) (with_ballot f.value (Some Prepared)) at k.desks t)
+    let P : Bool → Type 0 = λ c. has (is_prepared_desk e.value) (if c then map (with_ballot f.value (Some Prepared)) k.desks else k.desks) ≡ true in
+    subst P (sym a) (has_made (is_desk_of e.value) (is_prepared_desk e.value) (with_ballot f.value (Some Prepared)) at k.desks t)
   where
-    at : (d : Desk) → is_desk_of e.value d ≡ true → is_desk_for e.value (with_ballot f.value (Some Prepared) d) ≡ true
+    at : (d : Desk) → is_desk_of e.value d ≡ true → is_prepared_desk e.value (with_ballot f.value (Some Prepared) d) ≡ true
     at d s = by (is_desk_of f.value d) (let P : ℕ → Type 0 = λ n. (n == d.enlistment.value) ≡ true in subst P (eqb-true e.value f.value q) s)
       where
-        by : (c : Bool) → c ≡ true → is_desk_for e.value (if c then record { enlistment = d.enlistment; manager = d.manager; ballot = Some Prepared; acked = d.acked } else d) ≡ true
+        by : (c : Bool) → c ≡ true → is_prepared_desk e.value (if c then record { enlistment = d.enlistment; manager = d.manager; ballot = Some Prepared; acked = d.acked } else d) ≡ true
         by true r = and_both (is_desk_of e.value d) true s refl
         by false r = absurd cc
 
@@ -234,7 +232,7 @@ not_restarting : (k : Coordinated) (x : Entry) → is_undecided (stage_after k x
 not_restarting k (Restarted b) u = absurd (restart_open b k.stage u)
 not_restarting k _ u = refl
 
-noted_open : (e : EnlNo) (h : List Entry) → Keeps h → is_undecided (coordinate h).stage ≡ true → has (is_prepared_got e.value) h ≡ true → has (is_desk_for e.value) (coordinate h).desks ≡ true
+noted_open : (e : EnlNo) (h : List Entry) → Keeps h → is_undecided (coordinate h).stage ≡ true → has (is_prepared_got e.value) h ≡ true → has (is_prepared_desk e.value) (coordinate h).desks ≡ true
 unfolding coordinate follow
 noted_open e [] k u t = absurd cc
 noted_open e (x ∷ h) k u t =
@@ -243,7 +241,7 @@ noted_open e (x ∷ h) k u t =
     (λ a. let w = prepared_is e.value x a in
     let now = subst (λ y. Keeps (y ∷ h)) w.1 k in
     let active = active_begun h (work_begun (Enl w.0) EnlistPrepared h refl now) early in
-    subst (λ y. has (is_desk_for e.value) (desks_after (coordinate h) y) ≡ true) (sym w.1)
+    subst (λ y. has (is_prepared_desk e.value) (desks_after (coordinate h) y) ≡ true) (sym w.1)
     (noted_now e w.0 (coordinate h) w.2 active (desk_there e.value h (keeps_before x h k) early (came_before e w.0 h w.2 now))))
     (λ a. desk_stays e.value (coordinate h) x (not_restarting (coordinate h) x u) (λ z. no_other e x h k a) (noted_open e h (keeps_before x h k) early a)) t
 
@@ -350,8 +348,8 @@ recorded_idle : (s : Stage) → is_recorded s ≡ true → is_active s ≡ true 
 recorded_idle Recorded r a = absurd cc
 recorded_idle _ r a = absurd cc
 
-still_noted : (e : EnlNo) (x : Entry) (h : List Entry) → Keeps (x ∷ h) → is_no_restart x ≡ true → has_mark h ≡ true → (has (is_prepared_got e.value) h ≡ true → has (is_desk_for e.value) (coordinate h).desks ≡ true)
-    → has (is_prepared_got e.value) (x ∷ h) ≡ true → has (is_desk_for e.value) (desks_after (coordinate h) x) ≡ true
+still_noted : (e : EnlNo) (x : Entry) (h : List Entry) → Keeps (x ∷ h) → is_no_restart x ≡ true → has_mark h ≡ true → (has (is_prepared_got e.value) h ≡ true → has (is_prepared_desk e.value) (coordinate h).desks ≡ true)
+    → has (is_prepared_got e.value) (x ∷ h) ≡ true → has (is_prepared_desk e.value) (desks_after (coordinate h) x) ≡ true
 still_noted e x h k n m ih t =
     let idle : is_active (coordinate h).stage ≡ true → is_unprepared e.value x ≡ false = λ a. absurd (recorded_idle (coordinate h).stage (recorded_mark h ∙ m) a) in
     desk_stays e.value (coordinate h) x n idle (ih (by (has (is_prepared_got e.value) h) refl))
@@ -366,7 +364,7 @@ still_noted e x h k n m ih t =
         absurd (votes_agree e (x ∷ h) k t (or_right (is_unprepared e.value x) (has (is_unprepared e.value) h) said)))
         (λ a. a) t
 
-pub noted_recorded : (e : EnlNo) (h : List Entry) → Keeps h → has_mark h ≡ true → has (is_prepared_got e.value) h ≡ true → has (is_desk_for e.value) (coordinate h).desks ≡ true
+pub noted_recorded : (e : EnlNo) (h : List Entry) → Keeps h → has_mark h ≡ true → has (is_prepared_got e.value) h ≡ true → has (is_prepared_desk e.value) (coordinate h).desks ≡ true
 unfolding coordinate follow
 noted_recorded e [] k m t = absurd cc
 noted_recorded e (Logged ∷ h) k m t = noted_open e h (keeps_before Logged h k) (can_open h (keeps_before Logged h k) (newest Logged h k)) t
@@ -478,10 +476,10 @@ enlist_by e r h k t =
 
 -- So each enlistment that said PREPARED is finished where its desk is.
 finished_at : (h : List Entry) → Keeps h → (e : EnlNo) (r : ℕ) → has (is_enlist_by e.value r) h ≡ true → (ds : List Desk) → each (λ d. not (is_prepared d.ballot) || is_finished (coordinate h).recovered d) ds ≡ true
-    → each (is_acked_desk h) ds ≡ true → each (is_managed_desk h) ds ≡ true → has (is_desk_for e.value) ds ≡ true → (is_acked e.value h || has (is_recovery r) h) ≡ true
+    → each (is_acked_desk h) ds ≡ true → each (is_managed_desk h) ds ≡ true → has (is_prepared_desk e.value) ds ≡ true → (is_acked e.value h || has (is_recovery r) h) ≡ true
 finished_at h k e r by [] f a m t = absurd cc
 finished_at h k e r by (d ∷ ds) f a m t =
-    or_case (is_desk_for e.value d) (has (is_desk_for e.value) ds)
+    or_case (is_prepared_desk e.value d) (has (is_prepared_desk e.value) ds)
     (λ s. here (and_left (is_desk_of e.value d) (is_prepared d.ballot) s) (and_right (is_desk_of e.value d) (is_prepared d.ballot) s))
     (λ s. finished_at h k e r by ds (and_right (not (is_prepared d.ballot) || is_finished (coordinate h).recovered d) (each (λ d. not (is_prepared d.ballot) || is_finished (coordinate h).recovered d) ds) f)
     (and_right (is_acked_desk h d) (each (is_acked_desk h) ds) a) (and_right (is_managed_desk h d) (each (is_managed_desk h) ds) m) s) t

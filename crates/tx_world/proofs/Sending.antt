@@ -14,7 +14,7 @@ use Rattle.dtx_values.specs.declared.number.TxNo.{TxNo}
 use Rattle.dtx_model.specs.Words.{has}
 use Rattle.dtx_model.specs.World.{World, answer_at, half}
 use Rattle.dtx_model.specs.Steps.{Step, Acts, Calls, Replies, after, block_at}
-use Rattle.dtx_model.specs.Caused.{IsIn, IsOwnRun, is_promoting_entry, is_unpromoted}
+use Rattle.dtx_model.specs.Caused.{IsIn, IsOwnRun, is_unpromoted}
 use Rattle.dtx_model.proofs.Blocks.{of_called, of_reply, of_whole_act}
 use Rattle.dtx_model.proofs.Bools.{not_both, not_false, not_true, or_first}
 use Rattle.dtx_model.proofs.Local.{free-local, has-onto}
@@ -27,6 +27,7 @@ use Rattle.tx_world.specs.Sending.{is_sent, may_promote}
 use Rattle.tx_world.proofs.Entering.{has_none}
 use Rattle.tx_world.proofs.Onward.{half_is}
 use Rattle.tx_world.proofs.Written.{Ready}
+use Rattle.dtx_model.specs.Promotes.{is_promoting}
 
 -- the entry begins no promotion
 abbrev is_calm : Entry → Bool
@@ -43,29 +44,29 @@ calm_entry s b x t = e_one x (passes x t)
     passes (Promoting c) t = absurd (not_both (begins s) t b)
     passes _ t = refl
 
-unpromising : (x : Entry) → is_calm x ≡ true → is_promoting_entry x ≡ false
+unpromising : (x : Entry) → is_calm x ≡ true → is_promoting x ≡ false
 unpromising (Promoting c) k = absurd cc
 unpromising _ k = refl
 
-none_begins : {es : List Entry} → Each is_calm es → has is_promoting_entry es ≡ false
-none_begins {es} k = has_none is_calm is_promoting_entry unpromising es k.proof
+none_begins : {es : List Entry} → Each is_calm es → has is_promoting es ≡ false
+none_begins {es} k = has_none is_calm is_promoting unpromising es k.proof
 
 -- the local act begins none, nor does a reply, nor a call but those that may
-pub act_calm : (t : ℕ) (w : World) → has is_promoting_entry (block_at t w Acts) ≡ false
+pub act_calm : (t : ℕ) (w : World) → has is_promoting (block_at t w Acts) ≡ false
 unfolding block_at
 act_calm t w =
     none_begins
     (of_whole_act calm (half w) (calm_entry (ByAct (is_some (half w).seen.decided)) refl) (λ e. e_one (Asked e Promote) refl) (λ e. e_one (Asked e AskSingle) refl) (e_one Sealed refl)
     (e_one (Sent Begin Up BeginCommit) refl))
 
-pub reply_calm : (t : ℕ) (w : World) (e : EnlNo) (r : Reply) → has is_promoting_entry (block_at t w (Replies e r)) ≡ false
+pub reply_calm : (t : ℕ) (w : World) (e : EnlNo) (r : Reply) → has is_promoting (block_at t w (Replies e r)) ≡ false
 unfolding block_at
 reply_calm t w e r = none_begins (of_reply calm (half w) e r (calm_entry (ByReply r) refl))
 
 begins_none : (c : Call) → may_promote c ≡ false → begins (ByCall c) ≡ false
 begins_none c k = k
 
-pub call_calm : (t : ℕ) (w : World) (n : ℕ) (a : ActorNo) (c : Call) (m : ℕ) → may_promote c ≡ false → has is_promoting_entry (block_at t w (Calls n a c m)) ≡ false
+pub call_calm : (t : ℕ) (w : World) (n : ℕ) (a : ActorNo) (c : Call) (m : ℕ) → may_promote c ≡ false → has is_promoting (block_at t w (Calls n a c m)) ≡ false
 unfolding block_at
 call_calm t w n a c m k =
     let x = answer_at t w c m in
@@ -77,14 +78,14 @@ local_unsent (Sent c d m) k = absurd cc
 local_unsent _ k = refl
 
 -- A step that is ready, where no promotion began, and it begins none, sends nothing.
-ready_unsent : {t : TxNo} {w : World} {m : Step} {g : Known} {k : CoreKept} {p xs : List Entry} → Ready t w m g k p xs → has is_promoting_entry (block_at t.value w m) ≡ false → is_unpromoted w.past ≡ true
+ready_unsent : {t : TxNo} {w : World} {m : Step} {g : Known} {k : CoreKept} {p xs : List Entry} → Ready t w m g k p xs → has is_promoting (block_at t.value w m) ≡ false → is_unpromoted w.past ≡ true
     → has is_sent xs ≡ false
 unfolding after
 ready_unsent {t} {w} {m} {g} {k} {p} {xs} r calm_block u =
     let v = after t.value w m in
     let block = block_at t.value w m in
-    let none : has is_promoting_entry v.past ≡ false = has-onto is_promoting_entry w.past block ∙ ap (λ b. b || has is_promoting_entry w.past) calm_block ∙ not_true (has is_promoting_entry w.past) u in
-    let local = free-local (IsIn v.calls) t.value v.past (v.calls, r.kept.ran) (not_false (has is_promoting_entry v.past) none) in
+    let none : has is_promoting v.past ≡ false = has-onto is_promoting w.past block ∙ ap (λ b. b || has is_promoting w.past) calm_block ∙ not_true (has is_promoting w.past) u in
+    let local = free-local (IsIn v.calls) t.value v.past (v.calls, r.kept.ran) (not_false (has is_promoting v.past) none) in
     let unsent = has_none is_local is_sent local_unsent v.past local in
     or_first (has is_sent xs) (has is_sent p) (sym (has-onto is_sent p xs) ∙ ap (has is_sent) r.past ∙ unsent)
 
@@ -102,7 +103,7 @@ unpromoted_there {t} {w} {h} {j} u kept says n = sym (says w (follows_kept t w h
     is_true false n = absurd cc
 
 -- and then that it sends nothing
-pub unsent_there : {t : TxNo} {w : World} {m : Step} {h g : Known} {j k : CoreKept} {p xs : List Entry} (u : Bool) → Kept t w h j → Ready t w m g k p xs → has is_promoting_entry (block_at t.value w m) ≡ false
+pub unsent_there : {t : TxNo} {w : World} {m : Step} {h g : Known} {j k : CoreKept} {p xs : List Entry} (u : Bool) → Kept t w h j → Ready t w m g k p xs → has is_promoting (block_at t.value w m) ≡ false
     → ((v : World) → Follows h.transaction.value v h.half → u ≡ is_unpromoted v.past) → not u ≡ false → has is_sent xs ≡ false
 unsent_there u kept r calm_block says n = ready_unsent r calm_block (unpromoted_there u kept says n)
 

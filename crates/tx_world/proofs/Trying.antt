@@ -3,9 +3,9 @@
 use Rattle.std.proofs.Common.{◌≡◌, ◌∙◌, inl, inr, ℕ, Bool, true, false, ◌&&◌, ◌||◌, not, List, [], ◌∷◌, Option, Some, None, is_some, refl, ap, sym, subst}
 use Rattle.dtx_values.specs.declared.entry.Entry.{Entry}
 use Rattle.dtx_values.specs.declared.entry.Entry.TheVariants.{Freed, Logged, Restarted, Stopped}
-use Rattle.dtx_model.specs.Words.{each, has, latest, onto}
+use Rattle.dtx_model.specs.Words.{each, has, holds, latest, onto}
 use Rattle.dtx_model.specs.Log.{CommitRecord}
-use Rattle.dtx_model.specs.Tied.{before_first_stop, before_last_stop, can_free, can_log, has_mark, is_marked, is_stop, is_tied, is_unmarked, mark_of, tied}
+use Rattle.dtx_model.specs.Tied.{before_first_stop, before_last_stop, can_free, can_log, has_mark, is_stop, is_tied, is_unmarked, mark_of, tied}
 use Rattle.dtx_model.specs.Coordinated.{coordinate, follow, is_undecided}
 use Rattle.dtx_model.proofs.Bools.{and_both, and_left, and_right, not_both, or_right}
 use Rattle.outcome_law.proofs.CoreStages.{open_before, recorded_mark, restart_open, stopped_same}
@@ -55,7 +55,7 @@ latest_onto h (x ∷ es) i =
     latest_onto (x ∷ h) es (and_right (is_elsewhere x) (each is_elsewhere es) i) ∙ latest_more x h (mark_none x (and_left (is_elsewhere x) (each is_elsewhere es) i))
 
 sure_on : (h n : List Entry) (x : Kept) → latest mark_of n ≡ latest mark_of h → IsSure h x → IsSure n x
-sure_on h n x e s = record { there = s.there ∙ ap (λ (o : Option Bool). is_marked o) (sym e); sure = s.sure }
+sure_on h n x e s = record { there = s.there ∙ ap (λ (o : Option Bool). holds o) (sym e); sure = s.sure }
 
 -- and, where the coordinator stopped before, what stands before its first and its last stop.
 first_more : (x : Entry) (h : List Entry) → is_elsewhere x ≡ true → has is_stop h ≡ true → before_first_stop (x ∷ h) ≡ before_first_stop h
@@ -69,10 +69,10 @@ last_more x h i = refl
 tried_same : (h n : List Entry) (x : Kept) → latest mark_of n ≡ latest mark_of h → before_first_stop n ≡ before_first_stop h → before_last_stop n ≡ before_last_stop h → IsTried h x → IsTried n x
 tried_same h n x e f l t =
     record {
-      tried = λ o. ap (λ (m : Option Bool). is_marked m || (is_unmarked m && can_log (before_first_stop n))) e
+      tried = λ o. ap (λ (m : Option Bool). holds m || (is_unmarked m && can_log (before_first_stop n))) e
           ∙ ap (λ (g : List Entry). has_mark h || (is_unmarked (latest mark_of h) && can_log g)) f ∙ t.tried o;
-      kept = λ o. t.kept (ap (λ (m : Option Bool). is_marked m) (sym e) ∙ o);
-      unsure = λ o. ap (λ (m : Option Bool). not (is_marked m) || can_free (before_last_stop n)) e ∙ ap (λ (g : List Entry). not (has_mark h) || can_free g) l ∙ t.unsure o;
+      kept = λ o. t.kept (ap (λ (m : Option Bool). holds m) (sym e) ∙ o);
+      unsure = λ o. ap (λ (m : Option Bool). not (holds m) || can_free (before_last_stop n)) e ∙ ap (λ (g : List Entry). not (has_mark h) || can_free g) l ∙ t.unsure o;
     }
 
 tried_stays : (h es : List Entry) (x : Kept) → each is_elsewhere es ≡ true → has is_stop h ≡ true → IsTried h x → IsTried (onto h es) x
@@ -122,9 +122,9 @@ unmarked_open (x ∷ h) u = unmarked_open h (open_before (coordinate h) x u)
 pub append_tried : (h : List Entry) (x : Kept) → can_log h ≡ true → has is_stop h ≡ false → latest mark_of h ≡ None → IsTried (Stopped ∷ h) x
 append_tried h x can unstopped none =
     record {
-      tried = λ t. ap (λ (m : Option Bool). is_marked m || (is_unmarked m && can_log (before_first_stop (Stopped ∷ h)))) none ∙ ap can_log (first_none h h unstopped) ∙ can;
-      kept = λ t. absurd (never (has_mark h) t (ap (λ (m : Option Bool). is_marked m) none));
-      unsure = λ t. ap (λ (m : Option Bool). not (is_marked m) || can_free h) none;
+      tried = λ t. ap (λ (m : Option Bool). holds m || (is_unmarked m && can_log (before_first_stop (Stopped ∷ h)))) none ∙ ap can_log (first_none h h unstopped) ∙ can;
+      kept = λ t. absurd (never (has_mark h) t (ap (λ (m : Option Bool). holds m) none));
+      unsure = λ t. ap (λ (m : Option Bool). not (holds m) || can_free h) none;
     }
 
 pub free_tried : (h : List Entry) (x : Kept) → can_free h ≡ true → has_mark h ≡ true → is_some x.ours ≡ true → IsTried (Stopped ∷ h) x

@@ -71,8 +71,3 @@ is_countable past = nat_le (length past) 4294967295
 abbrev pub is_recovered : Call → Bool
 is_recovered (Recovered t r) = true
 is_recovered _ = false
-
--- the call says that an enlistment comes back
-abbrev pub is_reenlist : Call → Bool
-is_reenlist (Reenlist e) = true
-is_reenlist _ = false

@@ -12,13 +12,14 @@ use Rattle.dtx_values.specs.declared.message.Message.{Message}
 use Rattle.dtx_values.specs.Lines.{has_line}
 use Rattle.dtx_model.specs.Frames.{frame_of}
 use Rattle.dtx_model.specs.Outcome.{is_empty}
-use Rattle.dtx_model.specs.Wires.{MayCross, WireRun, begins_ended, ended_after, ends, holds, is_ended, is_kept, is_lost_wire, is_open_wire, is_stopped, in_transit, kept, loses, lost_after, lost_since, opened_with, opens, same_connection, same_direction, sent_behind, transit_after, transit_after_stop, without_first}
+use Rattle.dtx_model.specs.Wires.{MayCross, WireRun, begins_ended, ended_after, ends, is_ended, is_kept, is_lost_wire, is_open_wire, is_stopped, in_transit, kept, loses, lost_after, lost_since, opened_with, opens, same_connection, same_direction, sent_behind, transit_after, transit_after_stop, without_first}
 use Rattle.dtx_model.specs.World.{has_left, is_linked}
 use Rattle.dtx_model.proofs.Bools.{and_left, and_right, not_both, or_case, or_false, or_first, or_right, or_second}
 use Rattle.oletx_session.specs.Traffic.{Wire, has_left as is_left_on, is_open, is_taken, lane, may_send, opposite, wire_of}
 use Rattle.oletx_session.specs.Carries.{Carries, IsLane, IsWire}
 use Rattle.dtx_model.proofs.Connections.{same_is}
 use Rattle.oletx_session.proofs.Views.{frame_full}
+use Rattle.dtx_model.specs.Words.{holds}
 
 -- whether it is lost, where the history says so
 lost_is : (c : Conn) (h : List Entry) (l : Bool) → lost_since c h ≡ Some l → is_lost_wire c h ≡ l

@@ -28,8 +28,8 @@ use Rattle.dtx_model.specs.Caused.{AreMadeOnce, MayCome, Ran}
 use Rattle.dtx_model.specs.Entries.{began_of, decision_of, is_call, is_decision, is_promoted, is_sealed}
 use Rattle.dtx_model.specs.Facts.{begin_promotion, durable_facts, facts_if, has_facts}
 use Rattle.dtx_model.specs.Half.{Half, enlist_sent, info, is_promoting}
-use Rattle.dtx_model.specs.Observed.{branches, observe, rows}
-use Rattle.dtx_model.specs.Promotes.{identifier_of, is_failed}
+use Rattle.dtx_model.specs.Observed.{branches, is_promotion_failed, observe, rows}
+use Rattle.dtx_model.specs.Promotes.{identifier_of}
 use Rattle.dtx_model.specs.Replies.{reply_entries}
 use Rattle.dtx_model.specs.Steps.{Step, Calls, Replies, Acts, Coordinates, Delivers, Stops, Restarts, after, block_at, called, coordinates, restarted}
 use Rattle.dtx_model.specs.Waiting.{call_at, is_place, is_place_of, waiter_line, waiting, wanted}
@@ -101,7 +101,7 @@ called_places : (ks : List EnteredCall) (n : ℕ) (a : ActorNo) (x : Answer) (h 
 called_places ks n a Wait h p = how_many-insert_by is_place waiter_line (n, wanted (call_at ks n)) (waiting ks h) ∙ rw p refl
 called_places ks n a _ h p = refl
 
-entered_roomy : (t : ℕ) (w : World) (n : ℕ) (a : ActorNo) (c : Call) (m : ℕ) → has (is_call n) w.past ≡ false → (has is_failed w.past ≡ true → has is_decision w.past ≡ true) → IsIdle w.calls w.past → Roomy w.calls w.past
+entered_roomy : (t : ℕ) (w : World) (n : ℕ) (a : ActorNo) (c : Call) (m : ℕ) → has (is_call n) w.past ≡ false → (has is_promotion_failed w.past ≡ true → has is_decision w.past ≡ true) → IsIdle w.calls w.past → Roomy w.calls w.past
     → Roomy (record { line = n; actor = a; call = c } ∷ w.calls) (onto w.past (called t w n a c (answer_at t w c m)))
 unfolding answer_at local_answer observe
 entered_roomy t w n a (Durable u e r s) m new failed idle i =
@@ -149,7 +149,7 @@ entered_roomy t w n a c m new failed idle i =
     (call_roomy w.calls w.past own new i))
 
 -- After each step.
-step_roomy : (G : ℕ → ActorNo → Call → Type 0) (t : ℕ) (w : World) (m : Step) → MayCome G t w m → OfEach (IsWaiter G w.calls w.past) (waiting w.calls w.past) → (has is_failed w.past ≡ true → has is_decision w.past ≡ true)
+step_roomy : (G : ℕ → ActorNo → Call → Type 0) (t : ℕ) (w : World) (m : Step) → MayCome G t w m → OfEach (IsWaiter G w.calls w.past) (waiting w.calls w.past) → (has is_promotion_failed w.past ≡ true → has is_decision w.past ≡ true)
     → IsIdle w.calls w.past → Roomy w.calls w.past → Roomy (after t w m).calls (after t w m).past
 unfolding after block_at
 step_roomy G t w (Calls n a c m) q o failed idle i = entered_roomy t w n a c m q.1 failed idle i

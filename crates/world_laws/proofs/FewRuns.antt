@@ -37,8 +37,8 @@ use Rattle.dtx_model.specs.Coordinated.{may_log}
 use Rattle.dtx_model.specs.Entries.{began_of, decision_of, is_call, is_decision, is_promoted, is_sealed}
 use Rattle.dtx_model.specs.Facts.{begin_promotion, durable_facts, facts_if, has_facts}
 use Rattle.dtx_model.specs.Half.{Half, by_manager, enlist_sent, given, info, is_handed, is_promoting, over, promoted_by, sees}
-use Rattle.dtx_model.specs.Observed.{Observed, handover, observe, rows, track}
-use Rattle.dtx_model.specs.Promotes.{identifier_of, is_failed, is_promoting as is_start}
+use Rattle.dtx_model.specs.Observed.{Observed, handover, is_promotion_failed, observe, rows, track}
+use Rattle.dtx_model.specs.Promotes.{identifier_of, is_promoting as is_start}
 use Rattle.dtx_model.specs.Replies.{reply_entries}
 use Rattle.dtx_model.specs.Steps.{Step, Calls, Replies, Acts, Coordinates, Delivers, Stops, Restarts, after, block_at, called, coordinates, delivered, ended_at, got_by, restarted}
 use Rattle.dtx_model.specs.Waiting.{Waiter, call_at, is_place, is_place_of, waiter_line, waiting, wanted}
@@ -117,7 +117,7 @@ durable_caused false false false false false (Some c) k q = refl
 durable_caused false false false false false None k q = absurd cc
 
 started : (h : List Entry) → is_promoting (observe h) ≡ true → has is_start h ≡ true
-started h k = by (has is_start h) (has is_promoted h) (has is_failed h) (sym (way_seen h) ∙ k)
+started h k = by (has is_start h) (has is_promoted h) (has is_promotion_failed h) (sym (way_seen h) ∙ k)
   where
     by : (s p f : Bool) → (s && not p && not f) ≡ true → s ≡ true
     by true p f k = refl

@@ -19,9 +19,9 @@ use Rattle.dtx_values.specs.Table.{how_many}
 use Rattle.dtx_model.specs.Words.{has}
 use Rattle.dtx_model.specs.Entries.{is_any_hand, is_decision, is_promoted, is_sealed}
 use Rattle.dtx_model.specs.Frames.{is_valid}
-use Rattle.dtx_model.specs.Observed.{ends_of, observe}
+use Rattle.dtx_model.specs.Observed.{ends_of, is_promotion_failed, observe}
 use Rattle.dtx_model.specs.Outcome.{durables, ready}
-use Rattle.dtx_model.specs.Promotes.{ends_refused, is_begun_got, is_created_got, is_failed, is_promoting, is_under_way}
+use Rattle.dtx_model.specs.Promotes.{ends_refused, is_begun_got, is_created_got, is_promoting, is_under_way}
 use Rattle.dtx_model.specs.Steps.{Step}
 use Rattle.dtx_model.specs.Wires.{is_ended, lost_since, opens}
 use Rattle.dtx_model.specs.World.{World, is_linked}
@@ -273,24 +273,24 @@ unpromoted h k n = false_from_ne_true (has is_promoted h) (λ s. not_both (has i
 unhanded : (h : List Entry) → Keeps h → has is_promoting h ≡ true → has is_any_hand h ≡ false
 unhanded h k p = false_from_ne_true (has is_any_hand h) (λ s. not_both (has is_promoting h) p (unpromoting h k s))
 
-failed_way : (x : Entry) (h : List Entry) → Keeps h → rule h x ≡ true → is_failed x ≡ true → has is_promoting h ≡ true
+failed_way : (x : Entry) (h : List Entry) → Keeps h → rule h x ≡ true → is_promotion_failed x ≡ true → has is_promoting h ≡ true
 failed_way PromotionFailed h k r t =
     let way = and_left (is_under_way h) (ends_refused h) r in
-    and_left (has is_promoting h) (not (has is_promoted h)) (and_left (has is_promoting h && not (has is_promoted h)) (not (has is_failed h)) way)
+    and_left (has is_promoting h) (not (has is_promoted h)) (and_left (has is_promoting h && not (has is_promoted h)) (not (has is_promotion_failed h)) way)
 failed_way _ h k r t = absurd cc
 
-unfailed : (h : List Entry) → Keeps h → has is_promoting h ≡ false → has is_failed h ≡ false
-unfailed h k n = false_from_ne_true (has is_failed h) (λ s. not_both (has is_promoting h) (before is_failed is_promoting failed_way h k s) n)
+unfailed : (h : List Entry) → Keeps h → has is_promoting h ≡ false → has is_promotion_failed h ≡ false
+unfailed h k n = false_from_ne_true (has is_promotion_failed h) (λ s. not_both (has is_promoting h) (before is_promotion_failed is_promoting failed_way h k s) n)
 
 -- the parts of a promotion that is under way
 way_began : (h : List Entry) → is_under_way h ≡ true → has is_promoting h ≡ true
-way_began h w = and_left (has is_promoting h) (not (has is_promoted h)) (and_left (has is_promoting h && not (has is_promoted h)) (not (has is_failed h)) w)
+way_began h w = and_left (has is_promoting h) (not (has is_promoted h)) (and_left (has is_promoting h && not (has is_promoted h)) (not (has is_promotion_failed h)) w)
 
 way_open : (h : List Entry) → is_under_way h ≡ true → has is_promoted h ≡ false
-way_open h w = not_true (has is_promoted h) (and_right (has is_promoting h) (not (has is_promoted h)) (and_left (has is_promoting h && not (has is_promoted h)) (not (has is_failed h)) w))
+way_open h w = not_true (has is_promoted h) (and_right (has is_promoting h) (not (has is_promoted h)) (and_left (has is_promoting h && not (has is_promoted h)) (not (has is_promotion_failed h)) w))
 
-way_whole : (h : List Entry) → is_under_way h ≡ true → has is_failed h ≡ false
-way_whole h w = not_true (has is_failed h) (and_right (has is_promoting h && not (has is_promoted h)) (not (has is_failed h)) w)
+way_whole : (h : List Entry) → is_under_way h ≡ true → has is_promotion_failed h ≡ false
+way_whole h w = not_true (has is_promotion_failed h) (and_right (has is_promoting h && not (has is_promoted h)) (not (has is_promotion_failed h)) w)
 
 -- Of the three at most one stands.
 apart : (a b : Bool) → (a ≡ true → b ≡ true → ⊥) → not (a && b) ≡ true

@@ -15,12 +15,13 @@ use Rattle.dtx_values.specs.Class.{is_promotable}
 use Rattle.dtx_values.specs.Lines.{has_line, is_opening}
 use Rattle.dtx_model.specs.Entries.{is_decision}
 use Rattle.dtx_model.specs.Frames.{is_valid}
-use Rattle.dtx_model.specs.Promotes.{is_failed, is_promoting}
+use Rattle.dtx_model.specs.Promotes.{is_promoting}
 use Rattle.dtx_model.specs.Wires.{begins_ended, ended_after, ends, is_ended, is_stopped, loses, lost_since, opens, same_connection}
 use Rattle.dtx_model.specs.Words.{each, has, onto}
 use Rattle.oletx_session.specs.Traffic.{opposite}
 use Rattle.dtx_model.proofs.Bools.{and_both, and_left, and_never, and_right, or_right}
 use Rattle.world_laws.specs.Carried.{are_sendable, is_sendable}
+use Rattle.dtx_model.specs.Observed.{is_promotion_failed}
 
 -- the connection was opened, and whoever sends in this direction didn't see its end
 abbrev pub can_send : Conn → Dir → List Entry → Bool
@@ -42,15 +43,15 @@ is_apt h _ = true
 -- each may follow, and where a promotion fails in the block, something is decided in it
 pub record Apt (h es : List Entry) : Type 0 where
   pub proof : each (is_apt h) es ≡ true
-  pub fails : (has is_decision es || not (has is_failed es)) ≡ true
+  pub fails : (has is_decision es || not (has is_promotion_failed es)) ≡ true
 
 -- an empty block
 pub apt_none : {h : List Entry} → Apt h []
 apt_none = record { proof = refl; fails = refl }
 
 -- one more entry first
-pub apt_cons : {h : List Entry} (x : Entry) {es : List Entry} → is_apt h x ≡ true → is_failed x ≡ false → Apt h es → Apt h (x ∷ es)
-apt_cons {h} x {es} p f q = record { proof = and_both (is_apt h x) (each (is_apt h) es) p q.proof; fails = by (is_decision x) (has is_decision es) (is_failed x) (has is_failed es) f q.fails }
+pub apt_cons : {h : List Entry} (x : Entry) {es : List Entry} → is_apt h x ≡ true → is_promotion_failed x ≡ false → Apt h es → Apt h (x ∷ es)
+apt_cons {h} x {es} p f q = record { proof = and_both (is_apt h x) (each (is_apt h) es) p q.proof; fails = by (is_decision x) (has is_decision es) (is_promotion_failed x) (has is_promotion_failed es) f q.fails }
   where
     by : (a b c d : Bool) → c ≡ false → (b || not d) ≡ true → ((a || b) || not (c || d)) ≡ true
     by true b c d e k = refl
@@ -73,7 +74,7 @@ apt_join {h} {x} {y} p q =
     record {
       proof = list_all-append (is_apt h) x y ∙ and_both (each (is_apt h) x) (each (is_apt h) y) p.proof q.proof;
       fails =
-          by (has is_decision x) (has is_decision y) (has is_failed x) (has is_failed y) (has is_decision (x ++ y)) (has is_failed (x ++ y)) (list_any-append is_decision x y) (list_any-append is_failed x y) p.fails q.fails;
+          by (has is_decision x) (has is_decision y) (has is_promotion_failed x) (has is_promotion_failed y) (has is_decision (x ++ y)) (has is_promotion_failed (x ++ y)) (list_any-append is_decision x y) (list_any-append is_promotion_failed x y) p.fails q.fails;
     }
   where
     by : (a b c d u v : Bool) → u ≡ (a || b) → v ≡ (c || d) → (a || not c) ≡ true → (b || not d) ≡ true → (u || not v) ≡ true
@@ -88,11 +89,11 @@ apt_join {h} {x} {y} p q =
     by false false false false false false e f p q = refl
 
 -- a block of one entry
-pub apt_one : {h : List Entry} (x : Entry) → is_apt h x ≡ true → is_failed x ≡ false → Apt h (x ∷ [])
+pub apt_one : {h : List Entry} (x : Entry) → is_apt h x ≡ true → is_promotion_failed x ≡ false → Apt h (x ∷ [])
 apt_one x p f = apt_cons x p f apt_none
 
 -- an entry for each item
-pub apt_map : {h : List Entry} {A : Type 0} (f : A → Entry) → ((a : A) → is_apt h (f a) ≡ true) → ((a : A) → is_failed (f a) ≡ false) → (xs : List A) → Apt h (map f xs)
+pub apt_map : {h : List Entry} {A : Type 0} (f : A → Entry) → ((a : A) → is_apt h (f a) ≡ true) → ((a : A) → is_promotion_failed (f a) ≡ false) → (xs : List A) → Apt h (map f xs)
 apt_map f p q [] = apt_none
 apt_map f p q (x ∷ xs) = apt_cons (f x) (p x) (q x) (apt_map f p q xs)
 

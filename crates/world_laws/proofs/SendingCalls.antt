@@ -39,13 +39,13 @@ use Rattle.dtx_model.specs.Entries.{began_of, decision_of, is_decision, is_promo
 use Rattle.dtx_model.specs.Facts.{begin_promotion, durable_facts, facts_if, has_facts}
 use Rattle.dtx_model.specs.Grammar.{OfEnlistment}
 use Rattle.dtx_model.specs.Half.{Half, enlist_sent, info, is_promoting}
-use Rattle.dtx_model.specs.Observed.{Observed, branches, is_ask_promote, is_branch, is_promote_reply, observe, rows}
+use Rattle.dtx_model.specs.Observed.{Observed, branches, is_ask_promote, is_branch, is_promote_reply, is_promotion_failed, observe, rows}
 use Rattle.dtx_model.specs.Outcome.{enlisted, is_empty}
-use Rattle.dtx_model.specs.Promotes.{identifier_of, is_failed, is_promoting as is_start}
+use Rattle.dtx_model.specs.Promotes.{identifier_of, is_promoting as is_start}
 use Rattle.dtx_model.specs.Replies.{due_of, fits, promote_entries}
 use Rattle.dtx_model.specs.Steps.{called}
-use Rattle.dtx_model.specs.Wires.{holds, in_transit, is_ended, is_stopped, lost_since, loses, opens}
-use Rattle.dtx_model.specs.Words.{each, has, latest, onto}
+use Rattle.dtx_model.specs.Wires.{in_transit, is_ended, is_stopped, lost_since, loses, opens}
+use Rattle.dtx_model.specs.Words.{each, has, holds, latest, onto}
 use Rattle.dtx_model.specs.World.{World, answer_at, facts_at, half, core, is_connected, is_finished_there, is_linked, reenlist_by, reenlist_facts, unless_stopped}
 use Rattle.dtx_model.proofs.Bools.{and_left, and_right, not_both, not_false, not_true, or_case, or_second}
 use Rattle.outcome_law.proofs.Crossed.{is_sent_on}
@@ -68,10 +68,10 @@ no : false ≡ true → ⊥
 no e = absurd cc
 
 -- Where it isn't promoted, isn't promoting, and nothing is decided, no promotion began.
-pub unstarted : (h : List Entry) → has is_promoted h ≡ false → is_promoting (observe h) ≡ false → latest decision_of h ≡ None → (has is_failed h ≡ true → has is_decision h ≡ true) → has is_start h ≡ false
+pub unstarted : (h : List Entry) → has is_promoted h ≡ false → is_promoting (observe h) ≡ false → latest decision_of h ≡ None → (has is_promotion_failed h ≡ true → has is_decision h ≡ true) → has is_start h ≡ false
 unstarted h p w d f =
-    by (has is_start h) (has is_promoted h) (has is_failed h) p
-    (false_from_ne_true (has is_failed h) (λ k. not_both (has is_decision h) (f k) (sym (decision_seen h) ∙ ap (λ (o : Option Outcome). is_some o) d))) (sym (way_seen h) ∙ w)
+    by (has is_start h) (has is_promoted h) (has is_promotion_failed h) p
+    (false_from_ne_true (has is_promotion_failed h) (λ k. not_both (has is_decision h) (f k) (sym (decision_seen h) ∙ ap (λ (o : Option Outcome). is_some o) d))) (sym (way_seen h) ∙ w)
   where
     by : (s p f : Bool) → p ≡ false → f ≡ false → (s && not p && not f) ≡ false → s ≡ false
     by true false false a b k = absurd cc

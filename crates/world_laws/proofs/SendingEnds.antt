@@ -19,8 +19,8 @@ use Rattle.dtx_values.specs.RecoveryInfo.{is_id}
 use Rattle.dtx_model.specs.Entries.{is_decision, is_promoted}
 use Rattle.dtx_model.specs.Frames.{is_valid}
 use Rattle.dtx_model.specs.Half.{is_handed}
-use Rattle.dtx_model.specs.Observed.{branches, handover, is_branch, is_promote_reply}
-use Rattle.dtx_model.specs.Promotes.{is_begun_got, is_created_got, is_failed, is_promoting}
+use Rattle.dtx_model.specs.Observed.{branches, handover, is_branch, is_promote_reply, is_promotion_failed}
+use Rattle.dtx_model.specs.Promotes.{is_begun_got, is_created_got, is_promoting}
 use Rattle.dtx_model.specs.Wires.{opens, same_connection}
 use Rattle.dtx_model.specs.Words.{each, has, onto}
 use Rattle.dtx_model.specs.World.{is_linked, was_opened}
@@ -38,7 +38,7 @@ no e = absurd cc
 pub record Ends (h : List Entry) : Type 0 where
   pub sendable : are_sendable h ≡ true
   pub opened : Opened h
-  pub failed : has is_failed h ≡ true → has is_decision h ≡ true
+  pub failed : has is_promotion_failed h ≡ true → has is_decision h ≡ true
 
 -- before the first step
 pub none_ends : Ends []
@@ -58,7 +58,7 @@ apt_ends h es a i = record {
   opened = apt_opened h es a.proof i.opened;
   failed =
       λ k. has-onto is_decision h es
-      ∙ by (has is_failed es) (has is_failed h) (has is_decision es) (has is_decision h) a.fails i.failed (sym (has-onto is_failed h es) ∙ k);
+      ∙ by (has is_promotion_failed es) (has is_promotion_failed h) (has is_decision es) (has is_decision h) a.fails i.failed (sym (has-onto is_promotion_failed h es) ∙ k);
 }
   where
     by : (f g d e : Bool) → (d || not f) ≡ true → (g ≡ true → e ≡ true) → (f || g) ≡ true → (d || e) ≡ true
@@ -68,11 +68,11 @@ apt_ends h es a i = record {
     by false false false e a i k = absurd (no k)
 
 -- an entry by which no promotion fails
-failed_more : (x : Entry) (h : List Entry) → is_failed x ≡ false → (has is_failed h ≡ true → has is_decision h ≡ true) → has is_failed (x ∷ h) ≡ true → has is_decision (x ∷ h) ≡ true
-failed_more x h n f k = or_right (is_decision x) (has is_decision h) (f (or_case (is_failed x) (has is_failed h) (λ a. absurd (not_both (is_failed x) a n)) (λ a. a) k))
+failed_more : (x : Entry) (h : List Entry) → is_promotion_failed x ≡ false → (has is_promotion_failed h ≡ true → has is_decision h ≡ true) → has is_promotion_failed (x ∷ h) ≡ true → has is_decision (x ∷ h) ≡ true
+failed_more x h n f k = or_right (is_decision x) (has is_decision h) (f (or_case (is_promotion_failed x) (has is_promotion_failed h) (λ a. absurd (not_both (is_promotion_failed x) a n)) (λ a. a) k))
 
 -- so does an entry that may stand there, opens nothing, and by which no promotion fails
-pub one_ends : (x : Entry) (h : List Entry) → is_sendable h x ≡ true → is_calm h x ≡ true → is_failed x ≡ false → Ends h → Ends (x ∷ h)
+pub one_ends : (x : Entry) (h : List Entry) → is_sendable h x ≡ true → is_calm h x ≡ true → is_promotion_failed x ≡ false → Ends h → Ends (x ∷ h)
 one_ends x h s c n i = record { sendable = and_both (is_sendable h x) (are_sendable h) s i.sendable; opened = calm_opened x h c i.opened; failed = failed_more x h n i.failed }
 
 -- one of two blocks, by the test between them

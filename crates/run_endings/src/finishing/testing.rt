@@ -2,15 +2,14 @@
 ghost use Rattle.std.specs.Prelude.{◌≡◌, ◌↔◌, IfErr, IsTrue, OnOk, map, true};
 ghost use Rattle.std.specs.List.{All};
 ghost use Rattle.dtx_values.specs.Table.{how_many};
-ghost use Rattle.dtx_model.specs.AtLog.{is_opened, is_restart, is_stop, up_of};
+ghost use Rattle.dtx_model.specs.AtLog.{follows, is_opened, is_restart, is_up_by, up_of};
 ghost use Rattle.dtx_model.specs.Caused.{is_begin_sent};
 ghost use Rattle.dtx_model.specs.Wires.{is_stopped, stop_of};
 ghost use Rattle.dtx_model.specs.Words.{each, has, past_of};
-ghost use Rattle.run_endings.specs.Finished.{follows};
 ghost use Rattle.run_endings.specs.Stops.{AreAmiss};
 ghost use Rattle.tx_cells.specs.Board.{transactions_of};
-ghost use Rattle.tx_cells.specs.LogCell.{is_up_by};
 ghost use Rattle.tx_cells.specs.Ties.{TiesWith};
+ghost use Rattle.dtx_model.specs.Tied.{is_stop};
 
 use crate::stop::RunStop;
 use dtx_values::{Conn, Dir, Entry, Line, LogNote, Message, Script, TxNo};

@@ -4,9 +4,9 @@ ghost use Rattle.dtx_values.specs.declared.call.Call.TheVariants.{Reenlist};
 ghost use Rattle.dtx_values.specs.declared.entry.Answer.TheVariants.{Fine};
 ghost use Rattle.dtx_model.specs.Steps.{Calls};
 ghost use Rattle.dtx_model.specs.World.{answer_at};
-ghost use Rattle.tx_world.specs.Entering.{is_reenlist};
 ghost use Rattle.tx_world.specs.OwnCalls.{DoesAlone};
 ghost use Rattle.tx_world.specs.State.{may_enter};
+ghost use Rattle.dtx_model.specs.Calls.{is_returning};
 
 use super::{TxWorld, identifier};
 use crate::local_calls::write_return;
@@ -41,7 +41,7 @@ impl TxWorld {
         done: u16,
     ) -> Result<Answer, WorldError>
         requires enters { may_enter self.old.world line c.now ≡ true }
-        requires kind { is_reenlist c.now ≡ true }
+        requires kind { is_returning c.now ≡ true }
         ensures answer { IfOk result (λ a. a ≡ answer_at self.old.transaction.value self.old.world c.now done) }
         ensures done { OnOk result (DoesAlone (Calls line actor c.now done) self.old self.new) }
         ensures ours { (self.new.ours ≡ self.old.ours) × (self.new.unsure ≡ self.old.unsure) }

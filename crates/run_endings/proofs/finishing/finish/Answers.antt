@@ -6,9 +6,10 @@ use Rattle.script_calls.specs.Rows.{are_entered}
 use Rattle.tx_cells.specs.Board.{transactions_of}
 use Rattle.tx_cells.specs.Cell.{Cell}
 use Rattle.tx_cells.specs.Ties.{TiesWith}
-use Rattle.run_endings.specs.Finished.{AreFinished, follows}
+use Rattle.run_endings.specs.Finished.{AreFinished}
 use Rattle.run_endings.proofs.Left.{all_ok, still_entered}
 use Rattle.run_endings.proofs.finishing.finish.Goals as goal
+use Rattle.dtx_model.specs.AtLog.{follows}
 
 pub returns-clause-finished : goal.returns-clause-finished
 returns-clause-finished g c =

@@ -5,9 +5,10 @@ use Rattle.dtx_values.specs.declared.entry.Entry.{Entry}
 use Rattle.dtx_values.specs.declared.entry.Entry.TheVariants.{Called}
 use Rattle.dtx_model.specs.Answers.{if_begun}
 use Rattle.dtx_model.specs.World.{gone_unlinked}
-use Rattle.local_half.proofs.Writing.{unsent, written-written}
+use Rattle.local_half.proofs.Writing.{unsent}
 use Rattle.tx_world.proofs.Calling.{gone_fine, gone_known, gone_refused, not_gone_known}
 use Rattle.tx_world.proofs.local_calls.answer_gone.Goals as goal
+use Rattle.dtx_model.proofs.Writing.{written-written}
 
 pub returns-then-eq-clause-state : goal.returns-then-eq-clause-state
 returns-then-eq-clause-state c =

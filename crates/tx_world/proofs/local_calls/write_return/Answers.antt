@@ -4,9 +4,10 @@ use Rattle.dtx_values.specs.declared.entry.Answer.TheVariants.{Fine}
 use Rattle.dtx_values.specs.declared.entry.Entry.TheVariants.{Called}
 use Rattle.dtx_model.specs.Observed.{is_branch}
 use Rattle.dtx_model.specs.World.{reenlist_facts}
-use Rattle.local_half.proofs.Writing.{unsent, written-written}
+use Rattle.local_half.proofs.Writing.{unsent}
 use Rattle.tx_world.proofs.Reenlisting.{return_known}
 use Rattle.tx_world.proofs.local_calls.write_return.Goals as goal
+use Rattle.dtx_model.proofs.Writing.{written-written}
 
 pub returns-clause-state : goal.returns-clause-state
 returns-clause-state c m = c.reenlist.ensures.state ∙ return_known c.args.half.now c.args.line c.args.actor c.args.e m

@@ -8,8 +8,8 @@ use Rattle.dtx_model.specs.Coordinated.{is_active, to, to_each}
 use Rattle.coordinator_core.specs.Hearing.{told}
 use Rattle.coordinator_core.specs.Kept.{Kept}
 use Rattle.coordinator_core.proofs.Loops.{told_each}
-use Rattle.coordinator_core.proofs.Writing.{written-written}
 use Rattle.coordinator_core.proofs.machine.Core.ask.Goals as goal
+use Rattle.dtx_model.proofs.Writing.{written-written}
 
 pub returns-then-is_active : goal.returns-then-is_active
 returns-then-is_active c =

@@ -1,7 +1,7 @@
 use Rattle.std.proofs.Common.{◌≡◌, ◌∙◌, ◌&&◌, false, ap, arith, length, sym}
 use Rattle.std.proofs.lemmas.Bool.{and_left, and_right}
-use Rattle.dtx_model.specs.Coordinated.{accepts}
-use Rattle.coordinator_core.specs.Kept.{Kept, is_enlisting}
+use Rattle.dtx_model.specs.Coordinated.{accepts, is_enlisting}
+use Rattle.coordinator_core.specs.Kept.{Kept}
 use Rattle.coordinator_core.proofs.Room.{desks_more, desks_same}
 use Rattle.coordinator_core.proofs.machine.Core.desks_after.Goals.{else-accepts-via-then-accepts+else-is_enlisting, else-accepts-via-else-accepts}
 use Rattle.coordinator_core.proofs.machine.Core.desks_after.Goals as goal

@@ -5,8 +5,8 @@ use Rattle.dtx_model.specs.Arrivals.{aborted_by, told_abort}
 use Rattle.dtx_model.specs.Half.{Half}
 use Rattle.local_half.specs.Half.{Known, after}
 use Rattle.local_half.proofs.Deciding.{aborted_after, aborted_there, heeds_all-append}
-use Rattle.local_half.proofs.Writing.{written-written}
 use Rattle.local_half.proofs.half.LocalHalf.aborted_for.Goals as goal
+use Rattle.dtx_model.proofs.Writing.{written-written}
 
 pub returns : goal.returns
 returns c =

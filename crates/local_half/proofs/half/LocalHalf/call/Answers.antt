@@ -1,7 +1,7 @@
 use Rattle.std.proofs.Common.{◌≡◌, false, true, rules, ap, sym, ◌∙◌}
 use Rattle.dtx_values.specs.declared.entry.Answer.TheVariants.{Wait}
 use Rattle.dtx_model.specs.Answers.{local_answer}
-use Rattle.local_half.specs.Half.{Known, is_done, is_wait}
+use Rattle.local_half.specs.Half.{Known, is_done, is_waiting_answer}
 use Rattle.local_half.proofs.Following.{called, done_known, undone_known, wait_known}
 use Rattle.local_half.proofs.half.LocalHalf.call.Goals as goal
 
@@ -33,6 +33,6 @@ pub returns-else-eq-3-clause-runs : goal.returns-else-eq-3-clause-runs
 returns-else-eq-3-clause-runs c w follows fresh =
     let known = c.args.self.now in
     let undone : is_done (local_answer known.transaction.value known.half c.args.c.now 0) ≡ false = search rules in
-    let waits_not : is_wait (local_answer known.transaction.value known.half c.args.c.now 0) ≡ false = search rules in
+    let waits_not : is_waiting_answer (local_answer known.transaction.value known.half c.args.c.now 0) ≡ false = search rules in
     called known.transaction.value w known.half known.half c.args.line c.args.actor c.args.c.now follows fresh c.requires.own
     (ap (λ (k : Known). k.half) (sym (undone_known known.transaction.value known c.args.line c.args.actor c.args.c.now undone waits_not)))

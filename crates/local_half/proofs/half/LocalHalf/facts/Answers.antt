@@ -11,9 +11,9 @@ use Rattle.local_half.specs.Half.{Known, after}
 use Rattle.local_half.specs.Taken.{HasPlace, with_call}
 use Rattle.local_half.proofs.Notes.{idle, may_clone, may_join, may_last, may_promote, unstarted_there}
 use Rattle.local_half.proofs.Waiting.{never_started}
-use Rattle.local_half.proofs.Writing.{written-none}
 use Rattle.local_half.proofs.half.LocalHalf.facts.Goals as goal
 use Rattle.dtx_model.proofs.Classes.{volatile_class}
+use Rattle.dtx_model.proofs.Writing.{written-none}
 
 pub write-requires-in-Volatile-clause-taken : goal.write-requires-in-Volatile-clause-taken
 unfolding local_answer

@@ -8,8 +8,8 @@ use Rattle.dtx_model.specs.Acts.{commit_sent}
 use Rattle.dtx_model.specs.Half.{heeds_all, to_up}
 use Rattle.dtx_model.specs.Observed.{track}
 use Rattle.local_half.specs.Half.{Known, after}
-use Rattle.local_half.proofs.Writing.{written-written}
 use Rattle.local_half.proofs.half.LocalHalf.seal.Goals as goal
+use Rattle.dtx_model.proofs.Writing.{written-written}
 
 pub returns-then-commits-clause-state : goal.returns-then-commits-clause-state
 unfolding heeds_all track

@@ -5,8 +5,8 @@ use Rattle.dtx_values.specs.Outgoing.{Outgoing, written}
 use Rattle.dtx_model.specs.Half.{Half, decide, veto, veto_message}
 use Rattle.local_half.specs.Half.{Known, after}
 use Rattle.local_half.proofs.Deciding.{ends_decided, heeds_all-append, message_by}
-use Rattle.local_half.proofs.Writing.{written-written}
 use Rattle.local_half.proofs.half.LocalHalf.veto.Goals as goal
+use Rattle.dtx_model.proofs.Writing.{written-written}
 
 pub returns-clause-state : goal.returns-clause-state
 unfolding veto

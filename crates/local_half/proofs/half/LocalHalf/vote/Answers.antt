@@ -4,8 +4,8 @@ use Rattle.dtx_values.specs.Outgoing.{Outgoing, written}
 use Rattle.dtx_model.specs.Half.{heeds_all, sees}
 use Rattle.dtx_model.specs.Replies.{reply_entries, voted_by}
 use Rattle.local_half.specs.Half.{Known, after}
-use Rattle.local_half.proofs.Writing.{written-written}
 use Rattle.local_half.proofs.half.LocalHalf.vote.Goals as goal
+use Rattle.dtx_model.proofs.Writing.{written-written}
 
 pub returns-clause-state : goal.returns-clause-state
 unfolding heeds_all reply_entries

@@ -1,10 +1,10 @@
 use Rattle.std.proofs.Common.{refl, sym}
 use Rattle.tx_cells.specs.Cell.{Cell}
 use Rattle.tx_cells.specs.Ties.{TiesWith}
-use Rattle.run_endings.specs.Finished.{follows}
 use Rattle.run_endings.proofs.Settling.{each_more}
 use Rattle.run_endings.proofs.Untied.{all_more, amiss_at}
 use Rattle.run_endings.proofs.finishing.testing.test_all.Goals as goal
+use Rattle.dtx_model.specs.AtLog.{follows}
 
 pub loop-state-preserved : goal.loop-state-preserved
 loop-state-preserved g c =

@@ -1,9 +1,9 @@
 use Rattle.std.proofs.Common.{◌≡◌, true, take}
 use Rattle.std.specs.List.{All}
 use Rattle.dtx_model.specs.Words.{each}
-use Rattle.run_endings.specs.Finished.{follows}
 use Rattle.tx_cells.specs.Ties.{TiesWith}
 use Rattle.run_endings.proofs.finishing.testing.test_all.Given as goal
+use Rattle.dtx_model.specs.AtLog.{follows}
 
 abbrev pub invariant-loop-state : goal.invariant-loop-state
 invariant-loop-state g l = record {

@@ -4,7 +4,6 @@ use Rattle.dtx_model.specs.Calls.{call_of}
 use Rattle.dtx_model.specs.Words.{past_of}
 use Rattle.outcome_law.proofs.Replays.{own_call_of}
 use Rattle.scope_context.specs.Standing.{Standing}
-use Rattle.script_runner.specs.LogRun.{is_log_line}
 use Rattle.script_runner.specs.RunState.{IsBelow, RunState, state_of}
 use Rattle.script_calls.specs.Scoped.{AreOpen}
 use Rattle.script_runner.proofs.Entering.{below_next}
@@ -12,6 +11,7 @@ use Rattle.script_runner.proofs.Going.{below_same, goes_same, stays_same}
 use Rattle.script_calls.proofs.Openings.{no_scope_call, open_same}
 use Rattle.script_runner.proofs.RunningLines.{log_no_scope, other_off, own_line, restart_line, scope_line, stop_line}
 use Rattle.script_runner.proofs.replay.Run.line.Goals as goal
+use Rattle.dtx_model.specs.AtLog.{is_log_line}
 
 pub own_call-requires-clause-given : goal.own_call-requires-clause-given
 own_call-requires-clause-given g c =

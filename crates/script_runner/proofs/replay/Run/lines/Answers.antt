@@ -4,7 +4,6 @@ use Rattle.dtx_values.specs.declared.script.Line.{Line}
 use Rattle.dtx_model.specs.Contexts.{lines_before}
 use Rattle.dtx_model.specs.Grammar.{is_in_range}
 use Rattle.dtx_model.specs.Words.{kth, past_of}
-use Rattle.script_runner.specs.LogRun.{is_log_line}
 use Rattle.script_runner.specs.RunState.{RunState}
 use Rattle.script_calls.specs.Scoped.{AreOpen}
 use Rattle.script_runner.proofs.Going.{goes_same, goes_then, runs_same, runs_then, stays_same, stays_then}
@@ -14,6 +13,7 @@ use Rattle.script_runner.proofs.RunningLines.{each_there, lines_more, none_there
 use Rattle.script_runner.proofs.replay.Run.lines.Given.{Over}
 use Rattle.script_runner.proofs.replay.Run.lines.Goals.{After-lines-lines}
 use Rattle.script_runner.proofs.replay.Run.lines.Goals as goal
+use Rattle.dtx_model.specs.AtLog.{is_log_line}
 
 -- the lines that are gone through are the script's
 own : (g : Over) (c : After-lines-lines g) → c.lines-lines.result.now ≡ c.args.self.now.script
