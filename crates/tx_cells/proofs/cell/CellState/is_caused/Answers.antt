@@ -1,6 +1,6 @@
 use Rattle.std.proofs.Common.{◌≡◌, true, subst}
 use Rattle.std.specs.Prelude.{IsTrue}
-use Rattle.dtx_model.specs.Caused.{Caused, IsCallOf, FreelyCaused}
+use Rattle.dtx_model.specs.Caused.{Caused}
 use Rattle.dtx_model.specs.Learned.{Learned}
 use Rattle.dtx_model.specs.Outcome.{agree, justified}
 use Rattle.dtx_model.specs.Promotes.{promotes}
@@ -13,12 +13,8 @@ use Rattle.tx_cells.proofs.cell.CellState.is_caused.Goals as goal
 
 pub returns-clause-caused : goal.returns-clause-caused
 returns-clause-caused g c =
-    let s = g.N.Run.script in
-    let x = c.self.inside.world in
-    let t = x.transaction.value in
-    let h = x.world.past in
-    let free : FreelyCaused (IsCallOf s t) t h = c.lifting.ensures.lifted s t x.world.calls h c.self.invariant.1.given (x.world.calls, c.is_own_run.ensures.run) in
-    subst (λ (z : Cell). Caused s g.N.Run.objects z.tx.transaction.value z.tx.world.past) c.self.view_is (record { freely = free; planned = c.self.invariant.1.planned })
+    let free = c.lifting.ensures.lifted _ _ _ _ c.self.invariant.1.given (_, c.is_own_run.ensures.run) in
+    subst (λ (z : Cell). Caused g.N.Run.script g.N.Run.objects z.tx.transaction.value z.tx.world.past) c.self.view_is (record { freely = free; planned = c.self.invariant.1.planned })
 
 pub returns-clause-in_order : goal.returns-clause-in_order
 returns-clause-in_order g c =
@@ -27,81 +23,45 @@ returns-clause-in_order g c =
 
 pub returns-clause-wires : goal.returns-clause-wires
 returns-clause-wires g c =
-    let s = g.N.Run.script in
-    let x = c.self.inside.world in
-    let t = x.transaction.value in
-    let h = x.world.past in
-    let free : FreelyCaused (IsCallOf s t) t h = c.lifting.ensures.lifted s t x.world.calls h c.self.invariant.1.given (x.world.calls, c.is_own_run.ensures.run) in
-    subst (λ (z : Cell). WireRun z.tx.world.past) c.self.view_is (c.crossings.ensures.wires s t h free)
+    let free = c.lifting.ensures.lifted _ _ _ _ c.self.invariant.1.given (_, c.is_own_run.ensures.run) in
+    subst (λ (z : Cell). WireRun z.tx.world.past) c.self.view_is (c.crossings.ensures.wires _ _ _ free)
 
 pub returns-clause-tied_promotes : goal.returns-clause-tied_promotes
 returns-clause-tied_promotes g c =
-    let s = g.N.Run.script in
-    let x = c.self.inside.world in
-    let t = x.transaction.value in
-    let h = x.world.past in
-    let free : FreelyCaused (IsCallOf s t) t h = c.lifting.ensures.lifted s t x.world.calls h c.self.invariant.1.given (x.world.calls, c.is_own_run.ensures.run) in
-    subst (λ (z : Cell). tied z.tx.world.past ≡ true → promotes s z.tx.transaction.value z.tx.world.past ≡ true) c.self.view_is (c.crossings.ensures.promotes s t h c.self.invariant.1.script.script.named free)
+    let free = c.lifting.ensures.lifted _ _ _ _ c.self.invariant.1.given (_, c.is_own_run.ensures.run) in
+    subst (λ (z : Cell). tied z.tx.world.past ≡ true → promotes g.N.Run.script z.tx.transaction.value z.tx.world.past ≡ true) c.self.view_is (c.crossings.ensures.promotes _ _ _ c.self.invariant.1.script.script.named free)
 
 pub returns-clause-tied_just : goal.returns-clause-tied_just
 returns-clause-tied_just g c =
-    let s = g.N.Run.script in
-    let x = c.self.inside.world in
-    let t = x.transaction.value in
-    let h = x.world.past in
-    let free : FreelyCaused (IsCallOf s t) t h = c.lifting.ensures.lifted s t x.world.calls h c.self.invariant.1.given (x.world.calls, c.is_own_run.ensures.run) in
-    subst (λ (z : Cell). tied z.tx.world.past ≡ true → justified z.tx.world.past ≡ true) c.self.view_is (c.one_outcome.ensures.just s t h c.self.invariant.1.script.script.named free)
+    let free = c.lifting.ensures.lifted _ _ _ _ c.self.invariant.1.given (_, c.is_own_run.ensures.run) in
+    subst (λ (z : Cell). tied z.tx.world.past ≡ true → justified z.tx.world.past ≡ true) c.self.view_is (c.one_outcome.ensures.just _ _ _ c.self.invariant.1.script.script.named free)
 
 pub returns-clause-tied_agrees : goal.returns-clause-tied_agrees
 returns-clause-tied_agrees g c =
-    let s = g.N.Run.script in
-    let x = c.self.inside.world in
-    let t = x.transaction.value in
-    let h = x.world.past in
-    let free : FreelyCaused (IsCallOf s t) t h = c.lifting.ensures.lifted s t x.world.calls h c.self.invariant.1.given (x.world.calls, c.is_own_run.ensures.run) in
-    subst (λ (z : Cell). tied z.tx.world.past ≡ true → agree z.tx.world.past ≡ true) c.self.view_is (c.one_outcome.ensures.agrees s t h c.self.invariant.1.script.script.named free)
+    let free = c.lifting.ensures.lifted _ _ _ _ c.self.invariant.1.given (_, c.is_own_run.ensures.run) in
+    subst (λ (z : Cell). tied z.tx.world.past ≡ true → agree z.tx.world.past ≡ true) c.self.view_is (c.one_outcome.ensures.agrees _ _ _ c.self.invariant.1.script.script.named free)
 
 pub returns-clause-tied_learned : goal.returns-clause-tied_learned
 returns-clause-tied_learned g c =
-    let s = g.N.Run.script in
-    let x = c.self.inside.world in
-    let t = x.transaction.value in
-    let h = x.world.past in
-    let free : FreelyCaused (IsCallOf s t) t h = c.lifting.ensures.lifted s t x.world.calls h c.self.invariant.1.given (x.world.calls, c.is_own_run.ensures.run) in
-    subst (λ (z : Cell). tied z.tx.world.past ≡ true → Learned z.tx.world.past) c.self.view_is (c.one_outcome.ensures.learned s t h c.self.invariant.1.script.script.named free)
+    let free = c.lifting.ensures.lifted _ _ _ _ c.self.invariant.1.given (_, c.is_own_run.ensures.run) in
+    subst (λ (z : Cell). tied z.tx.world.past ≡ true → Learned z.tx.world.past) c.self.view_is (c.one_outcome.ensures.learned _ _ _ c.self.invariant.1.script.script.named free)
 
 pub returns-clause-promotes : goal.returns-clause-promotes
 returns-clause-promotes g c =
-    let s = g.N.Run.script in
-    let x = c.self.inside.world in
-    let t = x.transaction.value in
-    let h = x.world.past in
-    let free : FreelyCaused (IsCallOf s t) t h = c.lifting.ensures.lifted s t x.world.calls h c.self.invariant.1.given (x.world.calls, c.is_own_run.ensures.run) in
-    subst (λ (z : Cell). IsTrue g.N.Run.honest → promotes s z.tx.transaction.value z.tx.world.past ≡ true) c.self.view_is (λ is. c.crossings.ensures.promotes s t h c.self.invariant.1.script.script.named free (c.self.invariant.1.sound is))
+    let free = c.lifting.ensures.lifted _ _ _ _ c.self.invariant.1.given (_, c.is_own_run.ensures.run) in
+    subst (λ (z : Cell). IsTrue g.N.Run.honest → promotes g.N.Run.script z.tx.transaction.value z.tx.world.past ≡ true) c.self.view_is (λ is. c.crossings.ensures.promotes _ _ _ c.self.invariant.1.script.script.named free (c.self.invariant.1.sound is))
 
 pub returns-clause-just : goal.returns-clause-just
 returns-clause-just g c =
-    let s = g.N.Run.script in
-    let x = c.self.inside.world in
-    let t = x.transaction.value in
-    let h = x.world.past in
-    let free : FreelyCaused (IsCallOf s t) t h = c.lifting.ensures.lifted s t x.world.calls h c.self.invariant.1.given (x.world.calls, c.is_own_run.ensures.run) in
-    subst (λ (z : Cell). IsTrue g.N.Run.honest → justified z.tx.world.past ≡ true) c.self.view_is (λ is. c.one_outcome.ensures.just s t h c.self.invariant.1.script.script.named free (c.self.invariant.1.sound is))
+    let free = c.lifting.ensures.lifted _ _ _ _ c.self.invariant.1.given (_, c.is_own_run.ensures.run) in
+    subst (λ (z : Cell). IsTrue g.N.Run.honest → justified z.tx.world.past ≡ true) c.self.view_is (λ is. c.one_outcome.ensures.just _ _ _ c.self.invariant.1.script.script.named free (c.self.invariant.1.sound is))
 
 pub returns-clause-agrees : goal.returns-clause-agrees
 returns-clause-agrees g c =
-    let s = g.N.Run.script in
-    let x = c.self.inside.world in
-    let t = x.transaction.value in
-    let h = x.world.past in
-    let free : FreelyCaused (IsCallOf s t) t h = c.lifting.ensures.lifted s t x.world.calls h c.self.invariant.1.given (x.world.calls, c.is_own_run.ensures.run) in
-    subst (λ (z : Cell). IsTrue g.N.Run.honest → agree z.tx.world.past ≡ true) c.self.view_is (λ is. c.one_outcome.ensures.agrees s t h c.self.invariant.1.script.script.named free (c.self.invariant.1.sound is))
+    let free = c.lifting.ensures.lifted _ _ _ _ c.self.invariant.1.given (_, c.is_own_run.ensures.run) in
+    subst (λ (z : Cell). IsTrue g.N.Run.honest → agree z.tx.world.past ≡ true) c.self.view_is (λ is. c.one_outcome.ensures.agrees _ _ _ c.self.invariant.1.script.script.named free (c.self.invariant.1.sound is))
 
 pub returns-clause-learned : goal.returns-clause-learned
 returns-clause-learned g c =
-    let s = g.N.Run.script in
-    let x = c.self.inside.world in
-    let t = x.transaction.value in
-    let h = x.world.past in
-    let free : FreelyCaused (IsCallOf s t) t h = c.lifting.ensures.lifted s t x.world.calls h c.self.invariant.1.given (x.world.calls, c.is_own_run.ensures.run) in
-    subst (λ (z : Cell). IsTrue g.N.Run.honest → Learned z.tx.world.past) c.self.view_is (λ is. c.one_outcome.ensures.learned s t h c.self.invariant.1.script.script.named free (c.self.invariant.1.sound is))
+    let free = c.lifting.ensures.lifted _ _ _ _ c.self.invariant.1.given (_, c.is_own_run.ensures.run) in
+    subst (λ (z : Cell). IsTrue g.N.Run.honest → Learned z.tx.world.past) c.self.view_is (λ is. c.one_outcome.ensures.learned _ _ _ c.self.invariant.1.script.script.named free (c.self.invariant.1.sound is))
