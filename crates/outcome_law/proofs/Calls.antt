@@ -24,11 +24,11 @@ use Rattle.dtx_model.specs.Outcome.{is_empty, ready, by_seal, by_owner, by_log, 
 use Rattle.dtx_values.specs.Support.{is_single}
 use Rattle.dtx_values.specs.Row.{is_lasting, is_of}
 use Rattle.dtx_model.specs.Answers.{limit_of, class_of, if_begun, unless_ended, wait_for, clone_answer, complete_answer, gone_answer, unless_late}
-use Rattle.dtx_model.specs.Facts.{ticked, reaches, facts_if, is_done}
+use Rattle.dtx_model.specs.Facts.{ticked, reaches, facts_if, is_done, lost_outcome}
 use Rattle.dtx_model.proofs.Narrow.{volatile_answer, durable_answer, promotable_answer, answer}
 use Rattle.dtx_values.specs.Owners.{is_evident, cause_of, may_own}
 use Rattle.dtx_model.specs.Half.{is_gone, is_handed}
-use Rattle.dtx_model.proofs.Narrow.{veto_if, is_late, time_up, lost_outcome, decided_if, facts}
+use Rattle.dtx_model.proofs.Narrow.{veto_if, is_late, time_up, decided_if, facts}
 use Rattle.dtx_model.specs.Caused.{is_new}
 use Rattle.dtx_model.proofs.Bools.{and_both, or_first, or_second, not_false, not_true, or_right}
 use Rattle.dtx_model.proofs.Unowned.{causeless}
