@@ -1,5 +1,5 @@
 -- The slots of a log, in memory and on a disk.
-use Rattle.std.specs.Prelude.{◌≡◌, ◌⊎◌, ◌≤◌, ◌==◌, ℕ, suc, Bool, false, List, [], ◌∷◌, length, slice_index_or, take, map, set, Option, Some, None, Ok, Err}
+use Rattle.std.specs.Prelude.{◌≡◌, ◌⊎◌, ◌-◌, ◌==◌, ◌++◌, ℕ, suc, Bool, false, List, [], ◌∷◌, length, replicate, slice_index_or, take, map, set, Option, Some, None, Ok, Err}
 use Rattle.std.specs.List.{filter_map}
 use Rattle.outside.specs.Disk.{IsOnly}
 use Rattle.dtx_values.specs.declared.record.LogRecord.{LogRecord}
@@ -20,15 +20,9 @@ abbrev pub has_record_of : ℕ → Option LogRecord → Bool
 has_record_of id None = false
 has_record_of id (Some r) = r.id == id
 
--- from this place on the slots of the program's memory have no records
-abbrev pub IsClosedFrom : ℕ → List (Option LogRecord) → Type 0
-IsClosedFrom n ss = (k : ℕ) → n ≤ k → slice_index_or ss k None ≡ None
-
--- there are 1,024 slots in the program's memory, and from this place on their gates are closed
-pub record IsMarked (records : List (Option LogRecord)) (used : ℕ) : Type 0 where
-  pub many : length records ≡ 1024
-  pub within : used ≤ 1024
-  pub closed : IsClosedFrom used records
+-- the slots of the program's memory: these, and closed ones up to n
+abbrev pub with_closed : ℕ → List (Option LogRecord) → List (Option LogRecord)
+with_closed n ss = ss ++ replicate (n - length ss) None
 
 -- a slot of the form that the log has
 abbrev pub formed : Option CommitRecord → Slot

@@ -1,8 +1,8 @@
 //! The slots in memory.
-ghost use Rattle.std.specs.Prelude.{◌≡◌, ◌<◌, [], None, Some, length, replicate, set, slice_index_or, IfNone, IfOk, IfSome, IsSome, count_by, is_none, is_some, position};
+ghost use Rattle.std.specs.Prelude.{◌≡◌, ◌≤◌, ◌<◌, [], None, Some, length, set, slice_index_or, vec_capacity, IfNone, IfOk, IfSome, IsSome, count_by, is_none, is_some, position};
 ghost use Rattle.std.specs.Option.{option_map};
 ghost use Rattle.dtx_model.specs.Log.{first_of, record_of, without_first_of};
-ghost use Rattle.coordinator_log.specs.Slots.{has_record_of, lowest_closed, open_records};
+ghost use Rattle.coordinator_log.specs.Slots.{has_record_of, lowest_closed, open_records, with_closed};
 
 use crate::layout::SLOTS;
 use dtx_values::LogRecord;
@@ -12,22 +12,22 @@ use std::marker::Model;
 /// The 1,024 slots of a log. Contracts see the list of their records, with none where the gate is closed.
 #[derive(Drop)]
 pub struct Slots {
+    // The first slots, up to the last that was ever used, in room for all; the gates of the others are closed. So a log of few records takes little memory,
+    // and is looked through in little time.
     records: Vec<Option<LogRecord>>,
-    // From this place on every gate is closed. Nothing lowers it.
-    used: usize,
 }
 
 impl Model for Slots {
-    ghost use Rattle.std.specs.Prelude.{List, Option, map};
+    ghost use Rattle.std.specs.Prelude.{◌≤◌, List, Option, length, map, vec_capacity};
     ghost use Rattle.std.specs.Option.{option_map};
     ghost use Rattle.dtx_model.specs.Log.{CommitRecord, record_of};
-    ghost use Rattle.coordinator_log.specs.Slots.{IsMarked};
+    ghost use Rattle.coordinator_log.specs.Slots.{with_closed};
 
     ghost Value = { List (Option CommitRecord) };
 
-    ghost view = { λ s. map (option_map record_of) s.records.items };
+    ghost view = { λ s. map (option_map record_of) (with_closed 1024 s.records.items) };
 
-    ghost invariant = { λ s. IsMarked s.records.items s.used };
+    ghost invariant = { λ s. (length s.records.items ≤ 1024) × (1024 ≤ vec_capacity s.records) };
 }
 
 impl Slots {
@@ -36,8 +36,9 @@ impl Slots {
         ensures empty { IfOk result (λ s. open_records s ≡ []) }
         ensures many { IfOk result (λ s. length s ≡ SLOTS) }
     {
-        let records = closed_gates(alloc, SLOTS)?;
-        Ok(Slots { records, used: 0 })
+        Ok(Slots {
+            records: Vec::with_capacity(alloc, SLOTS)?,
+        })
     }
 
     /// The lowest slot whose gate is closed.
@@ -46,7 +47,11 @@ impl Slots {
         ensures none { IfNone result (lowest_closed self.now ≡ SLOTS) }
         ensures many { length self.now ≡ SLOTS }
     {
-        first_closed(&self.records)
+        match first_closed(&self.records) {
+            Some(k) => Some(k),
+            None if self.records.len() < SLOTS => Some(self.records.len()),
+            None => None,
+        }
     }
 
     /// The lowest slot with a record of this identifier.
@@ -56,7 +61,7 @@ impl Slots {
         ensures none { IfNone result (first_of id (open_records self.now) ≡ None) }
         ensures many { length self.now ≡ SLOTS }
     {
-        first_with(&self.records[..self.used], id)
+        first_with(&self.records, id)
     }
 
     /// The record of slot k.
@@ -64,7 +69,10 @@ impl Slots {
         requires { k < SLOTS }
         ensures { option_map (λ r. record_of r.now) result ≡ slice_index_or self.now k None }
     {
-        self.records[k].as_ref()
+        match self.records.get(k) {
+            Some(slot) => slot.as_ref(),
+            None => None,
+        }
     }
 
     /// Puts a record into slot k, or takes it out.
@@ -73,29 +81,34 @@ impl Slots {
         ensures slots { self.new ≡ set self.old k (option_map record_of r) }
         ensures many { length self.new ≡ SLOTS }
     {
-        let used = if r.is_some() {
-            self.used.max(k + 1)
-        } else {
-            self.used
-        };
+        if r.is_none() && self.records.len() <= k {
+            return;
+        }
+        reach(&mut self.records, k + 1);
         self.records[k] = r;
-        self.used = used;
     }
 
     /// How many records there are.
     pub fn count(&self) -> u16
         ensures { result ≡ length (open_records self.now) }
     {
-        open_gates(&self.records[..self.used]) as u16
+        open_gates(&self.records) as u16
     }
 }
 
-// So many slots whose gates are closed.
-fn closed_gates(alloc: Global, n: usize) -> Result<Vec<Option<LogRecord>>, AllocError>
-    ensures closed { IfOk result (λ v. v.items ≡ replicate (length v.items) None) }
-    ensures many { IfOk result (λ v. length v.items ≡ n) }
+// Makes the slots that are kept at least so many, by closed ones.
+fn reach(slots: &mut Vec<Option<LogRecord>>, n: usize)
+    requires within { n ≤ SLOTS }
+    requires room { SLOTS ≤ vec_capacity slots.old }
+    requires few { length slots.old.items ≤ SLOTS }
+    ensures same { with_closed SLOTS slots.new.items ≡ with_closed SLOTS slots.old.items }
+    ensures reached { n ≤ length slots.new.items }
+    ensures few { length slots.new.items ≤ SLOTS }
+    ensures room { SLOTS ≤ vec_capacity slots.new }
 {
-    Ok(vec![in alloc; None; n]?)
+    while slots.len() < n {
+        slots.push_reserved(None);
+    }
 }
 
 // The first slot whose gate is closed.
