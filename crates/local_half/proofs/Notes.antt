@@ -195,6 +195,11 @@ waits_inside o a k = step o.limit o.decided k
 never_waits : (o : Observed) (a : Answer) → (a ≡ Wait → ⊥) → unless_over o a ≡ Wait → ⊥
 never_waits o a n k = n (waits_inside o a k).0
 
+never_full : (s f : Bool) → (if s then TooLate else if f then Many 32 else Fine) ≡ Wait → ⊥
+never_full true f k = absurd (cc)
+never_full false true k = absurd (cc)
+never_full false false k = absurd (cc)
+
 pub waits_for : (t : ℕ) (h : Half) (c : Call) → is_its_own c ≡ true → local_answer t h c 0 ≡ Wait → IsWaiting h c
 unfolding local_answer
 waits_for t h (Durable u e r s) own k =
@@ -238,12 +243,7 @@ waits_for t h (Marshal u) own k =
     step false false true k = absurd (cc)
     step false false false k = (refl, refl)
 waits_for t h (Begin u d) own k = absurd (cc)
-waits_for t h (Volatile u e x v) own k = absurd (never_waits h.seen (volatile_answer h) (λ q. step h.seen.sealed (is_full h) q) k)
-  where
-    step : (s f : Bool) → (if s then TooLate else if f then Many 32 else Fine) ≡ Wait → ⊥
-    step true f k = absurd (cc)
-    step false true k = absurd (cc)
-    step false false k = absurd (cc)
+waits_for t h (Volatile u e x v) own k = absurd (never_waits h.seen (volatile_answer h) (λ q. never_full h.seen.sealed (is_full h) q) k)
 waits_for t h (PromotableCall u e r v x p) own k = absurd (never_waits h.seen (promotable_answer h) (λ q. step h.seen.sealed (may_own h.seen.table (has_promotion h.seen)) (is_full h) q) k)
   where
     step : (s m f : Bool) → (if s then TooLate else if not m then False else if f then Many 32 else True) ≡ Wait → ⊥
@@ -251,12 +251,7 @@ waits_for t h (PromotableCall u e r v x p) own k = absurd (never_waits h.seen (p
     step false false f k = absurd (cc)
     step false true true k = absurd (cc)
     step false true false k = absurd (cc)
-waits_for t h (Clone u c x) own k = absurd (never_waits h.seen (clone_answer h.seen.commit (length h.seen.clones)) (λ q. step h.seen.commit (nat_le 32 (length h.seen.clones)) q) k)
-  where
-    step : (s f : Bool) → (if s then TooLate else if f then Many 32 else Fine) ≡ Wait → ⊥
-    step true f k = absurd (cc)
-    step false true k = absurd (cc)
-    step false false k = absurd (cc)
+waits_for t h (Clone u c x) own k = absurd (never_waits h.seen (clone_answer h.seen.commit (length h.seen.clones)) (λ q. never_full h.seen.commit (nat_le 32 (length h.seen.clones)) q) k)
 waits_for t h (Complete c) own k = absurd (never_waits h.seen (complete_answer (has (is_clone c.value) h.seen.clones) (has (is_complete_clone c.value) h.seen.clones)) (λ q. step (has (is_clone c.value) h.seen.clones) (has (is_complete_clone c.value) h.seen.clones) q) k)
   where
     step : (s f : Bool) → complete_answer s f ≡ Wait → ⊥
