@@ -295,7 +295,7 @@ still_there f e r bs b k h =
     by false k = or_right (f == e.value) (has (is_branch f) (filter (λ (x : Branch). not (is_branch e.value x)) bs)) (still_kept f e.value bs k h)
 
 -- ENLIST is sent for one that is held, before anything is decided
-links-branched : (d : Bool) (xs : List Row) (ws : List Waiter) (bs : List Branch) (ns : List End) (e : EnlNo) (r : RmNo) → d ≡ false → is_held xs ws e.value ≡ true → how_many is_lasting xs + how_many is_place ws ≤ 16
+pub links-branched : (d : Bool) (xs : List Row) (ws : List Waiter) (bs : List Branch) (ns : List End) (e : EnlNo) (r : RmNo) → d ≡ false → is_held xs ws e.value ≡ true → how_many is_lasting xs + how_many is_place ws ≤ 16
     → AreLinked d xs ws bs ns → AreLinked d xs ws (with_branch e r bs) ns
 links-branched d xs ws bs ns e r undecided mine few l =
     record {

@@ -1,5 +1,5 @@
 -- What the tables take.
-use Rattle.std.proofs.Common.{◌≡◌, ◌<◌, ℕ, suc, ◌+◌, ◌||◌, ◌&&◌, Bool, true, false, not, List, [], ◌∷◌, length, Option, Some, None, nat_le, nat_lt, if◌then◌else◌, is_some, refl, arith}
+use Rattle.std.proofs.Common.{◌≡◌, ◌<◌, ℕ, suc, ◌+◌, ◌||◌, ◌&&◌, Bool, true, false, not, List, [], ◌∷◌, length, Option, Some, None, nat_le, nat_lt, if◌then◌else◌, is_some, refl, arith, ap}
 use Rattle.std.proofs.lemmas.Bool.Decides.{nat_tests}
 use Rattle.dtx_values.specs.declared.call.Call.{Call}
 use Rattle.dtx_values.specs.declared.call.Call.TheVariants.{Begin, Volatile, Durable, Promotable as PromotableCall, Clone, Complete, Commit, Rollback, Marshal, Status, Tick}
@@ -16,13 +16,12 @@ use Rattle.dtx_values.specs.declared.entry.Answer.TheVariants.{Fine, Id, Many, F
 use Rattle.dtx_values.specs.declared.number.CloneNo.{CloneNo}
 use Rattle.dtx_values.specs.declared.number.EnlNo.{EnlNo}
 use Rattle.dtx_values.specs.declared.words.Class.{Class}
-use Rattle.dtx_values.specs.declared.words.Class.TheVariants.{DurableSingle, One, Promotable, Zero}
+use Rattle.dtx_values.specs.declared.words.Class.TheVariants.{DurableSingle, Promotable}
 use Rattle.dtx_values.specs.declared.words.Outcome.{Outcome}
 use Rattle.dtx_values.specs.declared.words.Cause.{Cause}
-use Rattle.dtx_values.specs.declared.words.Cause.TheVariants.{Two, Second, Beside}
 use Rattle.dtx_values.specs.declared.row.Row.{Row}
 use Rattle.dtx_values.specs.Table.{how_many, has_row}
-use Rattle.dtx_values.specs.Class.{is_durable, is_promotable, is_volatile}
+use Rattle.dtx_values.specs.Class.{is_volatile}
 use Rattle.dtx_values.specs.Clones.{is_clone, is_complete_clone}
 use Rattle.dtx_values.specs.Owners.{cause_of, may_own}
 use Rattle.dtx_values.specs.Row.{is_lasting, is_of}
@@ -33,11 +32,12 @@ use Rattle.dtx_model.specs.Promotes.{identifier_of}
 use Rattle.dtx_model.specs.Waiting.{is_place, is_place_of, wanted_by}
 use Rattle.dtx_model.specs.Answers.{clone_answer, complete_answer, durable_answer, gone_answer, has_promotion, if_begun, is_crowded, is_full, is_full_of_durables, local_answer, marshal_answer, places, promotable_answer, status_answer, unless_ended, unless_late, unless_over, volatile_answer, wait_for}
 use Rattle.dtx_model.specs.Words.{has}
-use Rattle.dtx_model.proofs.Bools.{not_false, not_true, or_false, or_first, or_second}
+use Rattle.dtx_model.proofs.Bools.{not_false, not_true}
 use Rattle.dependent_clones.specs.Refusals.{clone_refusal}
 use Rattle.local_half.specs.Half.{Known, is_awaited, is_done, is_its_own}
 use Rattle.local_half.specs.Taken.{HasPlace, cause_for, with_call}
 use Rattle.local_half.proofs.Lists.{not_counted}
+use Rattle.dtx_model.proofs.Unowned.{causeless}
 
 -- some pass where their number isn't 0
 pub some_left : {A : Type 0} (p : A → Bool) (xs : List A) → nat_lt 0 (how_many p xs) ≡ has p xs
@@ -70,30 +70,6 @@ undecided_there o a k = step o.limit o.decided k
     step None d k = absurd (cc)
     step (Some l) (Some x) k = absurd (cc)
     step (Some l) None k = refl
-
--- none lasts where none is durable and none promotable
-volatile_else : (c : Class) → is_durable c ≡ false → is_promotable c ≡ false → not (is_volatile c) ≡ false
-volatile_else Zero d p = refl
-volatile_else One d p = refl
-volatile_else _ d p = absurd (cc)
-
-none_lasts : (xs : List Row) → has (λ x. is_durable x.class) xs ≡ false → has (λ x. is_promotable x.class) xs ≡ false → has is_lasting xs ≡ false
-none_lasts [] d p = refl
-none_lasts (x ∷ xs) d p =
-    or_false (is_lasting x) (has is_lasting xs)
-    (volatile_else x.class (or_first (is_durable x.class) (has (λ y. is_durable y.class) xs) d) (or_first (is_promotable x.class) (has (λ y. is_promotable y.class) xs) p))
-    (none_lasts xs (or_second (is_durable x.class) (has (λ y. is_durable y.class) xs) d) (or_second (is_promotable x.class) (has (λ y. is_promotable y.class) xs) p))
-
--- a durable call that has no cause to promote comes after nothing durable or promotable
-uncaused : (xs : List Row) (single : Bool) → cause_of xs single ≡ None → has is_lasting xs ≡ false
-unfolding cause_of
-uncaused xs single k = step (has (λ x. is_durable x.class) xs) (has (λ x. is_promotable x.class) xs) single refl refl k
-  where
-    step : (d p s : Bool) → has (λ x. is_durable x.class) xs ≡ d → has (λ x. is_promotable x.class) xs ≡ p
-        → (if d then Some Second else if p then Some Beside else if s then None else Some Two) ≡ None → has is_lasting xs ≡ false
-    step true p s a b k = absurd (cc)
-    step false true s a b k = absurd (cc)
-    step false false s a b k = none_lasts xs a b
 
 -- fewer than 32 where 32 aren't there
 below : (n m : ℕ) → nat_le n m ≡ false → m < n
@@ -133,7 +109,7 @@ may_last h e single k new unawaited =
       unawaited = unawaited;
       few = below 32 (length h.seen.table + places h) few.0;
       few_last = λ w. below 16 (how_many is_lasting h.seen.table + places h) few.1;
-      alone = not_false (has is_lasting h.seen.table) (uncaused h.seen.table single few.2);
+      alone = not_false (has is_lasting h.seen.table) (causeless h.seen.table single (ap (λ x. is_done (wait_for x)) few.2));
       begun = inside.1;
     }
   where
@@ -219,6 +195,11 @@ waits_inside o a k = step o.limit o.decided k
 never_waits : (o : Observed) (a : Answer) → (a ≡ Wait → ⊥) → unless_over o a ≡ Wait → ⊥
 never_waits o a n k = n (waits_inside o a k).0
 
+never_full : (s f : Bool) → (if s then TooLate else if f then Many 32 else Fine) ≡ Wait → ⊥
+never_full true f k = absurd (cc)
+never_full false true k = absurd (cc)
+never_full false false k = absurd (cc)
+
 pub waits_for : (t : ℕ) (h : Half) (c : Call) → is_its_own c ≡ true → local_answer t h c 0 ≡ Wait → IsWaiting h c
 unfolding local_answer
 waits_for t h (Durable u e r s) own k =
@@ -262,12 +243,7 @@ waits_for t h (Marshal u) own k =
     step false false true k = absurd (cc)
     step false false false k = (refl, refl)
 waits_for t h (Begin u d) own k = absurd (cc)
-waits_for t h (Volatile u e x v) own k = absurd (never_waits h.seen (volatile_answer h) (λ q. step h.seen.sealed (is_full h) q) k)
-  where
-    step : (s f : Bool) → (if s then TooLate else if f then Many 32 else Fine) ≡ Wait → ⊥
-    step true f k = absurd (cc)
-    step false true k = absurd (cc)
-    step false false k = absurd (cc)
+waits_for t h (Volatile u e x v) own k = absurd (never_waits h.seen (volatile_answer h) (λ q. never_full h.seen.sealed (is_full h) q) k)
 waits_for t h (PromotableCall u e r v x p) own k = absurd (never_waits h.seen (promotable_answer h) (λ q. step h.seen.sealed (may_own h.seen.table (has_promotion h.seen)) (is_full h) q) k)
   where
     step : (s m f : Bool) → (if s then TooLate else if not m then False else if f then Many 32 else True) ≡ Wait → ⊥
@@ -275,12 +251,7 @@ waits_for t h (PromotableCall u e r v x p) own k = absurd (never_waits h.seen (p
     step false false f k = absurd (cc)
     step false true true k = absurd (cc)
     step false true false k = absurd (cc)
-waits_for t h (Clone u c x) own k = absurd (never_waits h.seen (clone_answer h.seen.commit (length h.seen.clones)) (λ q. step h.seen.commit (nat_le 32 (length h.seen.clones)) q) k)
-  where
-    step : (s f : Bool) → (if s then TooLate else if f then Many 32 else Fine) ≡ Wait → ⊥
-    step true f k = absurd (cc)
-    step false true k = absurd (cc)
-    step false false k = absurd (cc)
+waits_for t h (Clone u c x) own k = absurd (never_waits h.seen (clone_answer h.seen.commit (length h.seen.clones)) (λ q. never_full h.seen.commit (nat_le 32 (length h.seen.clones)) q) k)
 waits_for t h (Complete c) own k = absurd (never_waits h.seen (complete_answer (has (is_clone c.value) h.seen.clones) (has (is_complete_clone c.value) h.seen.clones)) (λ q. step (has (is_clone c.value) h.seen.clones) (has (is_complete_clone c.value) h.seen.clones) q) k)
   where
     step : (s f : Bool) → complete_answer s f ≡ Wait → ⊥

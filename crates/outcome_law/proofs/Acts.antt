@@ -174,20 +174,23 @@ row_volatile h k x e v =
     ∙ has-at (λ (y : Row). (n == y.number.value) && is_volatile y.class) (rows h) k x e (and_both (n == n) (is_volatile x.class) (eq_self n) v)
 
 -- the name of what passes passes
-name_well : (h : List Entry) (o : Option Row) → passes (λ x. rule h (Asked x.number Prepare)) o ≡ true → passes (λ e. rule h (Asked e Prepare)) (name_of o) ≡ true
-name_well h (Some x) q = q
-name_well h None q = refl
+pub name_passes : (p : EnlNo → Bool) (o : Option Row) → passes (λ x. p x.number) o ≡ true → passes p (name_of o) ≡ true
+name_passes p (Some x) q = q
+name_passes p None q = refl
+
+-- so the next that is asked passes where each that may be asked does
+pub next_passes : (p : EnlNo → Bool) (xs : List Row) (first : Bool) → ((k : ℕ) (x : Row) → slice_get xs k ≡ Some x → (not (may_be_asked xs first x) || p x.number) ≡ true) → passes p (next_ask xs first) ≡ true
+unfolding next_ask
+next_passes p xs first f =
+    name_passes p (find (may_be_asked xs first) xs) (found_well (may_be_asked xs first) (λ x. p x.number) xs (each_from_at (λ x. not (may_be_asked xs first x) || p x.number) xs f))
 
 -- the next that is asked may be asked
 next_well : (h : List Entry) (first : Bool) → ruled h ≡ true → has is_decision h ≡ false → has is_commit h ≡ true
     → passes (λ e. rule h (Asked e Prepare)) (next_ask (rows h) first) ≡ true
-unfolding next_ask
 next_well h first r d c =
-    name_well h (find (may_be_asked (rows h) first) (rows h))
-    (found_well (may_be_asked (rows h) first) (λ x. rule h (Asked x.number Prepare)) (rows h)
-    (each_from_at (λ x. not (may_be_asked (rows h) first x) || rule h (Asked x.number Prepare)) (rows h)
+    next_passes (λ e. rule h (Asked e Prepare)) (rows h) first
     (λ k x e. ask_step (is_class first x.class) (is_marked x) _ (has is_decision h) (has is_commit h) (has (is_enlisted x.number.value) h) (has (is_asked x.number.value) h) _
-    d c (rows_enlisted h k x r e) (row_marked h k x r e) (λ z. row_volatile h k x e (asked_volatile first x.class z)))))
+    d c (rows_enlisted h k x r e) (row_marked h k x r e) (λ z. row_volatile h k x e (asked_volatile first x.class z)))
 
 -- what comes in phase zero keeps it
 before_keeps : (h : List Entry) (q : Option EnlNo) (over : Bool) → IsKept h → passes (λ e. rule h (Asked e Prepare)) q ≡ true → (over ≡ true → rule h Sealed ≡ true)

@@ -42,7 +42,6 @@ use Rattle.dtx_model.proofs.Writes.{Each, e_one, IsClosed, each_closed, Source, 
 use Rattle.dtx_model.proofs.Blocks.{of_abort_sends, of_arrived, of_called, of_commit_sends, of_core_down, of_core_got, of_local_down, of_reply, of_whole_act}
 use Rattle.dtx_model.proofs.Bools.{and_both, and_left, and_right, not_both, not_true, or_case, or_right, or_second}
 use Rattle.dtx_model.proofs.Reading.{has-onto}
-use Rattle.dtx_model.proofs.Connections.{same_is}
 use Rattle.outcome_law.proofs.Scans.{has_more}
 use Rattle.outcome_law.proofs.Onto.{none_before, stood_before}
 use Rattle.outcome_law.proofs.Wired.{IsWired, is_end_on, unstopped}
@@ -56,6 +55,7 @@ use Rattle.outcome_law.proofs.CoreStages.{active_open, begun_if_active}
 use Rattle.outcome_law.proofs.CoreKnown.{begun_on, got_there, later_opened, sent_opened_there, work_begun}
 use Rattle.outcome_law.proofs.Crossed.{end_opened, is_sent_on, is_got_on}
 use Rattle.outcome_law.proofs.MildBlocks.{IsWide, Mild, is_mild, m_abort, m_act, m_commit, m_core_got, m_ended_at, m_local_got, wide_called, wide_mild, wide_reply}
+use Rattle.outcome_law.proofs.Leading.{opening_on}
 
 -- Where the coordinator has decided, it sent its decision on b, unless it saw the end of b; and on v, where it had sent ASK, unless it saw the end of v or got NO.
 pub record IsAnnounced (h : List Entry) : Type 0 where
@@ -241,13 +241,6 @@ still : (x : Entry) (h : List Entry) {P : Type 0} → stage_after (coordinate h)
 still x h e u n = absurd (not_both (is_undecided (coordinate h).stage) u (sym (ap is_undecided e) ∙ n))
 
 -- A connection whose opening message was got, and whose end wasn't seen, is known.
-opening_on : (c : Conn) (x : Entry) → is_opening_got c x ≡ true → is_got_on c Up (is_opening c) x ≡ true
-opening_on c (Got e Up m) t =
-    let s = and_left (same_connection c e) (is_opening e m) t in
-    let P : Conn → Type 0 = λ y. is_opening y m ≡ true in
-    and_both (same_connection c e && true) (is_opening c m) (and_both (same_connection c e) true s refl) (subst P (sym (same_is c e s)) (and_right (same_connection c e) (is_opening e m) t))
-opening_on c (Got e Down m) t = absurd cc
-opening_on c _ t = absurd cc
 
 known : (c : Conn) (h : List Entry) → IsUnstopped h → has (is_opening_got c) h ≡ true → has (is_end_on c Up) h ≡ false → has (same_connection c) (coordinate h).known ≡ true
 known c h u k e = opening_known c h (unstopped_wired h u) (has_more (is_opening_got c) (is_got_on c Up (is_opening c)) (opening_on c) h k) e

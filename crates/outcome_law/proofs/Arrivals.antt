@@ -41,7 +41,7 @@ use Rattle.outcome_law.proofs.MessageArrivals.{aborted_stands, again_aborted, ag
 use Rattle.outcome_law.proofs.Handover.{IsWaitedFor, begun_stands, created_stands, is_unsent, opening_before, over_stands}
 
 -- whose opening message was got came to the coordinator
-opening_enlist : (e : EnlNo) (x : Entry) → is_opening_got (Enl e) x ≡ true → is_enlist_got e.value x ≡ true
+pub opening_enlist : (e : EnlNo) (x : Entry) → is_opening_got (Enl e) x ≡ true → is_enlist_got e.value x ≡ true
 opening_enlist e (Got (Enl f) Up (EnlistEnlist i)) t = and_left (e.value == f.value) true t
 opening_enlist e (Got (Enl f) Up m) t = absurd (not_both ((e.value == f.value) && false) t (and_never (e.value == f.value)))
 opening_enlist e (Got Begin Up m) t = absurd cc

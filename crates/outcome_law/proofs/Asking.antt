@@ -56,6 +56,7 @@ use Rattle.outcome_law.proofs.BareBlocks.{Bare, Requests, Seals, act_kind, bare_
 use Rattle.dtx_model.proofs.Quiet.{takes_next}
 use Rattle.outcome_law.proofs.Messages.{COMMIT, PREPARE}
 use Rattle.outcome_law.proofs.Debts.{has_promotable}
+use Rattle.outcome_law.proofs.HalfOwner.{enlist_opening}
 
 no : false ≡ true → ⊥
 no e = absurd cc
@@ -354,10 +355,6 @@ desk_come e (Restarted true ∷ h) t =
     (sym (has_filter (is_desk_of e) (λ z. is_prepared z.ballot) (coordinate h).desks) ∙ (sym (has_same unacked (λ d. refl) e (filter (λ z. is_prepared z.ballot) (coordinate h).desks)) ∙ t)))
 desk_come e (Restarted false ∷ h) t = absurd (no t)
 desk_come e (x ∷ h) t = or_right (is_enlist_got e x) (has (is_enlist_got e) h) (desk_come e h t)
-
-enlist_opening : (f : EnlNo) (x : Entry) → is_enlist_got f.value x ≡ true → is_opening_got (Enl f) x ≡ true
-enlist_opening f (Got (Enl g) Up (EnlistEnlist i)) t = and_both (f.value == g.value) true t refl
-enlist_opening f _ t = absurd (no t)
 
 desk_fresh : (f : EnlNo) (m : Message) (h : List Entry) → Keeps h → MayCross h (Got (Enl f) Up m) → is_opening (Enl f) m ≡ true → has (is_desk_of f.value) (coordinate h).desks ≡ false
 desk_fresh f m h k n o =

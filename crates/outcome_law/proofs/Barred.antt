@@ -49,6 +49,7 @@ use Rattle.outcome_law.proofs.Aborting.{IsBarred, decided_off, loses_there}
 use Rattle.outcome_law.proofs.Appending.{abort_latest}
 use Rattle.outcome_law.proofs.CommonBlocks.{common_gone, gone_parts, gone_rest, is_usual, usual, usual_block}
 use Rattle.outcome_law.proofs.LostVoters.{is_lossless, return_lossless, tick_lossless, usual_lossless}
+use Rattle.outcome_law.proofs.HalfOwner.{enlist_opening}
 
 -- An enlistment's own connection stays lost, since it is opened once.
 opens_new : (e : EnlNo) (x : Entry) (h : List Entry) → rule h x ≡ true → opens (Enl e) x ≡ true → has (opens (Enl e)) h ≡ false
@@ -148,10 +149,6 @@ own_among w e o =
 cuts_lossless : (p : List Entry) (cs : List Conn) → each is_lossless (map (cut_upward p) cs) ≡ true
 cuts_lossless p [] = refl
 cuts_lossless p (c ∷ cs) = cuts_lossless p cs
-
-enlist_opening : (e : EnlNo) (x : Entry) → is_enlist_got e.value x ≡ true → is_opening_got (Enl e) x ≡ true
-enlist_opening e (Got (Enl f) Up (EnlistEnlist i)) t = and_both (e.value == f.value) true t refl
-enlist_opening e _ t = absurd cc
 
 came_opened : (e : EnlNo) (h : List Entry) → Keeps h → has (is_enlist_got e.value) h ≡ true → has (opens (Enl e)) h ≡ true
 came_opened e h k t = opened_if_got (Enl e) h k (has_more (is_enlist_got e.value) (is_opening_got (Enl e)) (enlist_opening e) h t)

@@ -1,6 +1,6 @@
 -- More rows that a history keeps which keeps the joint table: what goes up on v and on an enlistment's connection is sent after BEGUN; and what must stand before
 -- what the coordinator gets, sends and records does.
-use Rattle.std.proofs.Common.{◌≡◌, ℕ, Bool, true, false, ◌&&◌, ◌||◌, List, [], ◌∷◌, refl, sym, subst}
+use Rattle.std.proofs.Common.{◌≡◌, ℕ, Bool, true, false, ◌&&◌, ◌||◌, List, [], ◌∷◌, refl}
 use Rattle.std.specs.Prelude.{not}
 use Rattle.dtx_values.specs.declared.entry.Entry.{Entry}
 use Rattle.dtx_values.specs.declared.entry.Entry.TheVariants.{Freed, Got, Logged, Restarted, Sent, Enlisted, LocalYes, Promoted, Requested, Voted}
@@ -24,7 +24,6 @@ use Rattle.std.proofs.lemmas.Bool.{false_from_ne_true, or_left}
 use Rattle.dtx_model.specs.Outcome.{enlisted}
 use Rattle.outcome_law.proofs.Rule.{is_enlisted, is_volatile_of}
 use Rattle.outcome_law.proofs.Debts.{is_volatile_made}
-use Rattle.dtx_model.proofs.Connections.{same_is}
 use Rattle.dtx_model.specs.Learned.{coordinator_aborted}
 use Rattle.outcome_law.proofs.Scans.{has_more}
 use Rattle.outcome_law.proofs.Tests.{eq_self, second_of_three, second_of_four, third_of_four, second_of_five}
@@ -34,6 +33,7 @@ use Rattle.outcome_law.proofs.Table.{is_prepare_got, is_there, message_row, rule
 use Rattle.outcome_law.proofs.Keeping.{Keeps, keeps_before, newest, fifth_of_five}
 use Rattle.outcome_law.proofs.Standing.{begun_if_enlist, begun_if_voter, prepared_if_cast, sent_opened, prepared_if_asked}
 use Rattle.outcome_law.proofs.Crossed.{is_got_on}
+use Rattle.outcome_law.proofs.Leading.{opening_on}
 
 -- a row that each entry keeps of a history that keeps the table
 pub by_keeping : (row : List Entry → Entry → Bool) → ((x : Entry) (h : List Entry) → Keeps (x ∷ h) → row h x ≡ true) → (h : List Entry) → Keeps h → always row h ≡ true
@@ -109,13 +109,6 @@ kept_ordered = by_keeping is_ordered at
     at (Sent Voter Down VoterAsk) h k =
         has_more is_commit_got (is_got_on Begin Up COMMIT) commit_on h (row_of Voter Down VoterAsk h (newest (Sent Voter Down VoterAsk) h k))
     at x h k = refl
-
-opening_on : (c : Conn) (x : Entry) → is_opening_got c x ≡ true → is_got_on c Up (is_opening c) x ≡ true
-opening_on c (Got e Up m) t =
-    let same = and_left (same_connection c e) (is_opening e m) t in
-    let P : Conn → Type 0 = λ y. is_opening y m ≡ true in
-    and_both (same_connection c e && true) (is_opening c m) (and_both (same_connection c e) true same refl) (subst P (sym (same_is c e same)) (and_right (same_connection c e) (is_opening e m) t))
-opening_on c _ t = absurd cc
 
 created_on : (x : Entry) → is_created_got x ≡ true → is_got_on Voter Down CREATED x ≡ true
 created_on (Got Voter Down VoterCreated) k = refl

@@ -130,15 +130,23 @@ promised s t h r u quiet = λ i x e promotable there.
         (has_rows (λ f c. (n == f.value) && is_volatile c) h ∙ has_more (is_volatile_of n) (λ y. (n == y.0.value) && is_volatile y.1) (λ y q. q) (enlisted h) v)) promotable)
         (λ p. not_both (has is_promoted h) p u) (asked_volatile n h r.stands.keeps asked)
 
+-- an enlistment that was asked to promote, and isn't lost, stays silent
+abbrev pub is_one_silent : List Line → List Entry → Bool
+is_one_silent s h = has (λ x. not (is_still_lost x.0.value h) && is_silent_to_promote (plans_of s x.0.value) h x.0.value) (enlisted h)
+
+-- each call that was answered `wait` got its answer
+abbrev pub are_all_answered : List Entry → Bool
+are_all_answered h = each (λ n. has (is_answer_of n) h) (all_of waiting_line h)
+
 -- Each waiting call is answered: by the decision where there is one; else the promotion is over, and so is each enlistment that waited for it.
 pub calls_answered : (s : List Line) (k t : ℕ) (h : List Entry) → are_named_well s ≡ true → Caused s k t h → has is_stop h ≡ false → AreCallsAnswered s h
 calls_answered s k t h named c running = λ settled. began (settled_run s k t h named c running settled) (has is_promoting h) refl
   where
     silent : Bool
-    silent = has (λ x. not (is_still_lost x.0.value h) && is_silent_to_promote (plans_of s x.0.value) h x.0.value) (enlisted h)
+    silent = is_one_silent s h
 
     answered : Bool
-    answered = each (λ n. has (is_answer_of n) h) (all_of waiting_line h)
+    answered = are_all_answered h
 
     undecided : IsSettledRun s t h → has is_promoting h ≡ true → has is_decision h ≡ false → (b : Bool) → silent ≡ b → (answered || b) ≡ true
     undecided r p d true q = or_right answered true refl

@@ -176,7 +176,7 @@ opening_came c p (x ∷ h) w k =
     or_case (is_got_on c Up p x) (has (is_got_on c Up p) h) (λ t. first_here c p x h w.1 w.0 t) (λ t. or_right (is_opening_got c x) (has (is_opening_got c) h) (opening_came c p h w.1 t)) k
 
 -- What came was sent: the opening of a connection, and BEGUN before that of the voter's or an enlistment's.
-opening_on : (c : Conn) (x : Entry) → is_opening_got c x ≡ true → is_got_on c Up (is_opening c) x ≡ true
+pub opening_on : (c : Conn) (x : Entry) → is_opening_got c x ≡ true → is_got_on c Up (is_opening c) x ≡ true
 opening_on c (Got e Up m) t =
     let s = and_left (same_connection c e) (is_opening e m) t in
     let P : Conn → Type 0 = λ y. is_opening y m ≡ true in
@@ -217,7 +217,7 @@ rest_none p (m ∷ ms) e = later (p m) (has p ms) e
     later true b k = absurd cc
     later false b k = k
 
-taken_none : (p : Message → Bool) (n : ℕ) (ms : List Message) → has p ms ≡ false → has p (take n ms) ≡ false
+pub taken_none : (p : Message → Bool) (n : ℕ) (ms : List Message) → has p ms ≡ false → has p (take n ms) ≡ false
 taken_none p zero ms e = refl
 taken_none p (suc n) [] e = refl
 taken_none p (suc n) (m ∷ ms) e = parts (p m) (has p ms) (has p (take n ms)) (λ k. taken_none p n ms k) e
@@ -231,7 +231,7 @@ rest_taken p zero ms e = refl
 rest_taken p (suc n) [] e = refl
 rest_taken p (suc n) (m ∷ ms) e = taken_none p n ms e
 
-behind_none : (p : Message → Bool) (m : Message) (ms : List Message) → p m ≡ false → has p ms ≡ false → has p (ms ++ m ∷ []) ≡ false
+pub behind_none : (p : Message → Bool) (m : Message) (ms : List Message) → p m ≡ false → has p ms ≡ false → has p (ms ++ m ∷ []) ≡ false
 behind_none p m ms f e = has-behind p m ms ∙ or_false (p m) (has p ms) f e
 
 rest_behind : (p : Message → Bool) (m : Message) (ms : List Message) → p m ≡ false → has p (without_first ms) ≡ false → has p (without_first (ms ++ m ∷ [])) ≡ false

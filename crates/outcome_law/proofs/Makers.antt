@@ -110,17 +110,14 @@ pub record AreMade (G : ℕ → ActorNo → Call → Type 0) (ks : List EnteredC
   pub waiters : OfEach (IsWaiter G ks h) (waiting ks h)
   pub managers : OfEach (λ (m : EnlNo × RmNo). IsMaker G ks h (makes_lasting m.0.value)) (managed ks h)
 
+-- it is one of another test, world or history too
+abbrev maker_of : (G : ℕ → ActorNo → Call → Type 0) (ks ls : List EnteredCall) (h g : List Entry) (q p : Call → Bool) (m : IsMaker G ks h q) → call_at ls m.number ≡ Some m.call → p m.call ≡ true → has (is_call m.number) g ≡ true
+    → IsMaker G ls g p
+maker_of G ks ls h g q p m entered passes called = record { number = m.number; actor = m.actor; call = m.call; may = m.may; entered = entered; passes = passes; called = called }
+
 -- with one more entry
 abbrev maker_more : (G : ℕ → ActorNo → Call → Type 0) (ks : List EnteredCall) (h : List Entry) (q : Call → Bool) (x : Entry) → IsMaker G ks h q → IsMaker G ks (x ∷ h) q
-maker_more G ks h q x m = record {
-  number = m.number;
-  actor = m.actor;
-  call = m.call;
-  may = m.may;
-  entered = m.entered;
-  passes = m.passes;
-  called = or_right (is_call m.number x) (has (is_call m.number) h) m.called;
-}
+maker_more G ks h q x m = maker_of G ks ks h (x ∷ h) q q m m.entered m.passes (or_right (is_call m.number x) (has (is_call m.number) h) m.called)
 
 pub waiter_more : (G : ℕ → ActorNo → Call → Type 0) (ks : List EnteredCall) (h : List Entry) (x : Entry) (v : Waiter) → IsWaiter G ks h v → IsWaiter G ks (x ∷ h) v
 waiter_more G ks h x v w = record { actor = w.actor; call = w.call; may = w.may; entered = w.entered; wants = w.wants; called = or_right (is_call v.0 x) (has (is_call v.0) h) w.called }
@@ -130,15 +127,7 @@ entered_more : (ks : List EnteredCall) (h : List Entry) (k : EnteredCall) (n : �
 entered_more ks h k n c new called e = rw (apart (λ m. has (is_call m) h) k.line n new called) e
 
 abbrev maker_entered : (G : ℕ → ActorNo → Call → Type 0) (ks : List EnteredCall) (h : List Entry) (q : Call → Bool) (k : EnteredCall) → has (is_call k.line) h ≡ false → IsMaker G ks h q → IsMaker G (k ∷ ks) h q
-maker_entered G ks h q k new m = record {
-  number = m.number;
-  actor = m.actor;
-  call = m.call;
-  may = m.may;
-  entered = entered_more ks h k m.number m.call new m.called m.entered;
-  passes = m.passes;
-  called = m.called;
-}
+maker_entered G ks h q k new m = maker_of G ks (k ∷ ks) h h q q m (entered_more ks h k m.number m.call new m.called m.entered) m.passes m.called
 
 waiter_entered : (G : ℕ → ActorNo → Call → Type 0) (ks : List EnteredCall) (h : List Entry) (k : EnteredCall) (v : Waiter) → has (is_call k.line) h ≡ false → IsWaiter G ks h v → IsWaiter G (k ∷ ks) h v
 waiter_entered G ks h k v new w = record {
@@ -483,30 +472,15 @@ enlist_made : (G : ℕ → ActorNo → Call → Type 0) (ks : List EnteredCall) 
 enlist_made G ks h e c m idle f a =
     let x = Enlisted e c in
     let own : (k : ℕ) → (k == e.value) ≡ true → (o : IsMaker G ks (x ∷ h) (makes_enlistment k)) × (has (waits_at o.number) (waiting ks h) ≡ false) = λ k q. (
-      record {
-        number = m.number;
-        actor = m.actor;
-        call = m.call;
-        may = m.may;
-        entered = m.entered;
-        passes = subst (λ j. makes_enlistment j m.call ≡ true) (sym (eqb-true k e.value q)) m.passes;
-        called = m.called;
-      },
+      maker_of G ks ks h (x ∷ h) (makes_enlistment e.value) (makes_enlistment k) m m.entered (subst (λ j. makes_enlistment j m.call ≡ true) (sym (eqb-true k e.value q)) m.passes) m.called,
       idle,
     ) in
     record {
       enlisted = λ k q. or_case (k == e.value) (has (is_enlisted k) h) (own k) (λ q. let o = a.enlisted k q in (maker_more G ks h (makes_enlistment k) x o.0, o.1)) q;
       volatile =
           λ k q. or_case ((k == e.value) && is_volatile c) (has (is_volatile_made k) h)
-          (λ q. record {
-            number = m.number;
-            actor = m.actor;
-            call = m.call;
-            may = m.may;
-            entered = m.entered;
-            passes = subst (λ j. makes_volatile j m.call ≡ true) (sym (eqb-true k e.value (and_left (k == e.value) (is_volatile c) q))) (f (and_right (k == e.value) (is_volatile c) q));
-            called = m.called;
-          }) (λ q. maker_more G ks h (makes_volatile k) x (a.volatile k q)) q;
+          (λ q. maker_of G ks ks h (x ∷ h) (makes_enlistment e.value) (makes_volatile k) m m.entered
+          (subst (λ j. makes_volatile j m.call ≡ true) (sym (eqb-true k e.value (and_left (k == e.value) (is_volatile c) q))) (f (and_right (k == e.value) (is_volatile c) q))) m.called) (λ q. maker_more G ks h (makes_volatile k) x (a.volatile k q)) q;
       sent = λ k q. maker_more G ks h (makes_lasting k.value) x (a.sent k q);
       waiters = of-more (IsWaiter G ks h) (IsWaiter G ks (x ∷ h)) (waiter_more G ks h x) (waiting ks h) a.waiters;
       managers =

@@ -59,7 +59,7 @@ use Rattle.outcome_law.proofs.Standing.{opened_if_got}
 use Rattle.outcome_law.proofs.HalfKnows.{way_seen}
 use Rattle.outcome_law.proofs.HalfOwner.{enlist_opening}
 use Rattle.outcome_law.proofs.Reenlisted.{opened_since}
-use Rattle.outcome_law.proofs.WorldCalls.{branch_done, makes_new}
+use Rattle.outcome_law.proofs.WorldCalls.{branch_done, makes_new, both_ended}
 use Rattle.outcome_law.proofs.TameBlocks.{is_unpromotable, of_act, tame_arrived, tame_called, tame_cons, tame_coordinates, tame_core_got, tame_ended_at, tame_reply, tame_restarted}
 use Rattle.outcome_law.proofs.Marks.{IsMarked, cloned_marked, opened_if_enlisted, opening_marked, promotable_marked, promote_marked, return_marked, single_marked, tame_marked, tame_onto}
 use Rattle.outcome_law.proofs.Unlinked.{ended_unknown}
@@ -157,12 +157,6 @@ unlinked_unknown e h o u =
     ended_unknown (Enl e) h
     (both_ended (was_opened (Enl e) h) (is_ended (Enl e) Up h) (is_ended (Enl e) Down h) (has_left (Enl e) Up h) (has_left (Enl e) Down h) (opened_since (Enl e) h o)
     (or_first (is_linked (Enl e) h) (is_linked (Again e) h) u))
-  where
-    both_ended : (o a b l r : Bool) → o ≡ true → (o && (not (a && b) || l || r)) ≡ false → b ≡ true
-    both_ended false a b l r p q = absurd cc
-    both_ended true true true l r p q = refl
-    both_ended true true false l r p q = absurd cc
-    both_ended true false b l r p q = absurd cc
 
 return_block : (G : ℕ → ActorNo → Call → Type 0) (t : ℕ) (h : List Entry) (b : Branch) → knows (Enl b.enlistment) (ends_of h) ≡ false → IsMarked G h → Keeps (onto h (reenlist_facts t (Some b)))
     → IsMarked G (onto h (reenlist_facts t (Some b)))

@@ -13,9 +13,8 @@ use Rattle.dtx_values.specs.Lines.{has_line, is_opening}
 use Rattle.dtx_model.specs.Words.{always, has}
 use Rattle.dtx_model.specs.Wires.{MayCross, WireRun, in_transit, is_next, is_open_wire, is_stopped, kept, opened_with, opens, sent_behind, transit_after_stop, without_first}
 use Rattle.dtx_model.proofs.Bools.{and_left, and_right, not_both, not_false, not_true, or_case, or_false}
-use Rattle.outcome_law.proofs.Lists.{has-behind}
 use Rattle.outcome_law.proofs.Crossed.{came, is_got_on, is_sent_on, was_sent}
-use Rattle.outcome_law.proofs.Leading.{opening_of, next_stands}
+use Rattle.outcome_law.proofs.Leading.{opening_of, next_stands, behind_none, taken_none}
 use Rattle.dtx_model.proofs.Connections.{same_is, same_way_is}
 
 -- none that passes was sent there before
@@ -42,9 +41,6 @@ one_rest p m ms t = step (p m) t
     step true t = none_one p ms (not_true (has p ms) t)
     step false t = t
 
-behind_none : (p : Message → Bool) → (m : Message) (ms : List Message) → p m ≡ false → has p ms ≡ false → has p (ms ++ m ∷ []) ≡ false
-behind_none p m ms f e = has-behind p m ms ∙ or_false (p m) (has p ms) f e
-
 one_other : (p : Message → Bool) → (m : Message) (ms : List Message) → p m ≡ false → is_one p ms ≡ true → is_one p (ms ++ m ∷ []) ≡ true
 one_other p m [] f t = rw f refl
 one_other p m (x ∷ ms) f t = step (p x) t (one_other p m ms f)
@@ -64,15 +60,6 @@ one_new p m (x ∷ ms) e = step (p x) e (one_new p m ms)
     step : (b : Bool) → (b || has p ms) ≡ false → (has p ms ≡ false → is_one p (ms ++ m ∷ []) ≡ true) → (if b then not (has p (ms ++ m ∷ [])) else is_one p (ms ++ m ∷ [])) ≡ true
     step true e g = absurd cc
     step false e g = g e
-
-taken_none : (p : Message → Bool) → (n : ℕ) (ms : List Message) → has p ms ≡ false → has p (take n ms) ≡ false
-taken_none p zero ms e = refl
-taken_none p (suc n) [] e = refl
-taken_none p (suc n) (m ∷ ms) e = parts (p m) (has p ms) (has p (take n ms)) (λ k. taken_none p n ms k) e
-  where
-    parts : (a b c : Bool) → (b ≡ false → c ≡ false) → (a || b) ≡ false → (a || c) ≡ false
-    parts true b c f k = absurd cc
-    parts false b c f k = f k
 
 taken_one : (p : Message → Bool) → (n : ℕ) (ms : List Message) → is_one p ms ≡ true → is_one p (take n ms) ≡ true
 taken_one p zero ms t = refl

@@ -1,6 +1,6 @@
 -- BEGIN is sent once, promoted or not, whatever stops and restarts: a promotion begins once, and BEGIN is sent as it begins, or else by the one promotable that stood then.
-use Rattle.std.proofs.Common.{◌≡◌, ◌==◌, ℕ, Bool, true, false, ◌&&◌, ◌||◌, not, List, [], ◌∷◌, ◌++◌, find, is_some, Option, Some, None, refl, ap, sym, subst, ◌∙◌, if◌then◌else◌}
-use Rattle.std.proofs.lemmas.Bool.{false_from_ne_true, or_left}
+use Rattle.std.proofs.Common.{◌≡◌, ◌==◌, ℕ, Bool, true, false, ◌&&◌, ◌||◌, not, List, [], ◌∷◌, ◌++◌, is_some, Option, Some, None, refl, ap, sym, subst, ◌∙◌, if◌then◌else◌}
+use Rattle.std.proofs.lemmas.Bool.{false_from_ne_true}
 use Rattle.std.proofs.lemmas.List.Folds.{list_any-append}
 use Rattle.dtx_values.specs.declared.call.Call.{Call}
 use Rattle.dtx_values.specs.declared.call.Call.TheVariants.{Durable, Marshal, Promotable}
@@ -8,7 +8,7 @@ use Rattle.dtx_values.specs.declared.entry.Answer.{Answer}
 use Rattle.dtx_values.specs.declared.entry.Answer.TheVariants.{False, Fine, Id, Many, TooLate, True, Wait}
 use Rattle.dtx_values.specs.declared.entry.Ask.TheVariants.{Promote, Single as AskSingle}
 use Rattle.dtx_values.specs.declared.entry.Entry.{Entry}
-use Rattle.dtx_values.specs.declared.entry.Entry.TheVariants.{Answered, Asked, Called, Cut, Decided, Down as Ended, Enlisted, Freed, Got, Init, Logged, LogFull, PromoteReply, Promoting, PromotionFailed, Recovered as RecoveredEntry, Restarted, Sealed, Sent, Stopped}
+use Rattle.dtx_values.specs.declared.entry.Entry.TheVariants.{Answered, Asked, Called, Cut, Decided, Down as Ended, Enlisted, Freed, Got, Init, Logged, LogFull, Promoting, PromotionFailed, Recovered as RecoveredEntry, Restarted, Sealed, Sent, Stopped}
 use Rattle.dtx_values.specs.declared.message.Conn.{Conn}
 use Rattle.dtx_values.specs.declared.message.Conn.TheVariants.{Begin, Voter}
 use Rattle.dtx_values.specs.declared.message.Dir.{Dir}
@@ -24,7 +24,6 @@ use Rattle.dtx_values.specs.declared.number.RmNo.{RmNo}
 use Rattle.dtx_values.specs.declared.row.Row.{Row}
 use Rattle.dtx_values.specs.declared.words.Cause.{Cause}
 use Rattle.dtx_values.specs.declared.words.Cause.TheVariants.{Marshal as MarshalCause}
-use Rattle.dtx_values.specs.declared.words.Class.{Class}
 use Rattle.dtx_values.specs.declared.words.Class.TheVariants.{DurableSingle, Promotable as PromotableClass}
 use Rattle.dtx_values.specs.declared.words.Outcome.{Outcome}
 use Rattle.dtx_values.specs.declared.script.Support.TheVariants.{SinglePhase, TwoPhase}
@@ -35,18 +34,15 @@ use Rattle.dtx_values.specs.Lines.{has_line}
 use Rattle.dtx_values.specs.Owners.{cause_of, may_own}
 use Rattle.dtx_values.specs.Row.{is_of}
 use Rattle.dtx_values.specs.Support.{is_single}
-use Rattle.dtx_values.specs.Table.{insert_by}
 use Rattle.dtx_model.specs.declared.waiting.EnteredCall.{EnteredCall}
-use Rattle.dtx_model.specs.declared.waiting.Wanted.{Wanted}
-use Rattle.dtx_model.specs.declared.waiting.Wanted.TheVariants.{Identifier, Place}
 use Rattle.dtx_model.specs.Words.{each, has, latest, onto, or_else}
 use Rattle.dtx_model.specs.Entries.{began_of, decision_of, is_decision, is_promoted, is_sealed}
 use Rattle.dtx_model.specs.Outcome.{enlisted}
-use Rattle.dtx_model.specs.Observed.{Observed, cause_of_promotion, is_ask_promote, is_promote_reply, is_promotion_failed, observe, rows, track}
-use Rattle.dtx_model.specs.Waiting.{Waiter, call_at, waiter_line, waiting, waiting_after, wanted}
+use Rattle.dtx_model.specs.Observed.{Observed, cause_of_promotion, is_ask_promote, is_promote_reply, is_promotion_failed, observe, rows}
+use Rattle.dtx_model.specs.Waiting.{Waiter, call_at, waiter_line, waiting, wanted}
 use Rattle.dtx_model.specs.Promotes.{identifier_of}
 use Rattle.dtx_model.specs.Wires.{in_transit}
-use Rattle.dtx_model.specs.Coordinated.{Coordinated, core_got, may_log}
+use Rattle.dtx_model.specs.Coordinated.{Coordinated, core_got}
 use Rattle.dtx_model.specs.Half.{Half, decide, ended, enlist_sent, fails_if, is_promoting, sees}
 use Rattle.dtx_model.specs.Answers.{durable_answer, has_promotion, is_crowded, is_full, local_answer, marshal_answer, promotable_answer}
 use Rattle.dtx_model.specs.Arrivals.{local_got}
@@ -56,10 +52,10 @@ use Rattle.dtx_model.specs.Facts.{begin_promotion, durable_facts, facts_if, has_
 use Rattle.dtx_model.specs.World.{World, answer_at, core, facts_at, half}
 use Rattle.dtx_model.specs.Steps.{Step, Calls, Replies, Acts, Coordinates, Delivers, Stops, Restarts, LogAnswer, after, block_at, called, coordinates, delivered, ended_at, restarted}
 use Rattle.dtx_model.specs.Caused.{IsRun, MayCome, Ran, is_begin_sent}
-use Rattle.dtx_model.proofs.Blocks.{OfKinds, of_act, of_arrived, of_called, of_coordinates, of_core_down, of_core_got, of_local_down, of_reply, of_restarted}
-use Rattle.dtx_model.proofs.Bools.{and_both, and_left, and_right, not_both, not_false, not_true, or_case, or_first, or_right, or_second}
+use Rattle.dtx_model.proofs.Blocks.{of_act, of_arrived, of_called, of_coordinates, of_core_down, of_core_got, of_local_down, of_reply, of_restarted}
+use Rattle.dtx_model.proofs.Bools.{and_both, and_left, and_right, not_both, not_true, or_case, or_first, or_right, or_second}
 use Rattle.dtx_model.proofs.Reading.{has-onto}
-use Rattle.dtx_model.proofs.Writes.{ByAct, ByCall, ByMessage, ByReply, Each, IsClosed, OfWritten, Source, begins, e_join, e_one, each_closed, enlists, enlists_promotable, is_making_promotable, is_outcome_message, is_promotable_place, may_begin, opens_begin, promotes, sends, writes}
+use Rattle.dtx_model.proofs.Writes.{ByAct, ByCall, ByMessage, ByReply, IsClosed, OfWritten, Source, begins, e_join, each_closed, enlists, enlists_promotable, is_making_promotable, is_promotable_place, may_begin, opens_begin, promotes, writes}
 use Rattle.outcome_law.proofs.HalfReplies.{owed}
 use Rattle.outcome_law.proofs.Lists.{has-insert}
 use Rattle.outcome_law.proofs.Owned.{decision_seen, has_filter, has_rows}
@@ -69,7 +65,7 @@ use Rattle.outcome_law.proofs.Tests.{first_of_four, second_of_four, third_of_fou
 use Rattle.outcome_law.proofs.WorldCalls.{done_behind}
 
 -- a promotion began
-abbrev starts : List Entry → Bool
+abbrev pub starts : List Entry → Bool
 starts h = is_some (latest cause_of_promotion h)
 
 -- a promotable stands
@@ -246,11 +242,11 @@ adds_facts h true es i f = f refl
 adds_facts h false es i f = adds_none h i
 
 -- Where it isn't promoted, isn't promoting, and nothing is decided, no promotion began,
-unstarted : (h : List Entry) → has is_promoted h ≡ false → is_promoting (observe h) ≡ false → latest decision_of h ≡ None → Once h → starts h ≡ false
+pub unstarted : (h : List Entry) → has is_promoted h ≡ false → is_promoting (observe h) ≡ false → latest decision_of h ≡ None → (has is_promotion_failed h ≡ true → has is_decision h ≡ true) → starts h ≡ false
 unfolding observe
-unstarted h p w d i =
+unstarted h p w d f =
     by (starts h) (has is_promoted h) (has is_promotion_failed h) p
-    (false_from_ne_true (has is_promotion_failed h) (λ k. not_both (has is_decision h) (i.failed k) (sym (decision_seen h) ∙ ap (λ (o : Option Outcome). is_some o) d))) w
+    (false_from_ne_true (has is_promotion_failed h) (λ k. not_both (has is_decision h) (f k) (sym (decision_seen h) ∙ ap (λ (o : Option Outcome). is_some o) d))) w
   where
     by : (s p f : Bool) → p ≡ false → f ≡ false → (s && not p && not f) ≡ false → s ≡ false
     by true false false a b k = absurd cc
@@ -354,18 +350,18 @@ adds_durable t h v e r single Wait s d i =
     (λ p. adds_calm false h (enlist_sent t e r) (λ e. absurd cc) (calm_one _ refl refl) i)
     (λ p. adds_if h (is_promoting v.seen) [] (begin_promotion v (cause_of v.seen.table single)) (λ w. adds_none h i)
     (λ w. adds_start h v (cause_of v.seen.table single) (ap (λ (o : Observed). o.table) s)
-    (unstarted h (sym (ap (λ (o : Observed). o.promoted) s) ∙ p) (sym (ap (λ (o : Observed). is_promoting o) s) ∙ w) (d refl) i) i))
+    (unstarted h (sym (ap (λ (o : Observed). o.promoted) s) ∙ p) (sym (ap (λ (o : Observed). is_promoting o) s) ∙ w) (d refl) i.failed) i))
 adds_durable t h v e r single Fine s d i = adds_calm false h (Enlisted e DurableSingle ∷ []) (λ e. absurd cc) (calm_one (Enlisted e DurableSingle) refl refl) i
 adds_durable t h v e r single True s d i = adds_calm false h (Enlisted e DurableSingle ∷ []) (λ e. absurd cc) (calm_one (Enlisted e DurableSingle) refl refl) i
 adds_durable t h v e r single _ s d i = adds_none h i
 
 -- A promotable's call, where no promotion is under way.
-owns_alone : (s m f : Bool) → has_facts (if s then TooLate else if not m then False else if f then Many ENLISTMENTS else True) ≡ true → m ≡ true
+pub owns_alone : (s m f : Bool) → has_facts (if s then TooLate else if not m then False else if f then Many ENLISTMENTS else True) ≡ true → m ≡ true
 owns_alone true m f k = absurd cc
 owns_alone false true f k = refl
 owns_alone false false f k = absurd cc
 
-unowned : (xs : List Row) (p : Bool) → may_own xs p ≡ true → p ≡ false
+pub unowned : (xs : List Row) (p : Bool) → may_own xs p ≡ true → p ≡ false
 unfolding may_own
 unowned xs p k = not_true p (and_left (not p) _ k)
 
@@ -378,7 +374,7 @@ adds_promotable h e x f i =
     })
 
 -- A marshal call: a promotion begins where none did.
-marshal_waits : (p s c : Bool) (u : ℕ) → has_facts (if p then Id u else if s then TooLate else if c then Many CALLS else Wait) ≡ true → p ≡ false
+pub marshal_waits : (p s c : Bool) (u : ℕ) → has_facts (if p then Id u else if s then TooLate else if c then Many CALLS else Wait) ≡ true → p ≡ false
 marshal_waits true s c u k = absurd cc
 marshal_waits false s c u k = refl
 
@@ -398,7 +394,7 @@ call_adds t w n a (Promotable u e r y z p) m i =
     (adds_promotable (Called n a x ∷ w.past) e x
     (λ k. let d = done_behind (latest began_of w.past) (latest decision_of w.past) (promotable_answer (half w)) k in
     let free = unowned (rows w.past) (has_promotion (observe w.past)) (owns_alone (has is_sealed w.past) (may_own (rows w.past) (has_promotion (observe w.past))) (is_full (half w)) d.1) in
-    unbegun w.past (unstarted w.past (or_first (has is_promoted w.past) (is_promoting (observe w.past)) free) (or_second (has is_promoted w.past) (is_promoting (observe w.past)) free) d.0 i) i)
+    unbegun w.past (unstarted w.past (or_first (has is_promoted w.past) (is_promoting (observe w.past)) free) (or_second (has is_promoted w.past) (is_promoting (observe w.past)) free) d.0 i.failed) i)
     (call_once w.past n a x i))
 call_adds t w n a (Marshal u) m i =
     let x = answer_at t w (Marshal u) m in
@@ -409,27 +405,40 @@ call_adds t w n a (Marshal u) m i =
     (λ k. let d = done_behind (latest began_of w.past) (latest decision_of w.past) (marshal_answer t (half w)) k in
     adds_if h (is_promoting (half w).seen) [] (begin_promotion (half w) (Some MarshalCause)) (λ b. adds_none h next)
     (λ b. adds_start h (half w) (Some MarshalCause) refl
-    (unstarted w.past (marshal_waits (has is_promoted w.past) (has is_sealed w.past) (is_crowded (half w)) (identifier_of t) d.1) b d.0 i) next)))
+    (unstarted w.past (marshal_waits (has is_promoted w.past) (has is_sealed w.past) (is_crowded (half w)) (identifier_of t) d.1) b d.0 i.failed) next)))
 call_adds t w n a c m i =
     let x = answer_at t w c m in
     adds_head (Called n a x) w.past (facts_if (has_facts x) (facts_at t w c x)) refl
     (adds_calm false (Called n a x ∷ w.past) (facts_if (has_facts x) (facts_at t w c x)) (λ e. absurd cc) (calm_called t w c x refl refl) (call_once w.past n a x i))
 
--- A promotable promotes: it was asked to, and hadn't answered, so BEGIN wasn't sent.
-adds_promote : (w : World) (e : EnlNo) (n : Note) → due_of (half w).seen e.value ≡ Some n → fits (Promotes true) n ≡ true → Once w.past → Adds w.past (promote_entries (half w) e true)
+-- A promotable that is to promote was asked to, hasn't answered, and stands.
+pub record IsToPromote (h : List Entry) : Type 0 where
+  pub asked : has is_ask_promote h ≡ true
+  pub new : has is_promote_reply h ≡ false
+  pub stands : has (λ x. is_promotable x.1) (enlisted h) ≡ true
+
+pub to_promote : (w : World) (e : EnlNo) (n : Note) → due_of (half w).seen e.value ≡ Some n → fits (Promotes true) n ≡ true → IsToPromote w.past
 unfolding observe
-adds_promote w e n d f i =
+to_promote w e n d f =
     let h = w.past in
     let o = owed h (Promotes true) n e.value refl d f in
-    let asked = first_of_four (has is_ask_promote h) (not (has is_promote_reply h)) (is_promotable o.row.class) (not (is_some (latest decision_of h))) o.answers in
-    let new = not_true (has is_promote_reply h) (second_of_four (has is_ask_promote h) (not (has is_promote_reply h)) (is_promotable o.row.class) (not (is_some (latest decision_of h))) o.answers) in
     let class = third_of_four (has is_ask_promote h) (not (has is_promote_reply h)) (is_promotable o.row.class) (not (is_some (latest decision_of h))) o.answers in
     let place = found_at (is_of e.value) (rows h) o.row o.stands in
-    let stands : has_promotable h ≡ true = sym (has_rows (λ f c. is_promotable c) h) ∙ has-at (λ x. is_promotable x.class) (rows h) place.0 o.row place.1 class in
-    let began = i.asked asked in
+    record {
+      asked = first_of_four (has is_ask_promote h) (not (has is_promote_reply h)) (is_promotable o.row.class) (not (is_some (latest decision_of h))) o.answers;
+      new = not_true (has is_promote_reply h) (second_of_four (has is_ask_promote h) (not (has is_promote_reply h)) (is_promotable o.row.class) (not (is_some (latest decision_of h))) o.answers);
+      stands = sym (has_rows (λ f c. is_promotable c) h) ∙ has-at (λ x. is_promotable x.class) (rows h) place.0 o.row place.1 class;
+    }
+
+-- A promotable promotes: it was asked to, and hadn't answered, so BEGIN wasn't sent.
+adds_promote : (w : World) (e : EnlNo) (n : Note) → due_of (half w).seen e.value ≡ Some n → fits (Promotes true) n ≡ true → Once w.past → Adds w.past (promote_entries (half w) e true)
+adds_promote w e n d f i =
+    let h = w.past in
+    let o = to_promote w e n d f in
+    let began = i.asked o.asked in
     record {
       once = record { begun = λ t. began; asked = λ t. began; bare = λ t r. absurd cc; failed = i.failed };
-      new = λ t. false_from_ne_true (has is_begin_sent h) (λ k. not_both (has_promotable h) stands (i.bare k new));
+      new = λ t. false_from_ne_true (has is_begin_sent h) (λ k. not_both (has_promotable h) o.stands (i.bare k o.new));
     }
 
 -- So it is after each step.

@@ -30,7 +30,7 @@ use Rattle.dtx_model.specs.Replay.{HasSettled, IsReplayed, LinesRan, StepsRan, w
 use Rattle.dtx_values.specs.Owners.{may_own, owner_of}
 use Rattle.dtx_model.specs.Outcome.{ready, by_seal, by_owner, by_log, evidence, vetoed, owner_doubt, coordinator_doubt, doubt, may_tell, justified, agree}
 use Rattle.outcome_law.proofs.Examples.{just_in, agree_in, handed_e2}
-use Rattle.outcome_law.proofs.ReplayExample.{at_t1, planned_at_t1}
+use Rattle.outcome_law.proofs.ReplayExample.{at_t1, planned_at_t1, acted}
 use Rattle.outcome_law.proofs.Replays.{replayed_caused}
 use Rattle.dtx_model.proofs.Cast.{a1, e1, e2, t1}
 
@@ -103,7 +103,7 @@ vote_steps : StepsRan owned t1 1 3 (at_t1 both_asked) (at_t1 both_voted)
 unfolding block_at reply_entries track veto observe pending local_pending all_due due_of act_entries coordinate follow may_log may_free next_ask is_over
 vote_steps = (
   at_t1 (both_asked ++ Sealed ∷ Asked e1 Prepare ∷ []),
-  (at_t1 (both_asked ++ Sealed ∷ []), (at_t1 both_asked, refl, LocalAct, Acts, refl, refl, refl, refl), LocalAct, Acts, refl, refl, refl, refl),
+  acted owned 1 (at_t1 both_asked) (at_t1 (both_asked ++ Sealed ∷ [])) (at_t1 (both_asked ++ Sealed ∷ Asked e1 Prepare ∷ [])) (acted owned 0 (at_t1 both_asked) (at_t1 both_asked) (at_t1 (both_asked ++ Sealed ∷ [])) refl refl refl) refl refl,
   ReplyOf e1,
   Replies e1 (VoteReply Yes),
   refl,
@@ -112,37 +112,17 @@ vote_steps = (
   refl,
 )
 
+-- the owner's answer, with the decision
+answer_steps : StepsRan owned t1 1 5 (at_t1 both_asked) (at_t1 owner_answered)
+unfolding block_at reply_entries track veto observe pending local_pending all_due due_of act_entries coordinate follow may_log may_free next_ask is_over owner_of hears
+answer_steps = (at_t1 (both_voted ++ Handed e2 ∷ []), acted owned 3 (at_t1 both_asked) (at_t1 both_voted) (at_t1 (both_voted ++ Handed e2 ∷ [])) vote_steps refl refl, ReplyOf e2, Replies e2 (OwnerReply Committed), refl, answer_named, refl, refl)
+
 -- the steps of the `await`
 owned_steps : StepsRan owned t1 1 7 (at_t1 both_asked) (at_t1 both_told)
 unfolding block_at reply_entries track veto observe pending local_pending all_due due_of act_entries coordinate follow may_log may_free next_ask is_over owner_of hears
-owned_steps = (
-  at_t1 (owner_answered ++ Told (Enl e1) Committed ∷ []),
-  (
-    at_t1 owner_answered,
-    (
-      at_t1 (both_voted ++ Handed e2 ∷ []),
-      (at_t1 both_voted, vote_steps, LocalAct, Acts, refl, refl, refl, refl),
-      ReplyOf e2,
-      Replies e2 (OwnerReply Committed),
-      refl,
-      answer_named,
-      refl,
-      refl,
-    ),
-    LocalAct,
-    Acts,
-    refl,
-    refl,
-    refl,
-    refl,
-  ),
-  LocalAct,
-  Acts,
-  refl,
-  refl,
-  refl,
-  refl,
-)
+owned_steps =
+    let first_told = at_t1 (owner_answered ++ Told (Enl e1) Committed ∷ []) in
+    acted owned 6 (at_t1 both_asked) first_told (at_t1 both_told) (acted owned 5 (at_t1 both_asked) (at_t1 owner_answered) first_told answer_steps refl refl) refl refl
 
 -- the `await` waited until nothing was pending
 owned_waited : HasSettled owned t1 7 (at_t1 both_asked) (at_t1 both_told)

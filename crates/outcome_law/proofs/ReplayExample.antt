@@ -1,5 +1,5 @@
 -- A replay of a whole script, so that the laws speak of something; and traces that are none. Each stands oldest first.
-use Rattle.std.proofs.Common.{◌≡◌, ℕ, ◌==◌, Bool, true, false, List, [], ◌∷◌, ◌++◌, Some, refl, ap, arith, lit≤, subst, sym}
+use Rattle.std.proofs.Common.{◌≡◌, ℕ, ◌==◌, Bool, true, false, List, [], ◌∷◌, ◌++◌, Some, refl, ap, arith, lit≤, subst, sym, suc}
 use Rattle.std.specs.Prelude.{nat_le, nat_lt}
 use Rattle.std.proofs.lemmas.Bool.Decides.{nat_tests}
 use Rattle.dtx_values.specs.declared.number.TxNo.{TxNo}
@@ -20,7 +20,7 @@ use Rattle.dtx_values.specs.declared.words.Vote.TheVariants.{Yes}
 use Rattle.dtx_values.specs.Table.{how_many}
 use Rattle.dtx_values.specs.Waves.{next_ask, is_over, hears}
 use Rattle.dtx_values.specs.Owners.{owner_of}
-use Rattle.dtx_model.specs.Words.{always, past_of}
+use Rattle.dtx_model.specs.Words.{always, past_of, kth}
 use Rattle.dtx_model.specs.Observed.{observe, track}
 use Rattle.dtx_model.specs.Promotes.{promotes}
 use Rattle.dtx_model.specs.Coordinated.{coordinate, follow, may_free, may_log}
@@ -32,7 +32,7 @@ use Rattle.dtx_model.specs.World.{answer_at}
 use Rattle.dtx_model.specs.Steps.{Step, Replies, Acts, StepName, ReplyOf, LocalAct, block_at, local_pending, pending}
 use Rattle.dtx_model.specs.Caused.{IsCallOf, Caused, IsNamed, Settled, has_object, is_as_planned, plans_of}
 use Rattle.dtx_model.specs.Traces.{Placed, history, placed}
-use Rattle.dtx_model.specs.Replay.{is_passed, HasDoneAt, HasSettled, IsReplayed, IsTurn, LinesRan, RoundsRan, StepsRan, is_in_replay, world_at}
+use Rattle.dtx_model.specs.Replay.{is_passed, HasDoneAt, HasSettled, IsReplayed, IsTurn, LinesRan, RoundsRan, StepsRan, is_in_replay, world_at, after_turn}
 use Rattle.dtx_model.specs.History.{IsHistory, IsReplay, is_call_at}
 use Rattle.dtx_model.proofs.Bools.{and_left, and_right}
 use Rattle.dtx_model.proofs.Histories.{history-other, history-same}
@@ -82,10 +82,15 @@ told = did ++ Voted e1 Yes ∷ Decided Committed ∷ Told (Enl e1) Committed ∷
 abbrev pub whole : List Entry
 whole = told ++ Called 5 a1 (OutcomeIs Committed) ∷ []
 
+-- one more step of t1's local side, the only one that was pending
+pub acted : (s : List Line) (m : ℕ) (start past T : List Placed) → StepsRan s t1 1 m start past → kth (pending (world_at s t1 past)) 1 ≡ Some LocalAct → T ≡ after_turn s t1 Acts past → StepsRan s t1 1 (suc m) start T
+acted s m start past T ran first e = (past, ran, LocalAct, Acts, first, refl, refl, e)
+
 -- the steps of the `do`, in whatever script these lines stand
 do_steps : (s : List Line) → StepsRan s t1 1 2 (at_t1 asked) (at_t1 stepped)
 unfolding block_at observe pending local_pending all_due due_of act_entries next_ask is_over coordinate follow may_log may_free
-do_steps s = (at_t1 (asked ++ Sealed ∷ []), (at_t1 asked, refl, LocalAct, Acts, refl, refl, refl, refl), LocalAct, Acts, refl, refl, refl, refl)
+do_steps s =
+    acted s 1 (at_t1 asked) (at_t1 (asked ++ Sealed ∷ [])) (at_t1 stepped) (acted s 0 (at_t1 asked) (at_t1 asked) (at_t1 (asked ++ Sealed ∷ [])) refl refl refl) refl refl
 
 -- the `do` did two
 two_done : (s : List Line) → HasDoneAt s t1 1 2 2 (at_t1 asked) (at_t1 stepped)
@@ -101,28 +106,19 @@ votes : IsNamed (world_at script t1 (at_t1 did)) (ReplyOf e1) (Replies e1 (VoteR
 unfolding observe due_of
 votes = (VoteReply Yes, PrepareNote, refl, refl, refl)
 
+-- the volatile votes
+vote_step : StepsRan script t1 1 1 (at_t1 did) (at_t1 (did ++ Voted e1 Yes ∷ []))
+unfolding block_at reply_entries track veto observe pending local_pending all_due due_of act_entries next_ask is_over owner_of hears coordinate follow may_log may_free
+vote_step = (at_t1 did, refl, ReplyOf e1, Replies e1 (VoteReply Yes), refl, votes, refl, refl)
+
 -- the steps of the `await`
 await_steps : StepsRan script t1 1 4 (at_t1 did) (at_t1 told)
 unfolding block_at reply_entries track veto observe pending local_pending all_due due_of act_entries next_ask is_over owner_of hears coordinate follow may_log may_free
-await_steps = (
-  at_t1 (did ++ Voted e1 Yes ∷ Decided Committed ∷ Told (Enl e1) Committed ∷ []),
-  (
-    at_t1 (did ++ Voted e1 Yes ∷ Decided Committed ∷ []),
-    (at_t1 (did ++ Voted e1 Yes ∷ []), (at_t1 did, refl, ReplyOf e1, Replies e1 (VoteReply Yes), refl, votes, refl, refl), LocalAct, Acts, refl, refl, refl, refl),
-    LocalAct,
-    Acts,
-    refl,
-    refl,
-    refl,
-    refl,
-  ),
-  LocalAct,
-  Acts,
-  refl,
-  refl,
-  refl,
-  refl,
-)
+await_steps =
+    let decided = at_t1 (did ++ Voted e1 Yes ∷ Decided Committed ∷ []) in
+    let first_told = at_t1 (did ++ Voted e1 Yes ∷ Decided Committed ∷ Told (Enl e1) Committed ∷ []) in
+    acted script 3 (at_t1 did) first_told (at_t1 told)
+    (acted script 2 (at_t1 did) decided first_told (acted script 1 (at_t1 did) (at_t1 (did ++ Voted e1 Yes ∷ [])) decided vote_step refl refl) refl refl) refl refl
 
 -- the `await` waited until nothing was pending
 waited : HasSettled script t1 4 (at_t1 did) (at_t1 told)

@@ -157,38 +157,47 @@ pub record ReplayDone (s : List Line) (T : List Placed) : Type 0 where
   pub turns : List (TxNo × Step)
   pub rounds : RoundsDone s by_lines turns T
 
--- Of each call: steps that were pending, each the one at this place, and then the call, which may answer in each world in which they were done.
-pub record HasCalled (s : List Line) (a : ActorNo) (i : ℕ) (t : TxNo) (c : Call) (start T : List Placed) : Type 0 where
+-- Of each call: steps that were pending, each the one at this place, and then the call, which may answer in each world in which they were done. `Ran` says that so many steps came after a trace, and
+-- `after` is the trace after a step.
+pub record HasCalled (s : List Line) (Ran : ℕ → ℕ → List Placed → List Placed → Type 0) (after : Step → List Placed → List Placed) (a : ActorNo) (i : ℕ) (t : TxNo) (c : Call) (start T : List Placed) : Type 0 where
   pub place : ℕ
   pub count : ℕ
   pub done : ℕ
   pub before : List Placed
-  pub steps : StepsDone s t place count start before
+  pub steps : Ran place count start before
   pub may : (ks : List EnteredCall) → HasStepped t.value place count (world_with ks t start) (world_with ks t before) → pending (world_with ks t before) ≡ pending (world_at s t before)
       → MayAnswer t.value (world_with ks t before) c done
-  pub ends : T ≡ after_block s t (Calls i a c done) before
+  pub ends : T ≡ after (Calls i a c done) before
 
-pub has_called : (s : List Line) (a : ActorNo) (i : ℕ) (t : TxNo) (c : Call) (start T : List Placed) → CallDone s a i (Some (t, c)) start T → HasCalled s a i t c start T
-has_called s a i t (Do u k n) start T r =
+pub do_called : (s : List Line) (Ran : ℕ → ℕ → List Placed → List Placed → Type 0) (after : Step → List Placed → List Placed) (a : ActorNo) (i : ℕ) (t u : TxNo) (k n m : ℕ) (start before T : List Placed) → Ran k m start before
+    → m ≤ n → (m < n → kth (pending (world_at s t before)) k ≡ None) → T ≡ after (Calls i a (Do u k n) m) before → HasCalled s Ran after a i t (Do u k n) start T
+do_called s Ran after a i t u k n m start before T ran most stopped e =
     record {
       place = k;
-      count = r.0;
-      done = r.0;
-      before = r.1;
-      steps = r.2.ran;
-      may = λ ks st same. record { before = world_with ks t start; stepped = st; most = r.2.most; fewer = λ lt. ap (λ ns. kth ns k) same ∙ r.2.stopped lt };
-      ends = r.3;
+      count = m;
+      done = m;
+      before = before;
+      steps = ran;
+      may = λ ks st same. record { before = world_with ks t start; stepped = st; most = most; fewer = λ lt. ap (λ ns. kth ns k) same ∙ stopped lt };
+      ends = e;
     }
-has_called s a i t (Await u) start T r =
+
+pub await_called : (s : List Line) (Ran : ℕ → ℕ → List Placed → List Placed → Type 0) (after : Step → List Placed → List Placed) (a : ActorNo) (i : ℕ) (t u : TxNo) (m : ℕ) (start before T : List Placed) → Ran 1 m start before
+    → Settled s (history t.value before) → T ≡ after (Calls i a (Await u) 0) before → HasCalled s Ran after a i t (Await u) start T
+await_called s Ran after a i t u m start before T ran settled e =
     record {
       place = 1;
-      count = r.0;
+      count = m;
       done = 0;
-      before = r.1;
-      steps = r.2.ran;
-      may = λ ks st same. or_right (is_some (half (world_with ks t r.1)).seen.told_client) (is_empty (pending (world_with ks t r.1))) (ap (λ ns. is_empty ns) (same ∙ r.2.settled));
-      ends = r.3;
+      before = before;
+      steps = ran;
+      may = λ ks st same. or_right (is_some (half (world_with ks t before)).seen.told_client) (is_empty (pending (world_with ks t before))) (ap (λ ns. is_empty ns) (same ∙ settled));
+      ends = e;
     }
+
+pub has_called : (s : List Line) (a : ActorNo) (i : ℕ) (t : TxNo) (c : Call) (start T : List Placed) → CallDone s a i (Some (t, c)) start T → HasCalled s (StepsDone s t) (after_block s t) a i t c start T
+has_called s a i t (Do u k n) start T r = do_called s (StepsDone s t) (after_block s t) a i t u k n r.0 start r.1 T r.2.ran r.2.most r.2.stopped r.3
+has_called s a i t (Await u) start T r = await_called s (StepsDone s t) (after_block s t) a i t u r.0 start r.1 T r.2.ran r.2.settled r.3
 has_called s a i t _ start T r = record { place = 1; count = 0; done = 0; before = start; steps = refl; may = λ ks st same. tt; ends = r }
 
 -- That is what the steps of a quiet trace come to: those of a `do` or an `await`,

@@ -1,7 +1,6 @@
 -- What a replay calls, stops of the log and restarts included: each line's calls once, in order and at their places; and what it writes at the contexts.
-use Rattle.std.proofs.Common.{if◌then◌else◌, ◌≡◌, ℕ, zero, suc, ◌<◌, ◌≤◌, ◌==◌, Bool, true, false, ◌&&◌, ◌||◌, not, List, [], ◌∷◌, ◌++◌, length, map, Option, Some, None}
+use Rattle.std.proofs.Common.{if◌then◌else◌, ◌≡◌, ℕ, zero, suc, ◌<◌, ◌==◌, Bool, true, false, ◌&&◌, ◌||◌, not, List, [], ◌∷◌, ◌++◌, length, map, Option, Some, None}
 use Rattle.std.proofs.Common.{refl, arith, append-nil, ◌∙◌, ap, sym, subst}
-use Rattle.std.specs.Prelude.{is_some}
 use Rattle.std.proofs.lemmas.Bool.Decides.{nat_tests}
 use Rattle.dtx_values.specs.declared.number.ActorNo.{ActorNo}
 use Rattle.dtx_values.specs.declared.number.TxNo.{TxNo}
@@ -11,34 +10,32 @@ use Rattle.dtx_values.specs.declared.entry.Answer.{Answer}
 use Rattle.dtx_values.specs.declared.entry.Answer.TheVariants.{Fault, Fine, NotALog}
 use Rattle.dtx_values.specs.declared.entry.Entry.{Entry}
 use Rattle.dtx_values.specs.declared.entry.Entry.TheVariants.{Called, LogWord, Restarted, Stopped}
-use Rattle.dtx_values.specs.declared.entry.LogNote.TheVariants.{Armed, Opened}
+use Rattle.dtx_values.specs.declared.entry.LogNote.TheVariants.{Opened}
 use Rattle.dtx_values.specs.declared.scope.OpenScope.{OpenScope}
 use Rattle.dtx_values.specs.declared.script.Body.{Body}
 use Rattle.dtx_values.specs.declared.script.Body.TheVariants.{Stop, Restart}
 use Rattle.dtx_values.specs.declared.script.Line.{Line}
 use Rattle.dtx_values.specs.declared.trace.Place.{Place}
 use Rattle.dtx_values.specs.declared.trace.Place.TheVariants.{Context, Log, Transaction}
-use Rattle.dtx_model.specs.Words.{has, each, kth, onto, past_of, put}
+use Rattle.dtx_model.specs.Words.{has, each, onto, put}
 use Rattle.dtx_model.specs.Entries.{is_call}
-use Rattle.dtx_model.specs.Outcome.{is_empty}
 use Rattle.dtx_model.specs.Scopes.{ScopeEntry, Opens as OpensScope, Finishes, Closes}
 use Rattle.dtx_model.specs.Calls.{call_of}
 use Rattle.dtx_model.specs.Facts.{facts_if, has_facts}
-use Rattle.dtx_model.specs.declared.waiting.EnteredCall.{EnteredCall}
-use Rattle.dtx_model.specs.World.{World, answer_at, facts_at, half}
-use Rattle.dtx_model.specs.Steps.{Step, Calls, Coordinates, StoppedNow, StepName, block_at, pending}
+use Rattle.dtx_model.specs.World.{World, answer_at, facts_at}
+use Rattle.dtx_model.specs.Steps.{Step, Calls, Coordinates, StoppedNow, StepName, block_at}
 use Rattle.dtx_model.specs.Contexts.{scope_answer, scope_calls, scope_entries, scopes_of, written, called_with, scope_block, context, calls_by}
-use Rattle.dtx_model.specs.Caused.{HasStepped, IsNamed, MayAnswer, is_begin_sent}
+use Rattle.dtx_model.specs.Caused.{IsNamed, is_begin_sent}
 use Rattle.dtx_model.specs.Traces.{Placed, history, at_context, placed, noted, called_of, calls}
 use Rattle.dtx_model.specs.AtLog.{hit, is_log_line, is_log_up, known}
 use Rattle.dtx_model.specs.Replay.{CallRan, LineRan, LinesRan, Reopening, Opens, Faults, Differs, RoundsRan, StepsRan, after_calls, after_halt, after_opening, after_restart, after_scope, after_stop, after_turn, at_its_context, at_log_line, at_the_log, block_in, due_calls, due_by_line, others, put_at, stop_if, stopped_by_restart, world_at}
-use Rattle.dtx_model.proofs.Bools.{and_left, and_right, or_false, or_right}
+use Rattle.dtx_model.proofs.Bools.{and_left, and_right, or_false}
 use Rattle.dtx_model.proofs.Histories.{onto-append, history-other, history-same, history-noted, context-same, context-other, context-placed}
 use Rattle.dtx_model.proofs.Reading.{has-onto}
 use Rattle.outcome_law.proofs.Scans.{none_more}
 use Rattle.outcome_law.proofs.Pending.{is_not_called}
 use Rattle.outcome_law.proofs.ScopeCalls.{own_line}
-use Rattle.outcome_law.proofs.ReplayTurns.{after_block, world_with}
+use Rattle.outcome_law.proofs.ReplayTurns.{after_block, HasCalled, await_called, do_called}
 use Rattle.outcome_law.proofs.ReplayRuns.{block_not_called, facts_not_called, named_no_call}
 
 -- what has no call hasn't this call
@@ -132,38 +129,10 @@ quiet_restart n a (Opens found m) T =
 quiet_restart n a Faults T = (Fault, quiet_halt (is_log_up T) (at_the_log (Called n a Fault) T))
 quiet_restart n a (Differs p) T = (NotALog p, quiet_halt (is_log_up T) (at_the_log (Called n a (NotALog p)) T))
 
--- Of each call by a line's own words: steps that were pending, each the one at this place, and then the call, which may answer in each world in which they were done.
-pub record HasCalled (s : List Line) (a : ActorNo) (i : ℕ) (t : TxNo) (c : Call) (start T : List Placed) : Type 0 where
-  pub place : ℕ
-  pub count : ℕ
-  pub done : ℕ
-  pub before : List Placed
-  pub steps : StepsRan s t place count start before
-  pub may : (ks : List EnteredCall) → HasStepped t.value place count (world_with ks t start) (world_with ks t before) → pending (world_with ks t before) ≡ pending (world_at s t before)
-      → MayAnswer t.value (world_with ks t before) c done
-  pub ends : T ≡ after_turn s t (Calls i a c done) before
-
-pub has_called : (s : List Line) (a : ActorNo) (i : ℕ) (t : TxNo) (c : Call) (start T : List Placed) → CallRan s a i (Some (t, c)) start T → HasCalled s a i t c start T
-has_called s a i t (Do u k n) start T r =
-    record {
-      place = k;
-      count = r.0;
-      done = r.0;
-      before = r.1;
-      steps = r.2.ran;
-      may = λ ks st same. record { before = world_with ks t start; stepped = st; most = r.2.most; fewer = λ lt. ap (λ ns. kth ns k) same ∙ r.2.stopped lt };
-      ends = r.3;
-    }
-has_called s a i t (Await u) start T r =
-    record {
-      place = 1;
-      count = r.0;
-      done = 0;
-      before = r.1;
-      steps = r.2.ran;
-      may = λ ks st same. or_right (is_some (half (world_with ks t r.1)).seen.told_client) (is_empty (pending (world_with ks t r.1))) (ap (λ ns. is_empty ns) (same ∙ r.2.settled));
-      ends = r.3;
-    }
+-- So a line gives its call by its own words.
+pub has_called : (s : List Line) (a : ActorNo) (i : ℕ) (t : TxNo) (c : Call) (start T : List Placed) → CallRan s a i (Some (t, c)) start T → HasCalled s (StepsRan s t) (after_turn s t) a i t c start T
+has_called s a i t (Do u k n) start T r = do_called s (StepsRan s t) (after_turn s t) a i t u k n r.0 start r.1 T r.2.ran r.2.most r.2.stopped r.3
+has_called s a i t (Await u) start T r = await_called s (StepsRan s t) (after_turn s t) a i t u r.0 start r.1 T r.2.ran r.2.settled r.3
 has_called s a i t _ start T r = record { place = 1; count = 0; done = 0; before = start; steps = refl; may = λ ks st same. tt; ends = r }
 
 -- the block of a call of line m has no other line's call

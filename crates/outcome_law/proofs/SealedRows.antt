@@ -45,7 +45,7 @@ use Rattle.outcome_law.proofs.Owned.{decision_seen}
 use Rattle.outcome_law.proofs.HalfKnows.{way_seen}
 use Rattle.outcome_law.proofs.HalfRows.{sealed_if_commit, volatile_stands}
 use Rattle.outcome_law.proofs.Deciding.{stays}
-use Rattle.outcome_law.proofs.Table.{ask_row, ends_with, is_opening_got, is_prepare_got, is_there, message_row, rule, stands_volatile}
+use Rattle.outcome_law.proofs.Table.{ask_row, ends_with, is_opening_got, is_prepare_got, is_there, message_row, rule, stands_volatile, is_enlist_got}
 use Rattle.outcome_law.proofs.Keeping.{Keeps, earlier, keeps_before, newest}
 use Rattle.outcome_law.proofs.Crossed.{got_sent, is_got_on, is_sent_on, was_sent}
 use Rattle.outcome_law.proofs.CoreKnown.{sent_opened_there}
@@ -62,6 +62,7 @@ use Rattle.dtx_model.proofs.Quiet.{takes_next}
 use Rattle.outcome_law.proofs.Handing.{keeps_within}
 use Rattle.outcome_law.proofs.Foregoing.{not_up}
 use Rattle.dtx_model.proofs.Connections.{same_is}
+use Rattle.outcome_law.proofs.Arrivals.{opening_enlist}
 
 -- whose ENLISTED was got stands, while nothing is decided
 abbrev pub IsJoined : List Entry → Type 0
@@ -372,14 +373,9 @@ prepare_after e (Sent c Down m) h k r t = absurd (not_both (same_connection (Enl
 prepare_after e (Sent c Up m) h k r t = absurd (not_both (same_connection (Enl e) c && false && PREPARE m) t (not_up (same_connection (Enl e) c) (PREPARE m)))
 prepare_after e _ h k r t = absurd cc
 
-opening_enlist : (e : EnlNo) (x : Entry) → is_opening_got (Enl e) x ≡ true → is_got_on (Enl e) Up ENLIST x ≡ true
-opening_enlist e (Got (Enl f) Up (EnlistEnlist i)) t = and_both ((e.value == f.value) && true) true (and_both (e.value == f.value) true (and_left (e.value == f.value) true t) refl) refl
-opening_enlist e (Got (Enl f) Up m) t = absurd (not_both ((e.value == f.value) && false) t (and_never (e.value == f.value)))
-opening_enlist e (Got Begin Up m) t = absurd cc
-opening_enlist e (Got Voter Up m) t = absurd cc
-opening_enlist e (Got (Again f) Up m) t = absurd cc
-opening_enlist e (Got c Down m) t = absurd cc
-opening_enlist e _ t = absurd cc
+enlist_on : (e : EnlNo) (x : Entry) → is_enlist_got e.value x ≡ true → is_got_on (Enl e) Up ENLIST x ≡ true
+enlist_on e (Got (Enl f) Up (EnlistEnlist i)) t = and_both ((e.value == f.value) && true) true (and_both (e.value == f.value) true t refl) refl
+enlist_on e _ t = absurd cc
 
 prepared_stands : (e : EnlNo) (h : List Entry) → Keeps h → AreSealedWell h → has (is_got_on (Enl e) Down PREPARE) h ≡ true → has (is_enlisted e.value) h ≡ true
 prepared_stands e h k a g =
@@ -389,7 +385,7 @@ prepared_stands e h k a g =
     (or_right (is_opening_got (Enl e) x) (has (is_opening_got (Enl e)) g) (and_right (has is_commit_got g) (has (is_opening_got (Enl e)) g) t)))
     (prepare_after e) h k (was_sent (Enl e) Down PREPARE h k.wires g) in
     now_well h a (sealed_if_commit h k (and_left (has is_commit_got h) (has (is_opening_got (Enl e)) h) both)) e
-    (has_more (is_opening_got (Enl e)) (is_got_on (Enl e) Up ENLIST) (opening_enlist e) h (and_right (has is_commit_got h) (has (is_opening_got (Enl e)) h) both))
+    (has_more (is_opening_got (Enl e)) (is_got_on (Enl e) Up ENLIST) (λ x t. enlist_on e x (opening_enlist e x t)) h (and_right (has is_commit_got h) (has (is_opening_got (Enl e)) h) both))
 
 asked_here : (x : Entry) (h : List Entry) → Keeps h → AreSealedWell h → rule h x ≡ true → is_asked_there h x ≡ true
 asked_here (Asked e Prepare) h k a r =

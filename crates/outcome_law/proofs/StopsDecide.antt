@@ -1,25 +1,24 @@
 -- A settled history of a script, whatever was lost, stopped and started again, in which each restart found what may be found: where the coordinator stopped, the outcome is decided. So the client
 -- was told, or there is something that it waits for; and each call that was answered `wait` got its answer, or an enlistment that was asked to promote stays silent.
 use Rattle.std.proofs.Common.{◌≡◌, ℕ, Bool, true, false, ◌&&◌, ◌||◌, List, [], refl}
-use Rattle.std.specs.Prelude.{is_some, not}
+use Rattle.std.specs.Prelude.{is_some}
 use Rattle.std.specs.List.{flat_map}
 use Rattle.std.proofs.lemmas.Bool.{or_left, true_from_ne_false}
 use Rattle.dtx_values.specs.declared.entry.Entry.{Entry}
 use Rattle.dtx_values.specs.declared.message.Conn.TheVariants.{Begin, Voter}
 use Rattle.dtx_values.specs.declared.message.Dir.TheVariants.{Down}
 use Rattle.dtx_values.specs.declared.script.Line.{Line}
-use Rattle.dtx_model.specs.Words.{all_of, each, has, latest}
+use Rattle.dtx_model.specs.Words.{has, latest}
 use Rattle.dtx_model.specs.Entries.{client_told_of, is_commit, is_decision, is_yes}
 use Rattle.dtx_model.specs.Observed.{ends_of}
-use Rattle.dtx_model.specs.Outcome.{enlisted}
 use Rattle.dtx_model.specs.Tied.{is_stop, tied}
 use Rattle.dtx_model.specs.Steps.{deliveries_on}
 use Rattle.dtx_model.specs.World.{World}
 use Rattle.dtx_model.specs.Grammar.{are_named_well}
-use Rattle.dtx_model.specs.Caused.{Caused, IsCallOf, Settled, entered_in, plans_of}
-use Rattle.dtx_model.specs.History.{IsToldOrWaits, is_silent_to_promote, is_still_lost, is_waiting}
+use Rattle.dtx_model.specs.Caused.{Caused, IsCallOf, Settled, entered_in}
+use Rattle.dtx_model.specs.History.{IsToldOrWaits, is_waiting}
 use Rattle.dtx_model.proofs.Bools.{not_both, three_hold}
-use Rattle.outcome_law.specs.Waited.{AreCallsAnswered, is_answer_of, waiting_line}
+use Rattle.outcome_law.specs.Waited.{AreCallsAnswered}
 use Rattle.outcome_law.proofs.Keeping.{Keeps}
 use Rattle.outcome_law.proofs.BeforeRows.{kept_ordered, kept_sound}
 use Rattle.outcome_law.proofs.Foregoing.{yes_commit}
@@ -31,7 +30,7 @@ use Rattle.outcome_law.proofs.Steady.{run_keeps}
 use Rattle.outcome_law.proofs.Idle.{idle}
 use Rattle.outcome_law.proofs.Climbed.{told_decided}
 use Rattle.outcome_law.proofs.Told.{told_promoted}
-use Rattle.outcome_law.proofs.CallsAnswered.{calls_answered, decided_answered}
+use Rattle.outcome_law.proofs.CallsAnswered.{calls_answered, decided_answered, are_all_answered, is_one_silent}
 use Rattle.outcome_law.proofs.StoppedEnds.{begin_lost, lost_seen, voter_lost}
 
 -- Where the coordinator stopped and nothing is left to deliver, the local side saw the end of b: a veto, unless it had said yes. But then it saw the end of v too, so the outcome is in doubt there.
@@ -74,14 +73,8 @@ told_settled s k t h named c tie = λ settled asked. by settled asked (has is_st
 pub waits_answered : (s : List Line) (k t : ℕ) (h : List Entry) → are_named_well s ≡ true → Caused s k t h → tied h ≡ true → AreCallsAnswered s h
 waits_answered s k t h named c tie = λ settled. by settled (has is_stop h) refl
   where
-    silent : Bool
-    silent = has (λ x. not (is_still_lost x.0.value h) && is_silent_to_promote (plans_of s x.0.value) h x.0.value) (enlisted h)
-
-    answered : Bool
-    answered = each (λ n. has (is_answer_of n) h) (all_of waiting_line h)
-
-    by : Settled s h → (b : Bool) → has is_stop h ≡ b → (answered || silent) ≡ true
+    by : Settled s h → (b : Bool) → has is_stop h ≡ b → (are_all_answered h || is_one_silent s h) ≡ true
     by settled true q =
-        or_left answered silent
+        or_left (are_all_answered h) (is_one_silent s h)
         (decided_answered (IsCallOf s t) t c.freely.1.0 (record { calls = c.freely.0; past = h }) c.freely.1.1 (stopped_decided s k t h named c tie settled q))
     by settled false q = calls_answered s k t h named c q settled

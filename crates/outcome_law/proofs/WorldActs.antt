@@ -12,7 +12,6 @@ use Rattle.dtx_values.specs.declared.message.Conn.TheVariants.{Begin, Voter}
 use Rattle.dtx_values.specs.declared.message.Message.TheVariants.{BeginCommit, VoterAsk, VoterYes}
 use Rattle.dtx_values.specs.declared.number.EnlNo.{EnlNo}
 use Rattle.dtx_values.specs.declared.number.RmNo.{RmNo}
-use Rattle.dtx_values.specs.declared.row.Row.{Row}
 use Rattle.dtx_values.specs.declared.words.Outcome.{Outcome}
 use Rattle.dtx_values.specs.declared.words.Outcome.TheVariants.{Committed}
 use Rattle.dtx_values.specs.Class.{is_class, is_volatile}
@@ -20,7 +19,7 @@ use Rattle.dtx_values.specs.Clones.{blocks, is_open_block}
 use Rattle.dtx_values.specs.Ends.{tag_of, was_got}
 use Rattle.dtx_values.specs.Owners.{owner_of}
 use Rattle.dtx_values.specs.Row.{is_marked}
-use Rattle.dtx_values.specs.Waves.{all_voted, is_over, may_be_asked, name_of, next_ask, zeros_voted}
+use Rattle.dtx_values.specs.Waves.{all_voted, is_over, next_ask, zeros_voted}
 use Rattle.dtx_model.specs.declared.listener.Listener.{Listener}
 use Rattle.dtx_model.specs.Words.{all_of, each, has, latest, onto}
 use Rattle.dtx_model.specs.Entries.{clone_of, decision_of, handed_of, is_any_hand, is_asked, is_commit, is_decision, is_good_vote, is_promoted, is_sealed, is_vote, is_yes}
@@ -34,7 +33,7 @@ use Rattle.dtx_model.specs.World.{World, half}
 use Rattle.dtx_model.proofs.Bools.{and_both, and_left, and_right, not_both, not_false, not_true, or_right, three_hold}
 use Rattle.outcome_law.proofs.Tests.{five_hold}
 use Rattle.outcome_law.proofs.Scans.{each_both}
-use Rattle.outcome_law.proofs.Picks.{each_from_at, found_well, none_each, passes}
+use Rattle.outcome_law.proofs.Picks.{none_each, passes}
 use Rattle.outcome_law.proofs.Rule.{all_complete, is_certain, is_decided, is_only, zeros_cast}
 use Rattle.outcome_law.proofs.Rules.{undecided}
 use Rattle.outcome_law.proofs.Owned.{any_hand_seen}
@@ -48,7 +47,7 @@ use Rattle.outcome_law.proofs.HalfOwner.{owner_none, owner_only}
 use Rattle.outcome_law.proofs.Deciding.{decide_decides, decide_keeps, decided_there, seen_half}
 use Rattle.outcome_law.proofs.Undecided.{Stands, decided_stand, goes_on, is_willing, promotes_on, stand, way_unsealed}
 use Rattle.outcome_law.proofs.HalfReplies.{to_up_stands}
-use Rattle.outcome_law.proofs.Acts.{same_self, close_step, shut_step, each_filter, asked_volatile, row_volatile, to_tell_well}
+use Rattle.outcome_law.proofs.Acts.{same_self, close_step, shut_step, each_filter, asked_volatile, row_volatile, to_tell_well, next_passes}
 
 -- the history doesn't end with a message on the connection of a reenlistment: what it brings is told in its block
 abbrev pub IsToldOn : List Entry → Type 0
@@ -79,18 +78,11 @@ ask_step true false w false true false d r p q e f = absurd cc
 ask_step true false w false true true true r p q e f = absurd cc
 ask_step false m w a v t d r p q e f = refl
 
-name_well : (h : List Entry) (o : Option Row) → passes (λ x. rule h (Asked x.number Prepare)) o ≡ true → passes (λ e. rule h (Asked e Prepare)) (name_of o) ≡ true
-name_well h (Some x) q = q
-name_well h None q = refl
-
 next_well : (h : List Entry) (first : Bool) → Keeps h → has is_decision h ≡ false → has is_commit h ≡ true → passes (λ e. rule h (Asked e Prepare)) (next_ask (rows h) first) ≡ true
-unfolding next_ask
 next_well h first r d c =
-    name_well h (find (may_be_asked (rows h) first) (rows h))
-    (found_well (may_be_asked (rows h) first) (λ x. rule h (Asked x.number Prepare)) (rows h)
-    (each_from_at (λ x. not (may_be_asked (rows h) first x) || rule h (Asked x.number Prepare)) (rows h)
+    next_passes (λ e. rule h (Asked e Prepare)) (rows h) first
     (λ k x e. ask_step (is_class first x.class) (is_marked x) _ (has (is_asked x.number.value) h) (stands_volatile x.number.value h) (has is_commit h) (has is_decision h) _
-    d c (row_marked h k x r e) (λ z. row_volatile h k x e (asked_volatile first x.class z)))))
+    d c (row_marked h k x r e) (λ z. row_volatile h k x e (asked_volatile first x.class z)))
 
 ask_or_stands : (h : List Entry) (q : Option EnlNo) (over : Bool) (next : List Entry) → Stands h → passes (λ e. rule h (Asked e Prepare)) q ≡ true → (over ≡ true → Stands (onto h next))
     → Stands (onto h (ask_or q over next))

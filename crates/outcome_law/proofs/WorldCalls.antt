@@ -344,15 +344,16 @@ branch_done true false true c r e x k = absurd cc
 branch_done true false false true r e x k = absurd cc
 branch_done true false false false r e x k = (refl, refl)
 
+-- where a connection was opened and has nothing left, it was seen to end at both its ends
+pub both_ended : (o a b l r : Bool) → o ≡ true → (o && (not (a && b) || l || r)) ≡ false → b ≡ true
+both_ended false a b l r p q = absurd cc
+both_ended true true true l r p q = refl
+both_ended true true false l r p q = absurd cc
+both_ended true false b l r p q = absurd cc
+
 unlinked_row : (e : EnlNo) (h : List Entry) → Keeps h → is_connected e h ≡ false → (not (has (opens (Again e)) h) || has is_severing h) ≡ true
 unlinked_row e h k u = step (has (opens (Again e)) h) refl
   where
-    both_ended : (o a b l r : Bool) → o ≡ true → (o && (not (a && b) || l || r)) ≡ false → b ≡ true
-    both_ended false a b l r p q = absurd cc
-    both_ended true true true l r p q = refl
-    both_ended true true false l r p q = absurd cc
-    both_ended true false b l r p q = absurd cc
-
     step : (b : Bool) → has (opens (Again e)) h ≡ b → (not b || has is_severing h) ≡ true
     step false o = refl
     step true o =

@@ -60,7 +60,7 @@ may_write t w m r q once =
     let v = after t.value w m in
     let on = ran_on t.value w m r q in
     let ends : Ends v.past = ran_ends (IsIn v.calls) t.value on.0 v (id_valid t.value t.in_range.0 t.in_range.1) once on.1 in
-    record { sendable = ends.sendable; runs = λ b. by (cases_Bool (core w).stopped) b ends.opened.single }
+    record { sendable = ends.sendable; runs = λ b. by (cases_Bool (core w).stopped) b ends.opened.on_begin.single }
   where
     by : ((core w).stopped ≡ true) ⊎ ((core w).stopped ≡ false) → has is_begin_sent (block_at t.value w m) ≡ true → how_many (opens Begin) (onto w.past (block_at t.value w m)) ≤ 1 → (core w).stopped ≡ false
     by (inr runs) b single = runs

@@ -4,18 +4,16 @@ use Rattle.std.specs.Prelude.{not, map, filter, if◌then◌else◌}
 use Rattle.std.proofs.lemmas.Nat.Bits.{bit_at-zero}
 use Rattle.std.proofs.lemmas.Bool.{eqb-true, false_from_ne_true, or_left}
 use Rattle.dtx_values.specs.declared.entry.Entry.{Entry}
-use Rattle.dtx_values.specs.declared.entry.Entry.TheVariants.{Freed, Got, Logged, Recovered, Restarted, Sent, Voted}
-use Rattle.dtx_values.specs.declared.message.Conn.TheVariants.{Begin, Voter, Enl, Again}
-use Rattle.dtx_values.specs.declared.message.Conn.{Conn}
-use Rattle.dtx_values.specs.declared.message.Dir.{Dir}
-use Rattle.dtx_values.specs.declared.message.Dir.TheVariants.{Up, Down}
+use Rattle.dtx_values.specs.declared.entry.Entry.TheVariants.{Freed, Got, Logged, Recovered, Restarted, Voted}
+use Rattle.dtx_values.specs.declared.message.Conn.TheVariants.{Enl, Again}
+use Rattle.dtx_values.specs.declared.message.Dir.TheVariants.{Up}
 use Rattle.dtx_values.specs.declared.message.Info.{Info}
 use Rattle.dtx_values.specs.declared.message.Message.{Message}
 use Rattle.dtx_values.specs.declared.message.Message.TheVariants.{EnlistAck, EnlistEnlist, EnlistNo, EnlistPrepared, EnlistReadonly, ReenlistAck}
 use Rattle.dtx_values.specs.declared.number.EnlNo.{EnlNo}
 use Rattle.dtx_values.specs.declared.words.Vote.{Vote}
 use Rattle.dtx_values.specs.declared.words.Vote.TheVariants.{Yes, No, Done}
-use Rattle.dtx_values.specs.Ends.{is_in, same_connection, same_direction}
+use Rattle.dtx_values.specs.Ends.{is_in}
 use Rattle.dtx_values.specs.Lines.{has_line}
 use Rattle.dtx_values.specs.Table.{insert_by}
 use Rattle.dtx_model.specs.declared.desk.Ballot.{Ballot}
@@ -43,7 +41,7 @@ use Rattle.outcome_law.proofs.Recording.{can_commit, can_live, can_ready, can_un
 use Rattle.outcome_law.proofs.CoreStages.{active_begun, changed, has_recorded, open_before, recorded_mark, restart_open}
 use Rattle.outcome_law.proofs.CoreKnown.{aborted_there, desk_there, enlist_of, has_made, later_opened, record_seen, work_begun}
 use Rattle.outcome_law.proofs.Recorded.{each_inserted}
-use Rattle.outcome_law.proofs.Managed.{desks_managed, is_enlist_by, is_managed_desk, one_manager}
+use Rattle.outcome_law.proofs.Managed.{desks_managed, is_enlist_by, is_managed_desk, one_manager, named_sent, names}
 use Rattle.outcome_law.proofs.HalfKnows.{one_tag_more}
 use Rattle.outcome_law.proofs.Desked.{is_prepared_desk}
 
@@ -447,32 +445,14 @@ abbrev pub is_enlist_as : ℕ → ℕ → Entry → Bool
 is_enlist_as e r (Got (Enl f) Up (EnlistEnlist i)) = (e == f.value) && (r == i.rm.value)
 is_enlist_as e r _ = false
 
-abbrev is_named : ℕ → Message → Bool
-is_named r (EnlistEnlist i) = r == i.rm.value
-is_named r _ = false
-
-as_got : (e : EnlNo) (r : ℕ) (x : Entry) → is_enlist_as e.value r x ≡ true → is_got_on (Enl e) Up (is_named r) x ≡ true
+as_got : (e : EnlNo) (r : ℕ) (x : Entry) → is_enlist_as e.value r x ≡ true → is_got_on (Enl e) Up (names r) x ≡ true
 as_got e r (Got (Enl f) Up (EnlistEnlist i)) t =
     and_both ((e.value == f.value) && true) (r == i.rm.value) (and_both (e.value == f.value) true (and_left (e.value == f.value) (r == i.rm.value) t) refl) (and_right (e.value == f.value) (r == i.rm.value) t)
 as_got e r _ t = absurd cc
 
-as_sent : (e : EnlNo) (r : ℕ) (x : Entry) → is_sent_on (Enl e) Up (is_named r) x ≡ true → is_enlist_by e.value r x ≡ true
-as_sent e r (Sent c d m) t =
-    let both = and_left (same_connection (Enl e) c && same_direction Up d) (is_named r m) t in
-    by c d m (and_left (same_connection (Enl e) c) (same_direction Up d) both) (and_right (same_connection (Enl e) c) (same_direction Up d) both) (and_right (same_connection (Enl e) c && same_direction Up d) (is_named r m) t)
-  where
-    by : (c : Conn) (d : Dir) (m : Message) → same_connection (Enl e) c ≡ true → same_direction Up d ≡ true → is_named r m ≡ true → is_enlist_by e.value r (Sent c d m) ≡ true
-    by (Enl f) Up (EnlistEnlist i) s w n = and_both (e.value == f.value) (r == i.rm.value) s n
-    by (Enl f) Up _ s w n = absurd cc
-    by (Enl f) Down m s w n = absurd cc
-    by Begin d m s w n = absurd cc
-    by Voter d m s w n = absurd cc
-    by (Again f) d m s w n = absurd cc
-as_sent e r _ t = absurd cc
-
 pub enlist_by : (e : EnlNo) (r : ℕ) (h : List Entry) → Keeps h → has (is_enlist_as e.value r) h ≡ true → has (is_enlist_by e.value r) h ≡ true
 enlist_by e r h k t =
-    has_more (is_sent_on (Enl e) Up (is_named r)) (is_enlist_by e.value r) (as_sent e r) h (was_sent (Enl e) Up (is_named r) h k.wires (has_more (is_enlist_as e.value r) (is_got_on (Enl e) Up (is_named r)) (as_got e r) h t))
+    has_more (is_sent_on (Enl e) Up (names r)) (is_enlist_by e.value r) (named_sent e r) h (was_sent (Enl e) Up (names r) h k.wires (has_more (is_enlist_as e.value r) (is_got_on (Enl e) Up (names r)) (as_got e r) h t))
 
 -- So each enlistment that said PREPARED is finished where its desk is.
 finished_at : (h : List Entry) → Keeps h → (e : EnlNo) (r : ℕ) → has (is_enlist_by e.value r) h ≡ true → (ds : List Desk) → each (λ d. not (is_prepared d.ballot) || is_finished (coordinate h).recovered d) ds ≡ true

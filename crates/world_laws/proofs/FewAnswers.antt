@@ -50,11 +50,12 @@ use Rattle.world_laws.proofs.FewBranches.{Roomy, block_roomy, called_roomy, gent
 use Rattle.local_half.specs.Linked.{AreLinked}
 use Rattle.outcome_law.proofs.Tests.{eq_self}
 use Rattle.world_laws.proofs.Sendable.{ran_ends}
-use Rattle.world_laws.proofs.SendingCalls.{owns_alone, unstarted}
+use Rattle.world_laws.proofs.SendingCalls.{unstarted}
 use Rattle.dtx_values.specs.RecoveryInfo.{is_id}
 use Rattle.world_laws.proofs.FewRuns.{IsIdle, delivered_roomy, durable_done, room_of, roomy_if, step_idle}
 use Rattle.outcome_law.proofs.Handovers.{option_volatile}
 use Rattle.outcome_law.proofs.WorldCalls.{done_behind}
+use Rattle.outcome_law.proofs.OneBegin.{owns_alone}
 
 no : false ≡ true → ⊥
 no e = absurd cc

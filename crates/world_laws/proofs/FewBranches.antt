@@ -26,13 +26,12 @@ use Rattle.dtx_values.specs.Class.{is_volatile}
 use Rattle.dtx_values.specs.Owners.{lasting, only, owner_of}
 use Rattle.dtx_values.specs.Row.{fresh_row, is_lasting, is_of, mark_in, mark_row, number_of, vote_in, vote_row}
 use Rattle.dtx_values.specs.Table.{how_many, marks, with_row}
-use Rattle.dtx_model.specs.declared.branch.Branch.{Branch}
 use Rattle.dtx_model.specs.declared.waiting.EnteredCall.{EnteredCall}
 use Rattle.dtx_model.specs.declared.waiting.Wanted.{Wanted}
 use Rattle.dtx_model.specs.declared.waiting.Wanted.TheVariants.{Identifier, Place}
 use Rattle.dtx_model.specs.Acts.{lasts}
 use Rattle.dtx_model.specs.Entries.{is_decision}
-use Rattle.dtx_model.specs.Half.{Half, given, info, is_handed}
+use Rattle.dtx_model.specs.Half.{given, info, is_handed}
 use Rattle.dtx_model.specs.Observed.{branches, handover, rows}
 use Rattle.dtx_model.specs.Promotes.{identifier_of}
 use Rattle.dtx_model.specs.Waiting.{Waiter, call_at, is_place, is_place_of, waiter_line, waiting, wanted, wanted_by}
@@ -43,7 +42,7 @@ use Rattle.dtx_model.proofs.Reading.{has-onto}
 use Rattle.local_half.specs.declared.branches.BranchChange.TheVariants.{Enlisted as IsEnlisted, Aborted as IsAborted, Acked as IsAcked, Due}
 use Rattle.local_half.specs.Linked.{AreLinked, is_held}
 use Rattle.local_half.specs.Waits.{without}
-use Rattle.local_half.proofs.Links.{links-answered, links-changed, links-held, links-row, links-sent, links-wait}
+use Rattle.local_half.proofs.Links.{links-answered, links-changed, links-held, links-row, links-wait, links-branched}
 use Rattle.local_half.proofs.Lists.{how_many-filter-le}
 use Rattle.local_half.proofs.Rows.{lasts-mark, lasts-more, lasts-new, lasts-vote}
 use Rattle.outcome_law.proofs.Coming.{keep_place, same_wants}
@@ -254,38 +253,6 @@ called_roomy ks n a Wait h room i = record {
     by false k e lt le = omega (arith, e, le)
 called_roomy ks n a _ h room i = record { few = i.few; owner = i.owner; linked = i.linked }
 
--- a local side that knows of these alone
-abbrev with_tables : List Row → List Waiter → List Branch → Half
-with_tables xs ws bs =
-    record {
-      seen =
-          record {
-            limit = None;
-            clock = 0;
-            commit = false;
-            sealed = false;
-            table = xs;
-            clones = [];
-            listeners = [];
-            handed = None;
-            decided = None;
-            told_client = None;
-            cause = None;
-            promoted = false;
-            failed = false;
-            handover = None;
-            promote_asked = false;
-            promote_replied = false;
-            single_asked = false;
-            requested = false;
-            yes = false;
-            ends = [];
-            branches = bs;
-          };
-      waits = ws;
-      managers = [];
-    }
-
 -- ENLIST is sent of one that lasts or is waited for, where nothing is decided.
 pub sent_roomy : (ks : List EnteredCall) (e : EnlNo) (m : Info) (h : List Entry) → has is_decision h ≡ false → is_held (rows h) (waiting ks h) e.value ≡ true → Roomy ks h → Roomy ks (Sent (Enl e) Up (EnlistEnlist m) ∷ h)
 sent_roomy ks e m h d mine i = record {
@@ -293,7 +260,7 @@ sent_roomy ks e m h d mine i = record {
   owner = i.owner;
   linked =
       let old = subst (λ b. AreLinked b (rows h) (waiting ks h) (branches h) []) d i.linked in
-      let new = links-sent (with_tables (rows h) (waiting ks h) (branches h)) (Enl e) (EnlistEnlist m) (refl, mine) (i.few d) old in
+      let new = links-branched false (rows h) (waiting ks h) (branches h) [] e m.rm refl mine (i.few d) old in
       record { once = new.once; few = new.few; held = λ k. new.held refl; known_once = λ c. omega arith; of_branches = refl };
 }
 

@@ -226,7 +226,7 @@ pub desks_few : (h : List Entry) → WireRun h → Opened h → length (coordina
 desks_few h w i = within (λ (d : Desk). d.enlistment) (branches h) (coordinate h).desks (λ b. once b.enlistment) (each_by (λ (d : Desk). d.enlistment) (λ e. has (is_branch e.value) (branches h)) (coordinate h).desks there)
   where
     once : (e : EnlNo) → how_many (is_desk_of e.value) (coordinate h).desks ≤ 1
-    once e = let a = desk_count e h in let b = got_at_most (Enl e) h w in let c = i.fresh e in omega (arith, a, b, c)
+    once e = let a = desk_count e h in let b = got_at_most (Enl e) h w in let c = i.on_enlistments.fresh e in omega (arith, a, b, c)
 
     there : (e : EnlNo) → has (is_desk_of e.value) (coordinate h).desks ≡ true → has (is_branch e.value) (branches h) ≡ true
     there e k =

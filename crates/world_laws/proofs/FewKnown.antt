@@ -109,7 +109,7 @@ ends_each bs (c ∷ cs) k =
     (ends_each bs cs (and_right (is_of_branch bs c) (each (is_of_branch bs) cs) k))
 
 returned_there : (e : EnlNo) (h : List Entry) → WireRun h → Opened h → has (is_opening_got (Again e)) h ≡ true → has (is_branch e.value) (branches h) ≡ true
-returned_there e h w i k = i.back e (opening_was_sent (Again e) h w k)
+returned_there e h w i k = i.on_enlistments.back e (opening_was_sent (Again e) h w k)
 
 known_there : (h : List Entry) → WireRun h → Opened h → (c : Conn) → has (same_connection c) (coordinate h).known ≡ true → is_of_branch (branches h) c ≡ true
 known_there h w i Begin k = refl

@@ -243,7 +243,7 @@ placed_by h s o =
     rw (decision_seen h, any_hand_seen h, sent, way_seen h) refl
 
 pub right_placed : (G : ℕ → ActorNo → Call → Type 0) (t : TxNo) (ms : List Step) (w : World) → AreMadeOnce G → Ran G t.value ms w → right_seen (observe w.past) ≡ right_of w.past
-right_placed G t ms w once r = let e = ran_ends G t.value ms w (id_valid t.value t.in_range.0 t.in_range.1) once r in placed_by w.past e.sendable e.opened.single
+right_placed G t ms w once r = let e = ran_ends G t.value ms w (id_valid t.value t.in_range.0 t.in_range.1) once r in placed_by w.past e.sendable e.opened.on_begin.single
 
 -- By the table: who was handed the commit promotes nothing, and COMMIT is sent where it is promoted.
 unpromoting : (h : List Entry) → Keeps h → has is_any_hand h ≡ true → has is_promoting h ≡ false

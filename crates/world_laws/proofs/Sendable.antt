@@ -82,11 +82,11 @@ got_ends G t w Begin (BeginBegun u) once b v r i =
 got_ends G t w Voter VoterCreated once b v r i =
     let x = Got Voter Down VoterCreated in
     created_ends w.calls t (x ∷ w.past) v
-    (λ e. false_from_ne_true (has (opens (Enl e)) w.past) (λ o. not_both (has is_created_got w.past) (i.opened.created e o) (created_new w.past r b.direct i.opened)))
+    (λ e. false_from_ne_true (has (opens (Enl e)) w.past) (λ o. not_both (has is_created_got w.past) (i.opened.on_enlistments.created e o) (created_new w.past r b.direct i.opened)))
     refl (all_apart G w.calls w.past once b.made b.lines) (one_ends x w.past refl refl refl i)
 got_ends G t w (Enl e) EnlistEnlisted once b v r i =
     let x = Got (Enl e) Down EnlistEnlisted in
-    enlisted_ends G w.calls t w.past (x ∷ w.past) e refl v (i.opened.created e (opened_before (Enl e) EnlistEnlisted w.past refl r b.direct)) b.made.waiters
+    enlisted_ends G w.calls t w.past (x ∷ w.past) e refl v (i.opened.on_enlistments.created e (opened_before (Enl e) EnlistEnlisted w.past refl r b.direct)) b.made.waiters
     (each_more (is_unplaced w.past) (is_unplaced (x ∷ w.past)) (still_unplaced w.past e) (waiting w.calls w.past) (all_unplaced G w.calls w.past once b.made))
     (all_apart G w.calls w.past once b.made b.lines) (one_ends x w.past refl refl refl i)
 got_ends G t w c m once b v r i =

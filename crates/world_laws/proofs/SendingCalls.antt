@@ -5,10 +5,9 @@ use Rattle.std.proofs.lemmas.Bool.{eqb-true, false_from_ne_true}
 use Rattle.dtx_values.specs.declared.call.Call.{Call}
 use Rattle.dtx_values.specs.declared.call.Call.TheVariants.{Durable, Marshal, Promotable, Reenlist}
 use Rattle.dtx_values.specs.declared.entry.Answer.{Answer}
-use Rattle.dtx_values.specs.declared.entry.Answer.TheVariants.{Connected, False, Fine, Finished, Id, Many, NoSuch, Over, TooLate, True, Wait}
+use Rattle.dtx_values.specs.declared.entry.Answer.TheVariants.{Fine, True, Wait}
 use Rattle.dtx_values.specs.declared.entry.Entry.{Entry}
 use Rattle.dtx_values.specs.declared.entry.Entry.TheVariants.{Called, Enlisted, Init, PromoteReply, Promoting, Reenlisted, Sent}
-use Rattle.dtx_values.specs.declared.limits.TheConstants.{CALLS, ENLISTMENTS}
 use Rattle.dtx_values.specs.declared.message.Conn.{Conn}
 use Rattle.dtx_values.specs.declared.message.Conn.TheVariants.{Begin, Voter, Enl, Again}
 use Rattle.dtx_values.specs.declared.message.Dir.TheVariants.{Up, Down}
@@ -24,13 +23,11 @@ use Rattle.dtx_values.specs.declared.words.Cause.{Cause}
 use Rattle.dtx_values.specs.declared.words.Cause.TheVariants.{Marshal as MarshalCause}
 use Rattle.dtx_values.specs.declared.words.Class.{Class}
 use Rattle.dtx_values.specs.declared.words.Class.TheVariants.{DurableSingle, Promotable as PromotableClass}
-use Rattle.dtx_values.specs.declared.words.Outcome.{Outcome}
 use Rattle.dtx_values.specs.Class.{is_promotable}
 use Rattle.dtx_values.specs.Ends.{is_in}
 use Rattle.dtx_values.specs.Lines.{is_opening}
 use Rattle.dtx_values.specs.Owners.{cause_of, may_own}
 use Rattle.dtx_values.specs.RecoveryInfo.{is_id}
-use Rattle.dtx_values.specs.Row.{is_of}
 use Rattle.dtx_values.specs.Support.{is_single}
 use Rattle.dtx_model.specs.declared.branch.Branch.{Branch}
 use Rattle.dtx_model.specs.Answers.{durable_answer, if_begun, has_promotion, is_crowded, is_full, local_answer, marshal_answer, promotable_answer}
@@ -39,7 +36,7 @@ use Rattle.dtx_model.specs.Entries.{began_of, decision_of, is_decision, is_promo
 use Rattle.dtx_model.specs.Facts.{begin_promotion, durable_facts, facts_if, has_facts}
 use Rattle.dtx_model.specs.Grammar.{OfEnlistment}
 use Rattle.dtx_model.specs.Half.{Half, enlist_sent, info, is_promoting}
-use Rattle.dtx_model.specs.Observed.{Observed, branches, is_ask_promote, is_branch, is_promote_reply, is_promotion_failed, observe, rows}
+use Rattle.dtx_model.specs.Observed.{Observed, branches, is_branch, is_promotion_failed, observe, rows}
 use Rattle.dtx_model.specs.Outcome.{enlisted, is_empty}
 use Rattle.dtx_model.specs.Promotes.{identifier_of, is_promoting as is_start}
 use Rattle.dtx_model.specs.Replies.{due_of, fits, promote_entries}
@@ -47,41 +44,33 @@ use Rattle.dtx_model.specs.Steps.{called}
 use Rattle.dtx_model.specs.Wires.{in_transit, is_ended, is_stopped, lost_since, loses, opens}
 use Rattle.dtx_model.specs.Words.{each, has, holds, latest, onto}
 use Rattle.dtx_model.specs.World.{World, answer_at, facts_at, half, core, is_connected, is_finished_there, is_linked, reenlist_by, reenlist_facts, unless_stopped}
-use Rattle.dtx_model.proofs.Bools.{and_left, and_right, not_both, not_false, not_true, or_case, or_second}
+use Rattle.dtx_model.proofs.Bools.{and_left, and_right, not_both, not_false, not_true, or_case, or_second, or_first}
 use Rattle.outcome_law.proofs.Crossed.{is_sent_on}
-use Rattle.outcome_law.proofs.HalfKnows.{way_seen}
-use Rattle.outcome_law.proofs.HalfReplies.{owed}
 use Rattle.outcome_law.proofs.Makers.{AreMade, makes_lasting}
 use Rattle.outcome_law.proofs.Messages.{ENLIST}
-use Rattle.outcome_law.proofs.Owned.{decision_seen, has_rows}
+use Rattle.outcome_law.proofs.Owned.{has_rows}
 use Rattle.outcome_law.proofs.Picks.{found_at, has-at, none_each}
 use Rattle.outcome_law.proofs.Scans.{has_more}
-use Rattle.outcome_law.proofs.Tests.{eq_self, first_of_four, second_of_four, third_of_four}
+use Rattle.outcome_law.proofs.Tests.{eq_self}
 use Rattle.world_laws.proofs.SendingApt.{can_same}
 use Rattle.world_laws.proofs.SendingBlocks.{Hears, apt_facts_at, apt_facts_if, may_open}
 use Rattle.world_laws.proofs.SendingKnown.{hears}
 use Rattle.world_laws.proofs.SendingOpened.{Opened, branch_stays}
 use Rattle.world_laws.proofs.SendingEnds.{Ends, again_ends, apt_ends, begin_ends, ends_if, enlist_ends, one_ends, promotable_ends, start_ends}
-use Rattle.outcome_law.proofs.WorldCalls.{done_behind}
+use Rattle.outcome_law.proofs.WorldCalls.{done_behind, branch_done}
+use Rattle.outcome_law.proofs.OneBegin.{marshal_waits, owns_alone, to_promote, unowned, unstarted as none_started}
+use Rattle.outcome_law.proofs.HalfKnows.{cause_seen, failed_seen}
 
 no : false ≡ true → ⊥
 no e = absurd cc
 
 -- Where it isn't promoted, isn't promoting, and nothing is decided, no promotion began.
 pub unstarted : (h : List Entry) → has is_promoted h ≡ false → is_promoting (observe h) ≡ false → latest decision_of h ≡ None → (has is_promotion_failed h ≡ true → has is_decision h ≡ true) → has is_start h ≡ false
-unstarted h p w d f =
-    by (has is_start h) (has is_promoted h) (has is_promotion_failed h) p
-    (false_from_ne_true (has is_promotion_failed h) (λ k. not_both (has is_decision h) (f k) (sym (decision_seen h) ∙ ap (λ (o : Option Outcome). is_some o) d))) (sym (way_seen h) ∙ w)
-  where
-    by : (s p f : Bool) → p ≡ false → f ≡ false → (s && not p && not f) ≡ false → s ≡ false
-    by true false false a b k = absurd cc
-    by true true f a b k = absurd cc
-    by true false true a b k = absurd cc
-    by false p f a b k = refl
+unstarted h p w d f = sym (cause_seen h) ∙ none_started h p w d (λ k. f (sym (failed_seen h) ∙ k))
 
 -- so b wasn't opened
 unbegun : (h : List Entry) → has is_start h ≡ false → Opened h → has (opens Begin) h ≡ false
-unbegun h n i = false_from_ne_true (has (opens Begin) h) (λ o. not_both (has is_start h) (i.begun o) n)
+unbegun h n i = false_from_ne_true (has (opens Begin) h) (λ o. not_both (has is_start h) (i.on_begin.begun o) n)
 
 -- A promotion begins: BEGIN is sent where there is no promotable.
 start_block : (h : List Entry) (v : Half) (c : Option Cause) → v.seen.table ≡ rows h → has is_start h ≡ false → Ends h → Ends (onto h (begin_promotion v c))
@@ -113,35 +102,14 @@ durable_ends t h v e r single True k s d n i = one_ends (Enlisted e DurableSingl
 durable_ends t h v e r single _ k s d n i = i
 
 -- A promotable's call, where no promotion is under way.
-pub owns_alone : (s m f : Bool) → has_facts (if s then TooLate else if not m then False else if f then Many ENLISTMENTS else True) ≡ true → m ≡ true
-owns_alone true m f k = absurd cc
-owns_alone false true f k = refl
-owns_alone false false f k = absurd cc
-
-unowned : (xs : List Row) (p : Bool) → may_own xs p ≡ true → p ≡ false
-unfolding may_own
-unowned xs p k = not_true p (and_left (not p) _ k)
 
 promotable_block : (h : List Entry) (e : EnlNo) (x : Answer) → (has_facts x ≡ true → has (opens Begin) h ≡ false) → Ends h → Ends (onto h (facts_if (has_facts x) (Enlisted e PromotableClass ∷ Init e ∷ [])))
 promotable_block h e x f i =
     facts_by h (has_facts x) (Enlisted e PromotableClass ∷ Init e ∷ []) i (λ b. one_ends (Init e) (Enlisted e PromotableClass ∷ h) refl refl refl (promotable_ends h e (f b) i))
 
-promoted_or : (p w : Bool) → (p || w) ≡ false → (p ≡ false) × (w ≡ false)
-promoted_or true w k = absurd cc
-promoted_or false w k = (refl, k)
-
 -- A marshal call: a promotion begins where none did.
-marshal_waits : (p s c : Bool) (u : ℕ) → has_facts (if p then Id u else if s then TooLate else if c then Many CALLS else Wait) ≡ true → p ≡ false
-marshal_waits true s c u k = absurd cc
-marshal_waits false s c u k = refl
 
 -- A reenlistment, where nothing is left of the connections.
-branch_done : (a f v c : Bool) (r : RmNo) (e : EnlNo) (x : Answer) → has_facts (if not a then NoSuch else if f then Finished else if v then Over r else if c then Connected e else x) ≡ true → c ≡ false
-branch_done false f v c r e x k = absurd cc
-branch_done true true v c r e x k = absurd cc
-branch_done true false true c r e x k = absurd cc
-branch_done true false false true r e x k = absurd cc
-branch_done true false false false r e x k = refl
 
 -- an entry that opens, loses and ends nothing leaves what a connection has left
 lost_same : (c : Conn) (x : Entry) (h : List Entry) → opens c x ≡ false → loses c x ≡ false → lost_since c (x ∷ h) ≡ lost_since c h
@@ -180,7 +148,7 @@ reenlist_free w None o k = absurd cc
 reenlist_free w (Some d) None k = tt
 reenlist_free w (Some d) (Some b) k =
     or_second (is_linked (Enl b.enlistment) w.past) (is_linked (Again b.enlistment) w.past)
-    (branch_done b.enlisted (is_finished_there (half w).seen b.enlistment.value) (is_in b.manager.value (core w).recovered) (is_connected b.enlistment w.past) b.manager b.enlistment (unless_stopped w) k)
+    (branch_done b.enlisted (is_finished_there (half w).seen b.enlistment.value) (is_in b.manager.value (core w).recovered) (is_connected b.enlistment w.past) b.manager b.enlistment (unless_stopped w) k).1
 
 -- the branch that is found is there
 found_branch : (e : ℕ) (bs : List Branch) (o : Option Branch) → find (is_branch e) bs ≡ o → IfSome o (λ b. has (is_branch b.enlistment.value) bs ≡ true)
@@ -240,8 +208,8 @@ call_ends G t w n a (Promotable u e r y z p) m once made g new v i =
     promotable_block (Called n a x ∷ w.past) e x
     (λ k. let d = done_behind (latest began_of w.past) (latest decision_of w.past) (promotable_answer (half w)) k in
     let free = unowned (rows w.past) (has_promotion (observe w.past)) (owns_alone (has is_sealed w.past) (may_own (rows w.past) (has_promotion (observe w.past))) (is_full (half w)) d.1) in
-    let both = promoted_or (has is_promoted w.past) (is_promoting (observe w.past)) free in
-    unbegun w.past (unstarted w.past both.0 both.1 d.0 i.failed) i.opened) (called_ends w.past n a x i)
+    unbegun w.past (unstarted w.past (or_first (has is_promoted w.past) (is_promoting (observe w.past)) free) (or_second (has is_promoted w.past) (is_promoting (observe w.past)) free) d.0 i.failed) i.opened)
+    (called_ends w.past n a x i)
 call_ends G t w n a (Marshal u) m once made g new v i =
     let x = answer_at t w (Marshal u) m in
     let h = Called n a x ∷ w.past in
@@ -258,17 +226,11 @@ call_ends G t w n a c m once made g new v i = other_ends t w n a c (answer_at t 
 
 -- A promotable promotes: it was asked to, and hadn't answered, so b wasn't opened.
 pub promote_ends : (w : World) (e : EnlNo) (n : Note) → due_of (half w).seen e.value ≡ Some n → fits (Promotes true) n ≡ true → Ends w.past → Ends (onto w.past (promote_entries (half w) e true))
-unfolding observe
 promote_ends w e n d f i =
     let h = w.past in
-    let o = owed h (Promotes true) n e.value refl d f in
-    let asked = first_of_four (has is_ask_promote h) (not (has is_promote_reply h)) (is_promotable o.row.class) (not (is_some (latest decision_of h))) o.answers in
-    let new = not_true (has is_promote_reply h) (second_of_four (has is_ask_promote h) (not (has is_promote_reply h)) (is_promotable o.row.class) (not (is_some (latest decision_of h))) o.answers) in
-    let class = third_of_four (has is_ask_promote h) (not (has is_promote_reply h)) (is_promotable o.row.class) (not (is_some (latest decision_of h))) o.answers in
-    let place = found_at (is_of e.value) (rows h) o.row o.stands in
-    let stands : has (λ x. is_promotable x.1) (enlisted h) ≡ true = sym (has_rows (λ f c. is_promotable c) h) ∙ has-at (λ x. is_promotable x.class) (rows h) place.0 o.row place.1 class in
-    let shut = false_from_ne_true (has (opens Begin) h) (λ k. none_there (enlisted h) (i.opened.bare k new) stands) in
-    begin_ends (PromoteReply e true ∷ h) shut (i.opened.asked asked) (inl refl) (one_ends (PromoteReply e true) h refl refl refl i)
+    let o = to_promote w e n d f in
+    let shut = false_from_ne_true (has (opens Begin) h) (λ k. none_there (enlisted h) (i.opened.on_begin.bare k o.new) o.stands) in
+    begin_ends (PromoteReply e true ∷ h) shut (i.opened.on_begin.asked o.asked) (inl refl) (one_ends (PromoteReply e true) h refl refl refl i)
   where
     none_there : (xs : List (EnlNo × Class)) → each (λ x. not (is_promotable x.1)) xs ≡ true → has (λ x. is_promotable x.1) xs ≡ true → ⊥
     none_there [] a k = no k

@@ -140,7 +140,7 @@ pub voter_new : (u : ℕ) (h : List Entry) → WireRun (Got Begin Down (BeginBeg
 voter_new u h w a i =
     many_none (opens Voter) h
     (by (how_many (opens Voter) h) (how_many is_begun_got h) (how_many (is_got_on Begin Down is_welcome) h) (how_many (opens Begin) h) i.voter (how_more is_begun_got (is_got_on Begin Down is_welcome) begun_on h)
-    (come_opened Begin (BeginBegun u) h refl w a) i.single)
+    (come_opened Begin (BeginBegun u) h refl w a) i.on_begin.single)
   where
     by : (a b c d : ℕ) → a ≤ b → b ≤ c → suc c ≤ d → d ≤ 1 → a ≤ 0
     by a b c d p q r s = omega (arith, p, q, r, s)
@@ -151,7 +151,7 @@ created_new h w a i =
     many_none is_created_got h
     (by (how_many is_created_got h) (how_many (is_got_on Voter Down is_welcome) h) (how_many (opens Voter) h) (how_many is_begun_got h) (how_many (is_got_on Begin Down is_welcome) h)
     (how_many is_welcome (in_transit Begin Down h)) (how_many (is_sent_on Begin Down is_welcome) h) (how_many (opens Begin) h) (how_more is_created_got (is_got_on Voter Down is_welcome) created_on h)
-    (come_opened Voter VoterCreated h refl w a) i.voter (how_more is_begun_got (is_got_on Begin Down is_welcome) begun_on h) (no_more Begin Down is_welcome h w.1) (answers_opened Begin h w.1 a) i.single)
+    (come_opened Voter VoterCreated h refl w a) i.voter (how_more is_begun_got (is_got_on Begin Down is_welcome) begun_on h) (no_more Begin Down is_welcome h w.1) (answers_opened Begin h w.1 a) i.on_begin.single)
   where
     by : (a b c d e f g k : ℕ) → a ≤ b → suc b ≤ c → c ≤ d → d ≤ e → e + f ≤ g → g ≤ k → k ≤ 1 → a ≤ 0
     by a b c d e f g k p q r s t u v = omega (arith, p, q, r, s, t, u, v)

@@ -48,44 +48,51 @@ no e = absurd cc
 abbrev pub is_unpromotable : List Entry → Bool
 is_unpromotable h = each (λ x. not (is_promotable x.1)) (enlisted h)
 
--- what stands of the connections and of the promotion
-pub record Opened (h : List Entry) : Type 0 where
-  -- b is opened after the promotion began, once, and by a promotable's answer or where there is no promotable; a promotable is asked to promote after it began
+-- b is opened after the promotion began, once, and by a promotable's answer or where there is no promotable; a promotable is asked to promote after it began
+pub record BeginOpened (h : List Entry) : Type 0 where
   pub begun : has (opens Begin) h ≡ true → has is_promoting h ≡ true
   pub single : how_many (opens Begin) h ≤ 1
   pub bare : has (opens Begin) h ≡ true → has is_promote_reply h ≡ false → is_unpromotable h ≡ true
   pub asked : has is_ask_promote h ≡ true → has is_promoting h ≡ true
-  -- v is opened once for each BEGUN
-  pub voter : how_many (opens Voter) h ≤ how_many is_begun_got h
+
+-- what stands of the enlistments' connections
+pub record EnlistmentsOpened (h : List Entry) : Type 0 where
   -- an enlistment's connection is opened after CREATED, and before the promotion is over only that of the handover
   pub created : (e : EnlNo) → has (opens (Enl e)) h ≡ true → has is_created_got h ≡ true
   pub started : (e : EnlNo) → has (opens (Enl e)) h ≡ true → has is_promoting h ≡ true
   pub handed : (e : EnlNo) → has is_promoted h ≡ false → has (opens (Enl e)) h ≡ true → is_handed (handover h) e.value ≡ true
-  -- the promotion is over after CREATED
-  pub over : has is_promoted h ≡ true → has is_created_got h ≡ true
-  pub going : has is_promoted h ≡ true → has is_promoting h ≡ true
   -- the handover's enlistment stands
   pub owner : (e : EnlNo) → is_handed (handover h) e.value ≡ true → has (is_enlisted e.value) h ≡ true
   -- an enlistment's connection is opened once, and that of its reenlistment only where it is at the coordinator
   pub fresh : (e : EnlNo) → how_many (opens (Enl e)) h ≤ 1
   pub back : (e : EnlNo) → has (opens (Again e)) h ≡ true → has (is_branch e.value) (branches h) ≡ true
 
+-- what stands of the connections and of the promotion
+pub record Opened (h : List Entry) : Type 0 where
+  pub on_begin : BeginOpened h
+  -- v is opened once for each BEGUN
+  pub voter : how_many (opens Voter) h ≤ how_many is_begun_got h
+  pub on_enlistments : EnlistmentsOpened h
+  -- the promotion is over after CREATED
+  pub over : has is_promoted h ≡ true → has is_created_got h ≡ true
+  pub going : has is_promoted h ≡ true → has is_promoting h ≡ true
+
 -- before the first step
 pub none_opened : Opened []
 none_opened = record {
-  begun = λ k. absurd (no k);
-  single = omega arith;
-  bare = λ k n. refl;
-  asked = λ k. absurd (no k);
+  on_begin = record { begun = λ k. absurd (no k); single = omega arith; bare = λ k n. refl; asked = λ k. absurd (no k) };
   voter = omega arith;
-  created = λ e k. absurd (no k);
-  started = λ e k. absurd (no k);
-  handed = λ e n k. absurd (no k);
+  on_enlistments =
+      record {
+        created = λ e k. absurd (no k);
+        started = λ e k. absurd (no k);
+        handed = λ e n k. absurd (no k);
+        owner = λ e k. absurd (no k);
+        fresh = λ e. omega arith;
+        back = λ e k. absurd (no k);
+      };
   over = λ k. absurd (no k);
   going = λ k. absurd (no k);
-  owner = λ e k. absurd (no k);
-  fresh = λ e. omega arith;
-  back = λ e k. absurd (no k);
 }
 
 -- a connection of a reenlistment
@@ -216,24 +223,35 @@ more_many p x h = by (p x)
     by true = omega arith
     by false = omega arith
 
--- such an entry keeps what stands
+-- an entry that doesn't open b keeps what stands of b
+kept_begin : (x : Entry) (h : List Entry) → opens Begin x ≡ false → (is_unpromotable h ≡ true → is_unpromotable (x ∷ h) ≡ true) → (is_ask_promote x ≡ true → has is_promoting h ≡ true) → BeginOpened h → BeginOpened (x ∷ h)
+kept_begin x h shut bare asked i = record {
+  begun = λ t. newer is_promoting x h (i.begun (older (opens Begin) x h shut t));
+  single = subst (λ n. n ≤ 1) (sym (same_many (opens Begin) x h shut)) i.single;
+  bare = λ t n. bare (i.bare (older (opens Begin) x h shut t) (or_second (is_promote_reply x) (has is_promote_reply h) n));
+  asked = λ t. newer is_promoting x h (or_case (is_ask_promote x) (has is_ask_promote h) asked i.asked t);
+}
+
+-- one that opens no enlistment's connection keeps what stands of them
+kept_enlistments : (x : Entry) (h : List Entry) → ((e : EnlNo) → opens (Enl e) x ≡ false) → handover (x ∷ h) ≡ handover h → ((e : EnlNo) → opens (Again e) x ≡ true → has (is_branch e.value) (branches h) ≡ true)
+    → EnlistmentsOpened h → EnlistmentsOpened (x ∷ h)
+kept_enlistments x h shut same back i = record {
+  created = λ e t. newer is_created_got x h (i.created e (older (opens (Enl e)) x h (shut e) t));
+  started = λ e t. newer is_promoting x h (i.started e (older (opens (Enl e)) x h (shut e) t));
+  handed = λ e n t. subst (λ o. is_handed o e.value ≡ true) (sym same) (i.handed e (or_second (is_promoted x) (has is_promoted h) n) (older (opens (Enl e)) x h (shut e) t));
+  owner = λ e t. newer (is_enlisted e.value) x h (i.owner e (subst (λ o. is_handed o e.value ≡ true) same t));
+  fresh = λ e. subst (λ n. n ≤ 1) (sym (same_many (opens (Enl e)) x h (shut e))) (i.fresh e);
+  back = λ e t. branch_stays x h e.value (or_case (opens (Again e) x) (has (opens (Again e)) h) (back e) (i.back e) t);
+}
+
+-- a calm entry keeps what stands
 pub calm_opened : (x : Entry) (h : List Entry) → is_calm h x ≡ true → Opened h → Opened (x ∷ h)
 calm_opened x h k i = record {
-  begun = λ t. newer is_promoting x h (i.begun (older (opens Begin) x h (shut Begin refl h x k) t));
-  single = subst (λ n. n ≤ 1) (sym (same_many (opens Begin) x h (shut Begin refl h x k))) i.single;
-  bare = λ t n. calm_bare h x k (i.bare (older (opens Begin) x h (shut Begin refl h x k) t) (or_second (is_promote_reply x) (has is_promote_reply h) n));
-  asked = λ t. newer is_promoting x h (or_case (is_ask_promote x) (has is_ask_promote h) (λ a. calm_asked h x k a) (λ a. i.asked a) t);
+  on_begin = kept_begin x h (shut Begin refl h x k) (calm_bare h x k) (calm_asked h x k) i.on_begin;
   voter = by (how_many (opens Voter) (x ∷ h)) (how_many (opens Voter) h) (how_many is_begun_got h) (how_many is_begun_got (x ∷ h)) (same_many (opens Voter) x h (shut Voter refl h x k)) i.voter (more_many is_begun_got x h);
-  created = λ e t. newer is_created_got x h (i.created e (older (opens (Enl e)) x h (shut (Enl e) refl h x k) t));
-  started = λ e t. newer is_promoting x h (i.started e (older (opens (Enl e)) x h (shut (Enl e) refl h x k) t));
-  handed =
-      λ e n t. subst (λ o. is_handed o e.value ≡ true) (sym (calm_handover h x k))
-      (i.handed e (or_second (is_promoted x) (has is_promoted h) n) (older (opens (Enl e)) x h (shut (Enl e) refl h x k) t));
+  on_enlistments = kept_enlistments x h (λ e. shut (Enl e) refl h x k) (calm_handover h x k) (λ e t. back_there h x e k t) i.on_enlistments;
   over = λ t. newer is_created_got x h (i.over (older is_promoted x h (calm_unpromoted h x k) t));
   going = λ t. newer is_promoting x h (i.going (older is_promoted x h (calm_unpromoted h x k) t));
-  owner = λ e t. newer (is_enlisted e.value) x h (i.owner e (subst (λ o. is_handed o e.value ≡ true) (calm_handover h x k) t));
-  fresh = λ e. subst (λ n. n ≤ 1) (sym (same_many (opens (Enl e)) x h (shut (Enl e) refl h x k))) (i.fresh e);
-  back = λ e t. branch_stays x h e.value (or_case (opens (Again e) x) (has (opens (Again e)) h) (λ o. back_there h x e k o) (λ o. i.back e o) t);
 }
   where
     by : (u v z w : ℕ) → u ≡ v → v ≤ z → z ≤ w → u ≤ w
@@ -248,19 +266,17 @@ none_many p (x ∷ h) n = same_many p x h (or_first (p x) (has p h) n) ∙ none_
 pub begin_opened : (h : List Entry) → has (opens Begin) h ≡ false → has is_promoting h ≡ true → ((has is_promote_reply h ≡ true) ⊎ (is_unpromotable h ≡ true)) → Opened h
     → Opened (Sent Begin Up BeginBegin ∷ h)
 begin_opened h n s p i = record {
-  begun = λ t. s;
-  single = by (how_many (opens Begin) h) (none_many (opens Begin) h n);
-  bare = λ t u. elim p as (λ z. is_unpromotable h ≡ true) [ inl r ↦ absurd (not_both (has is_promote_reply h) r u) | inr q ↦ q ];
-  asked = i.asked;
+  on_begin =
+      record {
+        begun = λ t. s;
+        single = by (how_many (opens Begin) h) (none_many (opens Begin) h n);
+        bare = λ t u. elim p as (λ z. is_unpromotable h ≡ true) [ inl r ↦ absurd (not_both (has is_promote_reply h) r u) | inr q ↦ q ];
+        asked = i.on_begin.asked;
+      };
   voter = i.voter;
-  created = i.created;
-  started = i.started;
-  handed = i.handed;
+  on_enlistments = kept_enlistments (Sent Begin Up BeginBegin) h (λ f. refl) refl (λ f t. absurd (no t)) i.on_enlistments;
   over = i.over;
   going = i.going;
-  owner = i.owner;
-  fresh = i.fresh;
-  back = i.back;
 }
   where
     by : (k : ℕ) → k ≡ 0 → suc k ≤ 1
@@ -278,19 +294,11 @@ some_many p (x ∷ h) k = step (p x) (some_many p h) k
 -- VOTER is sent for the first time, after BEGUN
 pub voter_opened : (h : List Entry) (u : ℕ) → has (opens Voter) h ≡ false → has is_begun_got h ≡ true → Opened h → Opened (Sent Voter Up (VoterVoter u) ∷ h)
 voter_opened h u n b i = record {
-  begun = i.begun;
-  single = i.single;
-  bare = i.bare;
-  asked = i.asked;
+  on_begin = kept_begin (Sent Voter Up (VoterVoter u)) h refl (λ u. u) (λ a. absurd (no a)) i.on_begin;
   voter = by (how_many (opens Voter) h) (how_many is_begun_got h) (none_many (opens Voter) h n) (some_many is_begun_got h b);
-  created = i.created;
-  started = i.started;
-  handed = i.handed;
+  on_enlistments = kept_enlistments (Sent Voter Up (VoterVoter u)) h (λ f. refl) refl (λ f t. absurd (no t)) i.on_enlistments;
   over = i.over;
   going = i.going;
-  owner = i.owner;
-  fresh = i.fresh;
-  back = i.back;
 }
   where
     by : (k m : ℕ) → k ≡ 0 → 1 ≤ m → suc k ≤ m
@@ -300,21 +308,21 @@ voter_opened h u n b i = record {
 pub enlist_opened : (h : List Entry) (e : EnlNo) (m : Info) → has (opens (Enl e)) h ≡ false → has is_created_got h ≡ true → has is_promoting h ≡ true → (has is_promoted h ≡ false → is_handed (handover h) e.value ≡ true) → Opened h
     → Opened (Sent (Enl e) Up (EnlistEnlist m) ∷ h)
 enlist_opened h e m new c s o i = record {
-  begun = i.begun;
-  single = i.single;
-  bare = i.bare;
-  asked = i.asked;
+  on_begin = kept_begin (Sent (Enl e) Up (EnlistEnlist m)) h refl (λ u. u) (λ a. absurd (no a)) i.on_begin;
   voter = i.voter;
-  created = λ f t. c;
-  started = λ f t. s;
-  handed =
-      λ f n t. or_case ((f.value == e.value) && true) (has (opens (Enl f)) h)
-      (λ q. subst (λ k. is_handed (handover h) k ≡ true) (sym (eqb-true f.value e.value (and_left (f.value == e.value) true q))) (o n)) (λ q. i.handed f n q) t;
+  on_enlistments =
+      record {
+        created = λ f t. c;
+        started = λ f t. s;
+        handed =
+            λ f n t. or_case ((f.value == e.value) && true) (has (opens (Enl f)) h)
+            (λ q. subst (λ k. is_handed (handover h) k ≡ true) (sym (eqb-true f.value e.value (and_left (f.value == e.value) true q))) (o n)) (λ q. i.on_enlistments.handed f n q) t;
+        owner = i.on_enlistments.owner;
+        fresh = λ f. once f (f.value == e.value) refl (i.on_enlistments.fresh f);
+        back = λ f t. branch_stays (Sent (Enl e) Up (EnlistEnlist m)) h f.value (i.on_enlistments.back f t);
+      };
   over = i.over;
   going = i.going;
-  owner = i.owner;
-  fresh = λ f. once f (f.value == e.value) refl (i.fresh f);
-  back = λ f t. branch_stays (Sent (Enl e) Up (EnlistEnlist m)) h f.value (i.back f t);
 }
   where
     once : (f : EnlNo) (b : Bool) → (f.value == e.value) ≡ b → how_many (opens (Enl f)) h ≤ 1 → (if b && true then suc (how_many (opens (Enl f)) h) else how_many (opens (Enl f)) h) ≤ 1
@@ -338,19 +346,19 @@ owner_row xs e o =
 -- the promotion begins, for the first time
 pub start_opened : (h : List Entry) (c : Cause) → has is_promoting h ≡ false → Opened h → Opened (Promoting c ∷ h)
 start_opened h c n i = record {
-  begun = λ t. refl;
-  single = i.single;
-  bare = i.bare;
-  asked = λ t. refl;
+  on_begin = kept_begin (Promoting c) h refl (λ u. u) (λ a. absurd (no a)) i.on_begin;
   voter = i.voter;
-  created = i.created;
-  started = λ e t. refl;
-  handed = λ e u t. absurd (not_both (has is_promoting h) (i.started e t) n);
+  on_enlistments =
+      record {
+        created = i.on_enlistments.created;
+        started = λ e t. refl;
+        handed = λ e u t. absurd (not_both (has is_promoting h) (i.on_enlistments.started e t) n);
+        owner = λ e t. by e (owner_of (rows h)) refl t;
+        fresh = i.on_enlistments.fresh;
+        back = i.on_enlistments.back;
+      };
   over = i.over;
   going = λ t. refl;
-  owner = λ e t. by e (owner_of (rows h)) refl t;
-  fresh = i.fresh;
-  back = i.back;
 }
   where
     by : (e : EnlNo) (o : Option EnlNo) → owner_of (rows h) ≡ o → is_handed o e.value ≡ true → has (is_enlisted e.value) h ≡ true
@@ -361,35 +369,19 @@ start_opened h c n i = record {
 -- the promotion is over, after CREATED
 pub over_opened : (h : List Entry) (u : ℕ) (c : Cause) → has is_created_got h ≡ true → has is_promoting h ≡ true → Opened h → Opened (Promoted u c ∷ h)
 over_opened h u c g s i = record {
-  begun = i.begun;
-  single = i.single;
-  bare = i.bare;
-  asked = i.asked;
+  on_begin = kept_begin (Promoted u c) h refl (λ u. u) (λ a. absurd (no a)) i.on_begin;
   voter = i.voter;
-  created = i.created;
-  started = i.started;
-  handed = λ e n t. absurd (no (sym n));
+  on_enlistments = kept_enlistments (Promoted u c) h (λ f. refl) refl (λ f t. absurd (no t)) i.on_enlistments;
   over = λ t. g;
   going = λ t. s;
-  owner = i.owner;
-  fresh = i.fresh;
-  back = i.back;
 }
 
 -- a promotable is made where b wasn't opened
 pub promotable_opened : (h : List Entry) (e : EnlNo) → has (opens Begin) h ≡ false → Opened h → Opened (Enlisted e Promotable ∷ h)
 promotable_opened h e n i = record {
-  begun = i.begun;
-  single = i.single;
-  bare = λ t u. absurd (not_both (has (opens Begin) h) t n);
-  asked = i.asked;
+  on_begin = record { begun = i.on_begin.begun; single = i.on_begin.single; bare = λ t u. absurd (not_both (has (opens Begin) h) t n); asked = i.on_begin.asked };
   voter = i.voter;
-  created = i.created;
-  started = i.started;
-  handed = i.handed;
+  on_enlistments = kept_enlistments (Enlisted e Promotable) h (λ f. refl) refl (λ f t. absurd (no t)) i.on_enlistments;
   over = i.over;
   going = i.going;
-  owner = λ f t. or_right (f.value == e.value) (has (is_enlisted f.value) h) (i.owner f t);
-  fresh = i.fresh;
-  back = i.back;
 }

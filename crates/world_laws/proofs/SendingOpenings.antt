@@ -175,7 +175,7 @@ unplaced_unopened h n i ws k = each_more (is_unplaced h) (is_unopened h) one ws 
   where
     one : (v : Waiter) → is_unplaced h v ≡ true → is_unopened h v ≡ true
     one (m, Place e r c) u =
-        not_false (has (opens (Enl e)) h) (false_from_ne_true (has (opens (Enl e)) h) (λ o. not_both (has (is_enlisted e.value) h) (i.owner e (i.handed e n o)) (not_true (has (is_enlisted e.value) h) u)))
+        not_false (has (opens (Enl e)) h) (false_from_ne_true (has (opens (Enl e)) h) (λ o. not_both (has (is_enlisted e.value) h) (i.on_enlistments.owner e (i.on_enlistments.handed e n o)) (not_true (has (is_enlisted e.value) h) u)))
     one (m, Identifier) u = refl
 
 -- ENLISTED: the handover is over, or a call that waited has its place
