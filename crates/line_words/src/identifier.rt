@@ -1,5 +1,7 @@
 //! Identifiers in the hyphenated form.
-ghost use Rattle.std.specs.Prelude.{◌≡◌, ◌≤◌, ◌<◌, ◌^◌, ◌+◌, ◌++◌, ℕ, Some, length};
+ghost use Rattle.std.specs.Prelude.{◌≡◌, ◌≤◌, ◌<◌, ◌^◌, ◌+◌, ◌++◌, ℕ, Some, length, option_map};
+ghost use Rattle.std.specs.Int.{from_be_bytes, w128};
+ghost use Rattle.uuid.specs.Text.{parsed};
 ghost use Rattle.dtx_model.specs.TraceText.{id_text};
 ghost use Rattle.line_tail.specs.declared.tail.TheConstants.{LINE_ROOM};
 ghost use Rattle.line_words.specs.declared.widths.TheConstants.{IDENTIFIER_ROOM};
@@ -22,7 +24,8 @@ pub fn put_identifier(tail: &mut Tail, id: u128)
 
 /// Reads an identifier, in this form or in another one of a UUID.
 pub fn identifier_of(word: &[u8]) -> Option<u128>
-    ensures { (u : ℕ) → u < 2 ^ 128 → word.now ≡ id_text u → result ≡ Some u }
+    ensures value { result ≡ option_map (from_be_bytes w128) (parsed word.now) }
+    ensures of { (u : ℕ) → u < 2 ^ 128 → word.now ≡ id_text u → result ≡ Some u }
 {
     match Uuid::try_parse_ascii(word) {
         Ok(x) => Some(x.as_u128()),

@@ -40,7 +40,7 @@ pub use names::{
     put_transaction, scope_of, transaction_of,
 };
 pub use numbers::{number_from, number_of, number8_of, number16_of, number32_of};
-pub use outcome::{outcome_of, put_outcome};
+pub use outcome::{ABORTED, COMMITTED, IN_DOUBT, outcome_of, put_outcome};
 pub use plans::{
     owner_plan_of, promotion_plan_of, put_owner_plan, put_promotion_plan, put_vote_plan,
     vote_plan_of,

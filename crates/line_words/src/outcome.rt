@@ -8,11 +8,14 @@ ghost use Rattle.line_words.specs.declared.widths.TheConstants.{WORD_ROOM};
 use dtx_values::Outcome;
 use line_tail::Tail;
 
-const COMMITTED: &[u8] = b"committed";
+/// The word of an outcome that is committed.
+pub const COMMITTED: &[u8] = b"committed";
 
-const ABORTED: &[u8] = b"aborted";
+/// The word of an outcome that is aborted.
+pub const ABORTED: &[u8] = b"aborted";
 
-const IN_DOUBT: &[u8] = b"indoubt";
+/// The word of an outcome that is in doubt.
+pub const IN_DOUBT: &[u8] = b"indoubt";
 
 /// Puts an outcome.
 #[inline]

@@ -1,11 +1,13 @@
 -- The text that is made of up to 256 transactions is a script.
-use Rattle.std.proofs.Common.{◌≡◌, ℕ, zero, suc, ◌+◌, ◌*◌, ◌%◌, ◌≤◌, ◌==◌, Bool, true, false, List, [], ◌∷◌, ◌++◌, sym, subst, arith, append_assoc, codes}
+use Rattle.std.proofs.Common.{◌≡◌, ℕ, zero, suc, ◌+◌, ◌*◌, ◌%◌, ◌≤◌, ◌==◌, Bool, true, false, List, [], ◌∷◌, ◌++◌, ap, sym, ◌∙◌, subst, arith, append_assoc, codes}
 use Rattle.std.specs.Prelude.{if◌then◌else◌}
 use Rattle.std.proofs.lemmas.List.{append-nil}
 use Rattle.dtx_values.specs.declared.script.Line.{Line}
 use Rattle.dtx_values.specs.declared.words.Vote.TheVariants.{Yes, No}
 use Rattle.dtx_model.specs.Grammar.{Reads}
+use Rattle.script_text.proofs.OneReading.{one_script}
 use Rattle.script_maker.specs.Gen.{begin_line, clone_line, commit_line, enlisted_lines, first_durable_line, first_of, gen, owner_line, par_line, second_durable_line, second_of, up_to, volatile_line, work_lines}
+use Rattle.script_maker.specs.LogLines.{has_log_line}
 use Rattle.script_maker.proofs.Stages.{Stage, stage_more, stage_none}
 use Rattle.script_maker.proofs.Works.{begin_next, clone_next, commit_next, first_durable_next, owner_next, par_next, second_durable_next, volatile_next}
 
@@ -79,11 +81,22 @@ worked t (suc k) x h begun high =
           (omega arith),
     )
 
--- so the whole text is read as a script
-pub made_reads : (n : ℕ) → n ≤ 256 → (s : List Line) × Reads (gen n) s
+-- the whole text
+whole : (n : ℕ) → n ≤ 256 → Lines n (2 * n) n true (n + 1 + 3 * n) (gen n)
 unfolding gen
-made_reads n h =
+whole n h =
     let s = begun n h in
     let p = par_next n 0 0 n (up_to begin_line n) s.0 s.1 (omega arith) in
-    let r = worked n n (up_to begin_line n ++ par_line) (s.0 ++ p.0 ∷ [], p.1) (omega arith) h in
-    (r.0, record { bytes = sym r.1.text; script = r.1.script })
+    worked n n (up_to begin_line n ++ par_line) (s.0 ++ p.0 ∷ [], p.1) (omega arith) h
+
+-- what a stage's lines are the text of is read as them
+reads_of : (t e c n : ℕ) (p : Bool) (x : List ℕ) (s : List Line) → Stage t e c p n x s → Reads x s
+reads_of t e c n p x s h = record { bytes = sym h.text; script = h.script }
+
+-- so the whole is read as a script
+pub made_reads : (n : ℕ) → n ≤ 256 → (s : List Line) × Reads (gen n) s
+made_reads n h = let w = whole n h in (w.0, reads_of _ _ _ _ _ _ _ w.1)
+
+-- which has no line at the log, as it is the one script of this text
+pub made_no_log_line : (n : ℕ) → n ≤ 256 → (s : List Line) → Reads (gen n) s → has_log_line s ≡ false
+made_no_log_line n h s r = let w = whole n h in ap has_log_line (one_script (gen n) s w.0 r (reads_of _ _ _ _ _ _ _ w.1)) ∙ w.1.no_log_line

@@ -52,7 +52,7 @@ begin_next t n x s h few room =
     let short : length (line_text l) ≤ 200 = short_line l (omega (arith, short_number u.value (omega arith))) in
     let next : IsNext (past_of s) l = record { makes_new = rw (h.named.unbegun (suc t) (omega arith)) refl; uses_old = refl; par_once = refl } in (
       l,
-      goes_on t 0 0 (suc t) 0 0 n false false x (begin_line (suc t)) s l h few (record { in_range = refl; short = short; kind = λ past. refl }) next
+      goes_on t 0 0 (suc t) 0 0 n false false x (begin_line (suc t)) s l h few (record { in_range = refl; short = short; kind = λ past. refl; not_at_log = refl }) next
           (begin_text (suc t) (turn (suc t)) u refl refl) (named_begin t 0 0 false (past_of s) l h.named refl refl),
     )
 
@@ -64,7 +64,7 @@ par_next t e c n x s h few =
     let short : length (line_text l) ≤ 200 = short_line l (omega arith) in
     let next : IsNext (past_of s) l = record { makes_new = refl; uses_old = refl; par_once = rw h.named.threads refl } in (
       l,
-      goes_on t e c t e c n false true x par_line s l h few (record { in_range = refl; short = short; kind = λ past. refl }) next (par_text a refl) (named_same t e c false (past_of s) l h.named refl),
+      goes_on t e c t e c n false true x par_line s l h few (record { in_range = refl; short = short; kind = λ past. refl; not_at_log = refl }) next (par_text a refl) (named_same t e c false (past_of s) l h.named refl),
     )
 
 -- a line that enlists in a transaction that was begun
@@ -86,7 +86,7 @@ volatile_next t e c k n v x s h few begun high above brief =
     let i : EnlNo = record { value = first_of (suc k); in_range = (omega arith, omega arith) } in
     let l : Line = record { actor = turn (suc k); body = Volatile u i Plain (Some v) } in
     let short : length (line_text l) ≤ 200 = short_line l (omega (arith, short_number u.value (omega arith), short_number i.value (omega arith))) in
-    enlisted t e c n i.value x (volatile_line (vote_word (Some v)) (suc k)) s l u h few begun above refl refl refl (record { in_range = refl; short = short; kind = λ past. refl })
+    enlisted t e c n i.value x (volatile_line (vote_word (Some v)) (suc k)) s l u h few begun above refl refl refl (record { in_range = refl; short = short; kind = λ past. refl; not_at_log = refl })
     (volatile_text (suc k) v (turn (suc k)) u i refl refl refl)
 
 -- a durable that can own the commit
@@ -97,7 +97,7 @@ owner_next t e c k n x s h few begun high above =
     let r : RmNo = record { value = 1; in_range = (omega arith, omega arith) } in
     let l : Line = record { actor = turn (suc k); body = Durable u i r (SinglePhase (Some Yes) (Some Committed)) } in
     let short : length (line_text l) ≤ 200 = short_line l (omega (arith, short_number u.value (omega arith), short_number i.value (omega arith), short_number 1 (omega arith))) in
-    enlisted t e c n i.value x (owner_line (suc k)) s l u h few begun above refl refl refl (record { in_range = refl; short = short; kind = λ past. refl })
+    enlisted t e c n i.value x (owner_line (suc k)) s l u h few begun above refl refl refl (record { in_range = refl; short = short; kind = λ past. refl; not_at_log = refl })
     (owner_text (suc k) (turn (suc k)) u i r refl refl refl refl)
 
 -- the first of two durables
@@ -108,7 +108,7 @@ first_durable_next t e c k n x s h few begun high above =
     let r : RmNo = record { value = 1; in_range = (omega arith, omega arith) } in
     let l : Line = record { actor = turn (suc k); body = Durable u i r (TwoPhase (Some Yes)) } in
     let short : length (line_text l) ≤ 200 = short_line l (omega (arith, short_number u.value (omega arith), short_number i.value (omega arith), short_number 1 (omega arith))) in
-    enlisted t e c n i.value x (first_durable_line (suc k)) s l u h few begun above refl refl refl (record { in_range = refl; short = short; kind = λ past. refl })
+    enlisted t e c n i.value x (first_durable_line (suc k)) s l u h few begun above refl refl refl (record { in_range = refl; short = short; kind = λ past. refl; not_at_log = refl })
     (first_durable_text (suc k) (turn (suc k)) u i r refl refl refl refl)
 
 -- and the second
@@ -119,7 +119,7 @@ second_durable_next t e c k n x s h few begun high above =
     let r : RmNo = record { value = 2; in_range = (omega arith, omega arith) } in
     let l : Line = record { actor = next_turn (suc k); body = Durable u i r (TwoPhase (Some Yes)) } in
     let short : length (line_text l) ≤ 200 = short_line l (omega (arith, short_number u.value (omega arith), short_number i.value (omega arith), short_number 2 (omega arith))) in
-    enlisted t e c n i.value x (second_durable_line (suc k)) s l u h few begun above refl refl refl (record { in_range = refl; short = short; kind = λ past. refl })
+    enlisted t e c n i.value x (second_durable_line (suc k)) s l u h few begun above refl refl refl (record { in_range = refl; short = short; kind = λ past. refl; not_at_log = refl })
     (second_durable_text (suc k) (next_turn (suc k)) u i r refl refl refl refl)
 
 -- a clone
@@ -135,7 +135,7 @@ clone_next t e c k n x s h few begun high above =
       par_once = refl;
     } in (
       l,
-      goes_on t e c t e (suc k) n true true x (clone_line (suc k)) s l h few (record { in_range = refl; short = short; kind = λ past. refl }) next
+      goes_on t e c t e (suc k) n true true x (clone_line (suc k)) s l h few (record { in_range = refl; short = short; kind = λ past. refl; not_at_log = refl }) next
           (clone_text (suc k) (turn (suc k)) u i refl refl refl) (named_clone t e c (suc k) true (past_of s) l h.named above refl refl),
     )
 
@@ -147,6 +147,6 @@ commit_next t e c k n x s h few begun high =
     let short : length (line_text l) ≤ 200 = short_line l (omega (arith, short_number u.value (omega arith))) in
     let next : IsNext (past_of s) l = record { makes_new = refl; uses_old = rw (h.named.begun (suc k) u.in_range.0 begun) refl; par_once = refl } in (
       l,
-      goes_on t e c t e c n true true x (commit_line (suc k)) s l h few (record { in_range = refl; short = short; kind = λ past. refl }) next
+      goes_on t e c t e c n true true x (commit_line (suc k)) s l h few (record { in_range = refl; short = short; kind = λ past. refl; not_at_log = refl }) next
           (commit_text (suc k) (turn (suc k)) u refl refl) (named_same t e c true (past_of s) l h.named refl),
     )

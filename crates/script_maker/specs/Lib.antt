@@ -1,1 +1,2 @@
 pub mod Gen
+pub mod LogLines

@@ -1,8 +1,9 @@
 //! The lines put together, and their text.
-ghost use Rattle.std.specs.Prelude.{◌≡◌, ◌≤◌, ◌++◌, IfOk, List};
+ghost use Rattle.std.specs.Prelude.{◌≡◌, ◌≤◌, ◌++◌, IfOk, List, false};
 ghost use Rattle.dtx_values.specs.declared.script.Line.{Line};
 ghost use Rattle.dtx_model.specs.Grammar.{Reads, script_text};
 ghost use Rattle.script_maker.specs.Gen.{gen, work_lines};
+ghost use Rattle.script_maker.specs.LogLines.{has_log_line};
 
 use crate::lines::{
     begin, commit, first_durable, owner, par, rollback_clone, second_durable, volatile,
@@ -58,7 +59,7 @@ fn made_script(alloc: Global, n: u32) -> Result<Script, AllocError>
 /// | 3 | two durables of two managers, by two actors: it is promoted | committed |
 /// | 4 | a clone that isn't complete | aborted |
 ///
-/// The text is a script.
+/// The text is a script. None of its lines arms a stop of the log or opens it again.
 ///
 /// # Errors
 ///
@@ -68,6 +69,7 @@ pub fn make_script(alloc: Global, n: u16) -> Result<Vec<u8>, AllocError>
     requires high { n ≤ TxNo.MAX }
     ensures text { IfOk result (λ v. v.items ≡ gen n) }
     ensures script { (s : List Line) × Reads (gen n) s }
+    ensures no_log_line { (s : List Line) → Reads (gen n) s → has_log_line s ≡ false }
 {
     let script = made_script(alloc, u32::from(n))?;
     print_script(alloc, &script)

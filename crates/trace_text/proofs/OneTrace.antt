@@ -8,7 +8,7 @@ use Rattle.dtx_model.proofs.Bools.{and_left, and_right}
 use Rattle.line_tail.proofs.CutLemmas.{cut_same}
 use Rattle.line_words.proofs.Without.{without_decimal}
 use Rattle.trace_text.specs.OneTrace.{is_carried_at, is_typed_at, named_at, told_at}
-use Rattle.trace_text.specs.ReadTrace.{line_body}
+use Rattle.trace_text.specs.Forms.{line_words}
 use Rattle.trace_text.proofs.ReadLines.{body_without, line-append, place_apart}
 use Rattle.trace_text.proofs.ReadTraces.{line_long}
 use Rattle.trace_text.proofs.TellEntries.{entry_of, entry_is, named_told}
@@ -20,7 +20,7 @@ abbrev line_of : ℕ → Info → List ℕ → Placed
 line_of u i w = of_three (λ n p x. (p, x)) (λ n. n) place_of (entry_of u i) w
 
 -- a line is read back
-line_is : (u : ℕ) (i : Info) (n : ℕ) (x : Placed) → is_typed_at x ≡ true → line_of u i (line_body n x) ≡ named_at u i x
+line_is : (u : ℕ) (i : Info) (n : ℕ) (x : Placed) → is_typed_at x ≡ true → line_of u i (line_words n x) ≡ named_at u i x
 line_is u i n x h =
     three_are (λ n p y. (p, y)) (λ n. n) place_of (entry_of u i) (decimal n) x.0 _ (decimal n) (place_text x.0) (entry_text x.1) (without_decimal 32 n (omega arith)) (place_apart x.0) refl
     (place_is x.0) (entry_is u i x.1 h)
@@ -35,7 +35,7 @@ lines_one u i n [] [] h k e = refl
 lines_one u i n [] (y ∷ T) h k e = absurd (no_line n y (lines_from (suc n) T) e)
 lines_one u i n (x ∷ S) [] h k e = absurd (no_line n x (lines_from (suc n) S) (sym e))
 lines_one u i n (x ∷ S) (y ∷ T) h k e =
-    let cut = cut_same 10 (line_body n x) (line_body n y) (lines_from (suc n) S) (lines_from (suc n) T) (body_without n x) (body_without n y)
+    let cut = cut_same 10 (line_words n x) (line_words n y) (lines_from (suc n) S) (lines_from (suc n) T) (body_without n x) (body_without n y)
     (sym (line-append n x (lines_from (suc n) S)) ∙ e ∙ line-append n y (lines_from (suc n) T)) in
     let first : named_at u i x ≡ named_at u i y =
     sym (line_is u i n x (and_left (is_typed_at x) (each is_typed_at S) h)) ∙ ap (line_of u i) cut.0 ∙ line_is u i n y (and_left (is_typed_at y) (each is_typed_at T) k) in

@@ -39,7 +39,7 @@ use Rattle.dtx_values.specs.declared.trace.Place.TheVariants.{Context, Transacti
 use Rattle.dtx_model.specs.Grammar.{actor_name, connection_word, iso_word, kind_word, image_word}
 use Rattle.dtx_model.specs.Traces.{Placed}
 use Rattle.dtx_model.specs.TraceText.{ambient_text, answer_text, ask_text, cast_vote_text, cause_text, class_text, direction_text, entry_text, found_text, id_text, message_text, outcome_text, party_text, place_text, promote_text, request_text, trace_line}
-use Rattle.trace_text.specs.ReadTrace.{line_body}
+use Rattle.trace_text.specs.Forms.{line_words}
 use Rattle.line_tail.specs.Cut.{IsWithout, behind, front}
 use Rattle.line_tail.proofs.CutLemmas.{cut_same, front_cut, without_append}
 use Rattle.line_words.proofs.Identifiers.{id_without}
@@ -198,20 +198,20 @@ of_entry (LogWord (LogOpened n)) = number n
 of_entry _ = refl
 
 -- nor has a line before its LF
-pub body_without : (n : ℕ) (x : Placed) → IsWithout 10 (line_body n x)
+pub body_without : (n : ℕ) (x : Placed) → IsWithout 10 (line_words n x)
 body_without n x = spaced (decimal n ++ codes " " ++ place_text x.0) (entry_text x.1) (spaced (decimal n) (place_text x.0) (number n) (of_place x.0)) (of_entry x.1)
 
 -- what follows a line stands after its LF
-pub line-append : (n : ℕ) (x : Placed) (after : List ℕ) → trace_line n x ++ after ≡ line_body n x ++ 10 ∷ after
-line-append n x after = append_assoc (line_body n x) (10 ∷ []) after
+pub line-append : (n : ℕ) (x : Placed) (after : List ℕ) → trace_line n x ++ after ≡ line_words n x ++ 10 ∷ after
+line-append n x after = append_assoc (line_words n x) (10 ∷ []) after
 
 -- what stands before the first LF is the line
-pub front_line : (n : ℕ) (x : Placed) (after : List ℕ) → front 10 (trace_line n x ++ after) ≡ line_body n x
-front_line n x after = ap (λ t. front 10 t) (line-append n x after) ∙ front_cut 10 (line_body n x) after (body_without n x)
+pub front_line : (n : ℕ) (x : Placed) (after : List ℕ) → front 10 (trace_line n x ++ after) ≡ line_words n x
+front_line n x after = ap (λ t. front 10 t) (line-append n x after) ∙ front_cut 10 (line_words n x) after (body_without n x)
 
 -- two lines at the front of one text are followed by one text
 pub same_after : (n m : ℕ) (x y : Placed) (a b : List ℕ) → trace_line n x ++ a ≡ trace_line m y ++ b → a ≡ b
-same_after n m x y a b e = (cut_same 10 (line_body n x) (line_body m y) a b (body_without n x) (body_without m y) (sym (line-append n x a) ∙ e ∙ line-append m y b)).1
+same_after n m x y a b e = (cut_same 10 (line_words n x) (line_words m y) a b (body_without n x) (body_without m y) (sym (line-append n x a) ∙ e ∙ line-append m y b)).1
 
 -- a place has no space
 pub place_apart : (p : Place) → IsWithout 32 (place_text p)
@@ -225,7 +225,7 @@ pub record ArePlaced (v w : List ℕ) (x : Placed) : Type 0 where
   pub words : w ≡ entry_text x.1
 
 -- are cut apart
-pub placed_cut : (n : ℕ) (x : Placed) (text rest name words : List ℕ) → text ≡ line_body n x → rest ≡ behind 32 text → name ≡ front 32 rest → words ≡ behind 32 rest → ArePlaced name words x
+pub placed_cut : (n : ℕ) (x : Placed) (text rest name words : List ℕ) → text ≡ line_words n x → rest ≡ behind 32 text → name ≡ front 32 rest → words ≡ behind 32 rest → ArePlaced name words x
 placed_cut n x text rest name words e r f l =
     let k = cut_twice text (front 32 text) rest (decimal n) (place_text x.0) (entry_text x.1) refl r e (without_decimal 32 n (omega arith)) in
     let j = cut_spaced rest name words (place_text x.0) (entry_text x.1) f l k.last (place_apart x.0) in

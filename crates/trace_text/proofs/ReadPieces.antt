@@ -23,13 +23,14 @@ use Rattle.dtx_values.specs.declared.number.CloneNo.{CloneNo}
 use Rattle.dtx_values.specs.declared.number.ScopeNo.{ScopeNo}
 use Rattle.dtx_values.specs.declared.number.TxNo.{TxNo}
 use Rattle.dtx_values.specs.declared.trace.Place.{Place}
+use Rattle.dtx_values.specs.Lines.{has_line}
 use Rattle.dtx_values.specs.declared.words.Cause.{Cause}
 use Rattle.dtx_values.specs.declared.words.CloneKind.{CloneKind}
 use Rattle.dtx_values.specs.declared.words.Image.{Image}
 use Rattle.dtx_values.specs.declared.words.Outcome.{Outcome}
 use Rattle.dtx_values.specs.declared.words.Outcome.TheVariants.{Committed, Aborted, InDoubt}
 use Rattle.dtx_model.specs.Grammar.{actor_name, clone_name, connection_word, image_word, kind_word, scope_name, transaction_name}
-use Rattle.dtx_model.specs.TraceText.{ambient_text, answer_text, cause_text, direction_text, entry_text, id_text, message_text, outcome_text, party_text, sent_text, is_answer_fit, is_entry_fit}
+use Rattle.dtx_model.specs.TraceText.{ambient_text, answer_text, cause_text, direction_text, entry_text, id_text, message_text, outcome_text, party_text, sent_text, is_answer_fit, is_entry_fit, is_message_fit}
 use Rattle.dtx_model.proofs.Bools.{and_left, and_right, or_right}
 use Rattle.trace_text.specs.ReadGroups.{is_plain_answer, is_refusal, is_detailed}
 use Rattle.line_tail.specs.Cut.{IsWithout, behind, front}
@@ -352,3 +353,8 @@ sent_cut c d m rest first last word text e f l g n =
     let k = cut_twice rest first last (connection_word c) (direction_text d) (message_text m) f l e (connection_apart c) in
     let h = cut_spaced last word text (direction_text d) (message_text m) g n k.last (direction_apart d) in
     record { conn = k.first; dir = h.first; name = h.last }
+
+-- a message is found on the connection and in the direction that were read, if those are its own
+pub message_found : (p : Place) (c k : Conn) (e d : Dir) (text : List ℕ) (m : Message) (y : Option Message) → c ≡ k → e ≡ d → has_line k d m ≡ true → is_message_fit p k m ≡ true
+    → ((n : Message) → has_line c e n ≡ true → is_message_fit p c n ≡ true → text ≡ message_text n → y ≡ Some n) → text ≡ message_text m → y ≡ Some m
+message_found p c k e d text m y conn dir line fit found name = found m (cc (conn, dir, line)) (cc (conn, fit)) name

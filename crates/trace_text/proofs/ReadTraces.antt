@@ -5,7 +5,7 @@ use Rattle.dtx_model.specs.Words.{each}
 use Rattle.dtx_model.specs.Traces.{Placed}
 use Rattle.dtx_model.specs.TraceText.{trace_line, lines_from, trace_text, is_fit, IsTextOf, IsBadLine}
 use Rattle.dtx_model.proofs.Bools.{and_left, and_right, and_both}
-use Rattle.trace_text.specs.ReadTrace.{line_body}
+use Rattle.trace_text.specs.Forms.{line_words}
 use Rattle.trace_text.proofs.ReadLines.{same_after}
 
 -- one entry more at the end is one line more
@@ -35,7 +35,7 @@ fit_push (y ∷ xs) x h k = and_both (is_fit y) _ (and_left (is_fit y) (each is_
 
 -- a line isn't empty
 pub line_long : (n : ℕ) (x : Placed) → 0 < length (trace_line n x)
-line_long n x = omega (arith, length-append (line_body n x) (10 ∷ []))
+line_long n x = omega (arith, length-append (line_words n x) (10 ∷ []))
 
 -- no line of a trace stands at the front
 abbrev IsUnread : ℕ → List ℕ → Type 0

@@ -1,5 +1,5 @@
 //! The places, the parties and the ambient transactions of a trace.
-ghost use Rattle.std.specs.Prelude.{◌≡◌, ◌≤◌, ◌+◌, ◌++◌, Option, Some, length};
+ghost use Rattle.std.specs.Prelude.{◌≡◌, ◌≤◌, ◌+◌, ◌++◌, IfSome, Option, Some, length};
 ghost use Rattle.dtx_values.specs.declared.entry.Party.{Party};
 ghost use Rattle.dtx_values.specs.declared.number.TxNo.{TxNo};
 ghost use Rattle.dtx_values.specs.declared.trace.Place.{Place};
@@ -34,7 +34,8 @@ pub fn put_place(tail: &mut Tail, p: Place)
 
 /// Reads a place.
 pub fn place_of(word: &[u8]) -> Option<Place>
-    ensures { (p : Place) → word.now ≡ place_text p → result ≡ Some p }
+    ensures some { IfSome result (λ p. word.now ≡ place_text p) }
+    ensures of { (p : Place) → word.now ≡ place_text p → result ≡ Some p }
 {
     if word == LOG {
         return Some(Place::Log);
@@ -59,7 +60,8 @@ pub fn put_party(tail: &mut Tail, p: Party)
 
 /// Reads who is told an outcome.
 pub fn party_of(word: &[u8]) -> Option<Party>
-    ensures { (p : Party) → word.now ≡ party_text p → result ≡ Some p }
+    ensures some { IfSome result (λ p. word.now ≡ party_text p) }
+    ensures of { (p : Party) → word.now ≡ party_text p → result ≡ Some p }
 {
     if word == CLIENT {
         return Some(Party::Client);
@@ -81,7 +83,8 @@ pub fn put_ambient(tail: &mut Tail, t: Option<TxNo>)
 
 /// Reads the ambient transaction of a scope.
 pub fn ambient_of(word: &[u8]) -> Option<Option<TxNo>>
-    ensures { (t : Option TxNo) → word.now ≡ ambient_text t → result ≡ Some t }
+    ensures some { IfSome result (λ t. word.now ≡ ambient_text t) }
+    ensures of { (t : Option TxNo) → word.now ≡ ambient_text t → result ≡ Some t }
 {
     if word == NONE {
         return Some(None);

@@ -4,8 +4,9 @@ ghost use Rattle.dtx_values.specs.declared.message.Info.{Info};
 ghost use Rattle.dtx_model.specs.Traces.{Placed};
 ghost use Rattle.dtx_model.specs.TraceText.{trace_line, trace_text, is_fit, IsTextOf, IsBadLine};
 ghost use Rattle.dtx_model.specs.Words.{each};
+ghost use Rattle.trace_text.specs.Forms.{line_words};
 ghost use Rattle.trace_text.specs.OneTrace.{is_carried_at, is_typed_at, named_at, told_at};
-ghost use Rattle.trace_text.specs.ReadTrace.{IsBadTrace, line_body};
+ghost use Rattle.trace_text.specs.ReadTrace.{IsBadTrace};
 
 use crate::names::place_of;
 use crate::printer::put_line;
@@ -26,7 +27,7 @@ pub enum TraceError {
 
 /// Reads the place and the entry of a line without its LF.
 fn placed(text: &[u8]) -> Option<(Place, Entry)>
-    ensures of { (n : ℕ) (x : Placed) → is_fit x ≡ true → text.now ≡ line_body n x → result ≡ Some x }
+    ensures of { (n : ℕ) (x : Placed) → is_fit x ≡ true → text.now ≡ line_words n x → result ≡ Some x }
     ensures fit { IfSome result (λ x. is_fit x ≡ true) }
 {
     let (_, rest) = parts(text, b' ');

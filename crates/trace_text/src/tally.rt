@@ -4,6 +4,7 @@ ghost use Rattle.dtx_values.specs.declared.entry.Entry.{Entry};
 ghost use Rattle.trace_text.specs.Headings.{heading_word, is_counted};
 ghost use Rattle.trace_text.specs.Summary.{all_seen, count_line, seen_of, summary_text};
 
+use crate::{answer_words, entry_words};
 use dtx_values::{Entry, Outcome, Party, Place};
 use entry_lists::Trace;
 use line_tail::Tail;
@@ -85,13 +86,13 @@ impl Heading {
     {
         match self {
             Heading::Transactions => b"transactions",
-            Heading::Committed => b"committed",
-            Heading::Aborted => b"aborted",
-            Heading::InDoubt => b"indoubt",
-            Heading::Open => b"open",
-            Heading::Promoted => b"promoted",
-            Heading::Logged => b"logged",
-            Heading::Freed => b"freed",
+            Heading::Committed => line_words::COMMITTED,
+            Heading::Aborted => line_words::ABORTED,
+            Heading::InDoubt => line_words::IN_DOUBT,
+            Heading::Open => answer_words::OPEN,
+            Heading::Promoted => entry_words::PROMOTED,
+            Heading::Logged => entry_words::LOGGED,
+            Heading::Freed => entry_words::FREED,
         }
     }
 

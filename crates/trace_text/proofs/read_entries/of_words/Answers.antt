@@ -28,7 +28,7 @@ pub returns-in_err-party_of-clause-none : goal.returns-in_err-party_of-clause-no
 returns-in_err-party_of-clause-none c = if_none (AreOfNone is_of_words c.args.key.now c.args.rest.now) _ (λ p x f g k r.
     let named : c.args.key.now ≡ codes "told" = search rules in
     let w = told_cut x _ _ _ (same_text _ _ (sym named ∙ k)) r c.parts.ensures.front c.parts.ensures.behind in
-    some_apart _ _ (c.party_of.ensures w.one w.first) c.in_err-party_of.was)
+    some_apart _ _ (c.party_of.ensures.of w.one w.first) c.in_err-party_of.was)
 
 pub returns-in_err-outcome_of-clause-none : goal.returns-in_err-outcome_of-clause-none
 returns-in_err-outcome_of-clause-none c = if_none (AreOfNone is_of_words c.args.key.now c.args.rest.now) _ (λ p x f g k r.
@@ -40,13 +40,13 @@ pub returns-then-eq-2-clause-some : goal.returns-then-eq-2-clause-some
 returns-then-eq-2-clause-some c = λ p x f k r.
     let named : c.args.key.now ≡ codes "told" = search rules in
     let w = told_cut x _ _ _ (same_text _ _ (sym named ∙ k)) r c.parts.ensures.front c.parts.ensures.behind in
-    two_found _ _ _ x w _ _ _ _ (c.party_of.ensures w.one w.first) c.in_ok-party_of.was (c.outcome_of.ensures.of w.two w.last) c.in_ok-outcome_of.was
+    two_found _ _ _ x w _ _ _ _ (c.party_of.ensures.of w.one w.first) c.in_ok-party_of.was (c.outcome_of.ensures.of w.two w.last) c.in_ok-outcome_of.was
 
 pub returns-in_err-identifier_of-clause-none : goal.returns-in_err-identifier_of-clause-none
 returns-in_err-identifier_of-clause-none c = if_none (AreOfNone is_of_words c.args.key.now c.args.rest.now) _ (λ p x f g k r.
     let named : c.args.key.now ≡ codes "promoted" = search rules in
     let w = promoted_cut p x _ _ _ f (same_text _ _ (sym named ∙ k)) r c.parts.ensures.front c.parts.ensures.behind in
-    some_apart _ _ (c.identifier_of.ensures w.one w.first.0 w.first.1) c.in_err-identifier_of.was)
+    some_apart _ _ (c.identifier_of.ensures.of w.one w.first.0 w.first.1) c.in_err-identifier_of.was)
 
 pub returns-in_err-cause_of-clause-none : goal.returns-in_err-cause_of-clause-none
 returns-in_err-cause_of-clause-none c = if_none (AreOfNone is_of_words c.args.key.now c.args.rest.now) _ (λ p x f g k r.
@@ -58,7 +58,7 @@ pub returns-then-eq-3-clause-some : goal.returns-then-eq-3-clause-some
 returns-then-eq-3-clause-some c = λ p x f k r.
     let named : c.args.key.now ≡ codes "promoted" = search rules in
     let w = promoted_cut p x _ _ _ f (same_text _ _ (sym named ∙ k)) r c.parts.ensures.front c.parts.ensures.behind in
-    two_found _ _ _ x w _ _ _ _ (c.identifier_of.ensures w.one w.first.0 w.first.1) c.in_ok-identifier_of.was (c.cause_of.ensures.of w.two w.last) c.in_ok-cause_of.was
+    two_found _ _ _ x w _ _ _ _ (c.identifier_of.ensures.of w.one w.first.0 w.first.1) c.in_ok-identifier_of.was (c.cause_of.ensures.of w.two w.last) c.in_ok-cause_of.was
 
 pub returns-in_err-connection_of-clause-none : goal.returns-in_err-connection_of-clause-none
 returns-in_err-connection_of-clause-none c = if_none (AreOfNone is_of_words c.args.key.now c.args.rest.now) _ (λ p x f g k r.
@@ -120,10 +120,10 @@ pub returns-in_err-ambient_of-clause-none : goal.returns-in_err-ambient_of-claus
 returns-in_err-ambient_of-clause-none c = if_none (AreOfNone is_of_words c.args.key.now c.args.rest.now) _ (λ p x f g k r.
     let named : c.args.key.now ≡ codes "opened" = search rules in
     let w = opened_cut p x _ _ _ f (same_text _ _ (sym named ∙ k)) r c.parts.ensures.front c.parts.ensures.behind (search rules) in
-    some_apart _ _ (c.ambient_of.ensures w.two w.last) c.in_err-ambient_of.was)
+    some_apart _ _ (c.ambient_of.ensures.of w.two w.last) c.in_err-ambient_of.was)
 
 pub returns-then-eq-6-clause-some : goal.returns-then-eq-6-clause-some
 returns-then-eq-6-clause-some c = λ p x f k r.
     let named : c.args.key.now ≡ codes "opened" = search rules in
     let w = opened_cut p x _ _ _ f (same_text _ _ (sym named ∙ k)) r c.parts.ensures.front c.parts.ensures.behind (search rules) in
-    two_found _ _ _ x w _ _ _ _ (c.scope_of.ensures.of w.one w.first) c.in_ok-scope_of.was (c.ambient_of.ensures w.two w.last) c.in_ok-ambient_of.was
+    two_found _ _ _ x w _ _ _ _ (c.scope_of.ensures.of w.one w.first) c.in_ok-scope_of.was (c.ambient_of.ensures.of w.two w.last) c.in_ok-ambient_of.was

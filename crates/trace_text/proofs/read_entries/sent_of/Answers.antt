@@ -1,7 +1,5 @@
-use Rattle.std.proofs.Common.{◌≡◌, Some, true}
-use Rattle.dtx_values.specs.Lines.{has_line}
-use Rattle.dtx_model.specs.TraceText.{is_message_fit}
-use Rattle.trace_text.proofs.ReadPieces.{sent_cut}
+use Rattle.std.proofs.Common.{◌≡◌, Some}
+use Rattle.trace_text.proofs.ReadPieces.{message_found, sent_cut}
 use Rattle.trace_text.proofs.read_entries.sent_of.Goals as goal
 
 pub returns-in_err-conn-clause-of : goal.returns-in_err-conn-clause-of
@@ -19,16 +17,12 @@ returns-in_err-message_of-clause-of c = λ k d m line fit e.
     let w = sent_cut k d m c.args.text.now _ _ _ _ e c.parts.ensures.front c.parts.ensures.behind c.parts-2.ensures.front c.parts-2.ensures.behind in
     let conn : c.in_ok-conn.conn ≡ k = cc (c.connection_of.ensures.of k w.conn, c.in_ok-conn.was) in
     let dir : c.in_ok-dir.dir ≡ d = cc (c.direction_of.ensures.of d w.dir, c.in_ok-dir.was) in
-    let on_line : has_line c.in_ok-conn.conn c.in_ok-dir.dir m ≡ true = cc (conn, dir, line) in
-    let is_fit : is_message_fit c.args.at c.in_ok-conn.conn m ≡ true = cc (conn, fit) in
-    absurd (cc (c.message_of.ensures.of m on_line is_fit w.name, c.in_err-message_of.was))
+    absurd (cc (message_found _ _ _ _ _ _ m _ conn dir line fit c.message_of.ensures.of w.name, c.in_err-message_of.was))
 
 pub returns-clause-of : goal.returns-clause-of
 returns-clause-of c = λ k d m line fit e.
     let w = sent_cut k d m c.args.text.now _ _ _ _ e c.parts.ensures.front c.parts.ensures.behind c.parts-2.ensures.front c.parts-2.ensures.behind in
     let conn : c.in_ok-conn.conn ≡ k = cc (c.connection_of.ensures.of k w.conn, c.in_ok-conn.was) in
     let dir : c.in_ok-dir.dir ≡ d = cc (c.direction_of.ensures.of d w.dir, c.in_ok-dir.was) in
-    let on_line : has_line c.in_ok-conn.conn c.in_ok-dir.dir m ≡ true = cc (conn, dir, line) in
-    let is_fit : is_message_fit c.args.at c.in_ok-conn.conn m ≡ true = cc (conn, fit) in
-    let message : c.in_ok-message_of.field-0 ≡ m = cc (c.message_of.ensures.of m on_line is_fit w.name, c.in_ok-message_of.was) in
+    let message : c.in_ok-message_of.field-0 ≡ m = cc (message_found _ _ _ _ _ _ m _ conn dir line fit c.message_of.ensures.of w.name, c.in_ok-message_of.was) in
     λ i. Some (conn i, dir i, message i)

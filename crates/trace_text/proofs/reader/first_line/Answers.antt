@@ -2,19 +2,19 @@ use Rattle.std.proofs.Common.{◌≡◌, ◌≢◌, ◌∙◌, ◌++◌, ◌≤�
 use Rattle.dtx_model.specs.Traces.{Placed}
 use Rattle.dtx_model.specs.TraceText.{is_fit, trace_line}
 use Rattle.line_tail.specs.Cut.{front}
-use Rattle.trace_text.specs.ReadTrace.{line_body}
+use Rattle.trace_text.specs.Forms.{line_words}
 use Rattle.trace_text.proofs.ReadLines.{front_line, line_fits, line_taken}
 use Rattle.trace_text.proofs.ReadPieces.{if_none, same_some, some_apart}
 use Rattle.trace_text.proofs.reader.first_line.Goals as goal
 
 pub returns-in_err-x-clause-none : goal.returns-in_err-x-clause-none
 returns-in_err-x-clause-none c = if_none ((x : Placed) (after : List ℕ) → is_fit x ≡ true → c.args.bytes.now ≢ trace_line c.args.number x ++ after) _ (λ x after f e.
-    let text : c.parts.result.0.now ≡ line_body c.args.number x = c.parts.ensures.front ∙ ap (λ t. front 10 t) e ∙ front_line c.args.number x after in
+    let text : c.parts.result.0.now ≡ line_words c.args.number x = c.parts.ensures.front ∙ ap (λ t. front 10 t) e ∙ front_line c.args.number x after in
     some_apart _ x (c.placed.ensures.of c.args.number x f text) c.in_err-x.was)
 
 pub returns-then-bytes-line-clause-none : goal.returns-then-bytes-line-clause-none
 returns-then-bytes-line-clause-none c = λ x after f e.
-    let text : c.parts.result.0.now ≡ line_body c.args.number x = c.parts.ensures.front ∙ ap (λ t. front 10 t) e ∙ front_line c.args.number x after in
+    let text : c.parts.result.0.now ≡ line_words c.args.number x = c.parts.ensures.front ∙ ap (λ t. front 10 t) e ∙ front_line c.args.number x after in
     let same : c.in_ok-x.x ≡ x = same_some _ x c.in_ok-x.x (c.placed.ensures.of c.args.number x f text) c.in_ok-x.was in
     let printed : c.as_slice-line.result.now ≡ trace_line c.args.number c.in_ok-x.x = search rules in
     let line : c.as_slice-line.result.now ≡ trace_line c.args.number x = printed ∙ ap (λ y. trace_line c.args.number y) same in
@@ -23,7 +23,7 @@ returns-then-bytes-line-clause-none c = λ x after f e.
 
 pub returns-then-ne-clause-none : goal.returns-then-ne-clause-none
 returns-then-ne-clause-none c = λ x after f e.
-    let text : c.parts.result.0.now ≡ line_body c.args.number x = c.parts.ensures.front ∙ ap (λ t. front 10 t) e ∙ front_line c.args.number x after in
+    let text : c.parts.result.0.now ≡ line_words c.args.number x = c.parts.ensures.front ∙ ap (λ t. front 10 t) e ∙ front_line c.args.number x after in
     let same : c.in_ok-x.x ≡ x = same_some _ x c.in_ok-x.x (c.placed.ensures.of c.args.number x f text) c.in_ok-x.was in
     let printed : c.as_slice-line.result.now ≡ trace_line c.args.number c.in_ok-x.x = search rules in
     let line : c.as_slice-line.result.now ≡ trace_line c.args.number x = printed ∙ ap (λ y. trace_line c.args.number y) same in
