@@ -20,7 +20,7 @@ use Rattle.dtx_model.specs.Replies.{due_of, fits, with_note}
 use Rattle.dtx_model.specs.World.{World, half as half_at, gone_unlinked}
 use Rattle.dtx_model.specs.Caused.{IsOwnRun, is_new}
 use Rattle.enlist_table.specs.Waiting.{is_waiting}
-pub use Rattle.dtx_model.specs.Facts.{is_done}
+pub use Rattle.dtx_model.specs.Facts.{is_done, is_waiting_answer}
 
 -- the transaction, and what its local side knows of its calls and its history
 pub record Known : Type 0 where

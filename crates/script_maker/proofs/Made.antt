@@ -7,9 +7,9 @@ use Rattle.dtx_values.specs.declared.words.Vote.TheVariants.{Yes, No}
 use Rattle.dtx_model.specs.Grammar.{Reads}
 use Rattle.script_text.proofs.OneReading.{one_script}
 use Rattle.script_maker.specs.Gen.{begin_line, clone_line, commit_line, enlisted_lines, first_durable_line, first_of, gen, owner_line, par_line, second_durable_line, second_of, up_to, volatile_line, work_lines}
-use Rattle.script_maker.specs.LogLines.{has_log_line}
 use Rattle.script_maker.proofs.Stages.{Stage, stage_more, stage_none}
 use Rattle.script_maker.proofs.Works.{begin_next, clone_next, commit_next, first_durable_next, owner_next, par_next, second_durable_next, volatile_next}
+use Rattle.dtx_model.specs.AtLog.{has_log_line}
 
 -- at most n lines of this text are a script
 abbrev Lines : (t e c : ℕ) (p : Bool) (n : ℕ) → List ℕ → Type 0

@@ -11,8 +11,8 @@ use Rattle.dtx_model.specs.Grammar.{IsScript, is_in_range, is_made, is_of_kind, 
 use Rattle.dtx_model.proofs.Bools.{or_false}
 use Rattle.dtx_model.proofs.Histories.{past_of-snoc}
 use Rattle.script_text.proofs.Scripts.{IsGood, script_more, script_none, script_text-append}
-use Rattle.script_maker.specs.LogLines.{has_log_line, is_log_line}
 use Rattle.script_maker.proofs.Names.{Named, named_more, named_none}
+use Rattle.dtx_model.specs.AtLog.{has_log_line, is_log_line}
 
 -- at most n lines, of this text and none at the log, are a script, and make these names
 pub record Stage (t e c : ℕ) (p : Bool) (n : ℕ) (x : List ℕ) (s : List Line) : Type 0 where

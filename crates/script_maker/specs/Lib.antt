@@ -1,2 +1,1 @@
 pub mod Gen
-pub mod LogLines

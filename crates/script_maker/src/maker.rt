@@ -3,7 +3,7 @@ ghost use Rattle.std.specs.Prelude.{◌≡◌, ◌≤◌, ◌++◌, IfOk, List, 
 ghost use Rattle.dtx_values.specs.declared.script.Line.{Line};
 ghost use Rattle.dtx_model.specs.Grammar.{Reads, script_text};
 ghost use Rattle.script_maker.specs.Gen.{gen, work_lines};
-ghost use Rattle.script_maker.specs.LogLines.{has_log_line};
+ghost use Rattle.dtx_model.specs.AtLog.{has_log_line};
 
 use crate::lines::{
     begin, commit, first_durable, owner, par, rollback_clone, second_durable, volatile,

@@ -8,7 +8,7 @@ use Rattle.std.specs.Prelude.{Result, Ok, Err, IfOk}
 use Rattle.outside.specs.Faults.{Rose}
 use Rattle.dtx_values.specs.declared.script.Line.{Line}
 use Rattle.dtx_values.specs.declared.script.BadCause.{BadCause}
-use Rattle.dtx_model.specs.AtLog.{at_log, is_log_up}
+use Rattle.dtx_model.specs.AtLog.{at_log, has_log_line, is_log_up}
 use Rattle.dtx_model.specs.Faults.{Bad}
 use Rattle.dtx_model.specs.Grammar.{Reads}
 use Rattle.dtx_model.specs.History.{HasOneOutcome, IsComplete}
@@ -26,7 +26,7 @@ use Rattle.tx_world.specs.AtLog.{AreLogs}
 use Rattle.thread_runs.specs.Run.{AreTied, EachHolds}
 use Rattle.tx_cells.specs.LogAnswers.{is_no_log_answer}
 use Rattle.script_runner.specs.Ending.{AreOfTransactions, AreOwnLogs, AreRecorded, EndsAs, HasNone, IsLog, IsLogOf, MayBeRecorded}
-use Rattle.script_runner.specs.LogRun.{AreForeignSame, IsForeignKept, LogGoes, LogStays, MetNoFault, has_log_line}
+use Rattle.script_runner.specs.LogRun.{AreForeignSame, IsForeignKept, LogGoes, LogStays, MetNoFault}
 use Rattle.script_runner.specs.Program.{HasNoLogLine, IsReplayOf}
 use Rattle.script_runner.specs.Run.{IsRunOf}
 use Rattle.script_runner.specs.Waits.{AreWaitsAnswered}

@@ -2,10 +2,9 @@
 use Rattle.std.specs.Prelude.{ℕ, ◌+◌, ◌≡◌, ◌<◌, ◌≤◌, ◌⊎◌, Bool, true, List, [], filter, Option, None, IsTrue}
 use Rattle.std.specs.Option.{option_map}
 use Rattle.dtx_values.specs.declared.number.TxNo.{TxNo}
-use Rattle.dtx_values.specs.declared.script.Line.{Line}
 use Rattle.outside.specs.Faults.{Rose}
 use Rattle.dtx_model.specs.Words.{has}
-use Rattle.dtx_model.specs.AtLog.{armed, at_log, is_log_line, made, stop_right}
+use Rattle.dtx_model.specs.AtLog.{armed, at_log, made, stop_right}
 use Rattle.dtx_model.specs.Log.{CommitRecord, is_record_of}
 use Rattle.dtx_model.specs.Promotes.{identifier_of}
 use Rattle.dtx_model.specs.Traces.{Placed}
@@ -53,6 +52,3 @@ pub record LogStays {D : Type 0} (faults : D → ℕ) (from to : LogState D) : T
 -- the disk met no fault from the one state to the other: its count of faults didn't rise
 abbrev pub MetNoFault : {D : Type 0} → (D → ℕ) → D → D → Type 0
 MetNoFault faults from to = Rose (faults from) (faults to) → ⊥
-
-abbrev pub has_log_line : List Line → Bool
-has_log_line s = has (λ l. is_log_line l.body) s

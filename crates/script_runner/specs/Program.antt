@@ -2,7 +2,7 @@
 use Rattle.std.specs.Prelude.{ℕ, ◌≡◌, ◌⊎◌, Bool, false, List, ◌++◌, Option, Some, IsTrue}
 use Rattle.std.specs.Option.{ForSome}
 use Rattle.dtx_values.specs.declared.script.Line.{Line}
-use Rattle.dtx_model.specs.AtLog.{at_log}
+use Rattle.dtx_model.specs.AtLog.{at_log, has_log_line}
 use Rattle.dtx_model.specs.Grammar.{IsScript, Reads}
 use Rattle.dtx_model.specs.History.{HasOneOutcome, IsComplete}
 use Rattle.dtx_model.specs.Traces.{Placed}
@@ -19,7 +19,6 @@ use Rattle.trace_text.specs.Summary.{summary_text}
 use Rattle.tx_cells.specs.Cell.{IsThreadable}
 use Rattle.tx_cells.specs.LogAnswers.{is_no_log_answer}
 use Rattle.script_runner.specs.Ending.{IsLogOf}
-use Rattle.script_runner.specs.LogRun.{has_log_line}
 use Rattle.script_runner.specs.Run.{IsRunOf}
 use Rattle.script_runner.specs.Transfer.{IsPartWritten}
 use Rattle.script_runner.specs.Waits.{AreWaitsAnswered}

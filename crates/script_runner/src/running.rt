@@ -6,8 +6,9 @@ ghost use Rattle.coordinator_log.specs.declared.layout.TheConstants.{LOG_BYTES};
 ghost use Rattle.dtx_model.specs.Grammar.{IsScript};
 ghost use Rattle.tx_cells.specs.Cell.{IsThreadable};
 ghost use Rattle.script_runner.specs.Ending.{AreOwnLogs, IsLog};
-ghost use Rattle.script_runner.specs.LogRun.{MetNoFault, has_log_line};
+ghost use Rattle.script_runner.specs.LogRun.{MetNoFault};
 ghost use Rattle.script_runner.specs.Refusal.{IsRunBy, IsRunnable};
+ghost use Rattle.dtx_model.specs.AtLog.{has_log_line};
 
 use crate::exit::Exit;
 use crate::formatting::{FormatStop, formatted};

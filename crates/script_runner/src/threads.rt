@@ -1,7 +1,7 @@
 //! A run on threads, and the replay that stands in its place where the run doesn't hold together.
 ghost use Rattle.std.specs.Prelude.{◌≡◌, ◌⊎◌, ◌≤◌, ◌&&◌, ◌^◌, ℕ, [], None, false, length, vec_len, IfErr, IfOk, IsErrOf, IsTrue};
 ghost use Rattle.outside.specs.Faults.{Rose};
-ghost use Rattle.dtx_model.specs.AtLog.{at_log};
+ghost use Rattle.dtx_model.specs.AtLog.{at_log, has_log_line};
 ghost use Rattle.dtx_model.specs.Grammar.{IsScript};
 ghost use Rattle.dtx_model.specs.History.{HasOneOutcome, IsComplete};
 ghost use Rattle.dtx_model.specs.Words.{has, past_of};
@@ -11,7 +11,7 @@ ghost use Rattle.tx_cells.specs.Cell.{IsThreadable};
 ghost use Rattle.tx_cells.specs.LogAnswers.{is_no_log_answer};
 ghost use Rattle.thread_runs.specs.Run.{AreTied, EndsOnThreads, IsRunOnThreads};
 ghost use Rattle.script_runner.specs.Ending.{AreOwnLogs, IsLog};
-ghost use Rattle.script_runner.specs.LogRun.{MetNoFault, has_log_line};
+ghost use Rattle.script_runner.specs.LogRun.{MetNoFault};
 ghost use Rattle.script_runner.specs.Program.{IsReplayOf, IsThreadsOf};
 ghost use Rattle.script_runner.specs.Waits.{AreWaitsAnswered};
 

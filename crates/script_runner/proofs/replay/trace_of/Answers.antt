@@ -2,7 +2,7 @@ use Rattle.std.proofs.Common.{◌≡◌, ℕ, Bool, List, [], None, ap, arith, l
 use Rattle.std.specs.Prelude.{IsTrue}
 use Rattle.dtx_values.specs.declared.entry.Entry.{Entry}
 use Rattle.dtx_values.specs.declared.script.Line.{Line}
-use Rattle.dtx_model.specs.AtLog.{at_log, is_log_up, open_right}
+use Rattle.dtx_model.specs.AtLog.{at_log, has_log_line, is_log_up, open_right}
 use Rattle.dtx_model.specs.Caused.{Settled}
 use Rattle.dtx_model.specs.Grammar.{IsScript}
 use Rattle.dtx_model.specs.Replay.{IsReplayed, LinesRan}
@@ -14,7 +14,7 @@ use Rattle.coordinator_log.specs.Slots.{open_records}
 use Rattle.coordinator_log.specs.State.{LogState}
 use Rattle.scope_context.specs.Standing.{Standing}
 use Rattle.tx_cells.specs.LogAnswers.{is_no_log_answer}
-use Rattle.script_runner.specs.LogRun.{IsCounted, has_log_line}
+use Rattle.script_runner.specs.LogRun.{IsCounted}
 use Rattle.script_runner.specs.RunState.{AreBelow, AreSettledBelow, Holds, IsRoundAt, IsToPlan, RunState, Tells}
 use Rattle.script_calls.specs.Scoped.{AreOpen}
 use Rattle.script_runner.proofs.Going.{goes_then, stays_then}

@@ -1,10 +1,11 @@
 use Rattle.std.proofs.Common.{◌≡◌, ◌≤◌, ◌+◌, false, take}
 use Rattle.dtx_model.specs.Replay.{LinesRan}
 use Rattle.dtx_model.specs.Words.{past_of}
-use Rattle.script_runner.specs.LogRun.{LogGoes, LogStays, has_log_line}
+use Rattle.script_runner.specs.LogRun.{LogGoes, LogStays}
 use Rattle.script_runner.specs.RunState.{AreBelow, RunsOn}
 use Rattle.script_calls.specs.Scoped.{AreOpen}
 use Rattle.script_runner.proofs.replay.Run.lines.Given as goal
+use Rattle.dtx_model.specs.AtLog.{has_log_line}
 
 abbrev pub invariant-loop-l : goal.invariant-loop-l
 invariant-loop-l g l = record {
