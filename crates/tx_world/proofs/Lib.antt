@@ -29,6 +29,7 @@ pub mod Chained
 pub mod Prepared
 pub mod Unlogged
 pub mod Silent
+pub mod Silently
 pub mod Alone
 pub mod Reenlisting
 pub mod Statuses
