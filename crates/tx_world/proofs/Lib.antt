@@ -31,6 +31,7 @@ pub mod Unlogged
 pub mod Silent
 pub mod Silently
 pub mod Alone
+pub mod Far
 pub mod Reenlisting
 pub mod Statuses
 pub mod Sending

@@ -5,7 +5,7 @@ ghost use Rattle.dtx_values.specs.declared.entry.Answer.TheVariants.{Fine};
 ghost use Rattle.dtx_model.specs.Caused.{MayAnswer};
 ghost use Rattle.dtx_model.specs.Steps.{Calls};
 ghost use Rattle.dtx_model.specs.World.{answer_at};
-ghost use Rattle.tx_world.specs.Entering.{is_local, is_lose, is_recovered, is_unlinked};
+ghost use Rattle.tx_world.specs.Entering.{is_local, is_unlinked};
 ghost use Rattle.tx_world.specs.OwnCalls.{DoesAlone};
 ghost use Rattle.tx_world.specs.Sending.{may_promote};
 ghost use Rattle.tx_world.specs.State.{may_enter};
@@ -63,7 +63,7 @@ impl TxWorld {
     }
 
     /// What a `lose` is answered.
-    fn answer_lose(&self, u: TxNo, c: Conn, up: u16, down: u16) -> Answer
+    pub(super) fn answer_lose(&self, u: TxNo, c: Conn, up: u16, down: u16) -> Answer
         ensures { (m : ℕ) → result ≡ answer_at self.now.transaction.value self.now.world (Lose u c up down) m }
     {
         let is_open = self.history.is_open(c);
@@ -72,32 +72,6 @@ impl TxWorld {
         } else {
             Answer::NoSuch
         })
-    }
-
-    /// Enters a `lose`.
-    pub(super) fn enter_lose(
-        &mut self,
-        actor: ActorNo,
-        line: u32,
-        c: &Call,
-        done: u16,
-    ) -> Result<Answer, WorldError>
-        requires enters { may_enter self.old.world line c.now ≡ true }
-        requires kind { is_lose c.now ≡ true }
-        ensures answer { IfOk result (λ a. a ≡ answer_at self.old.transaction.value self.old.world c.now done) }
-        ensures done { OnOk result (DoesAlone (Calls line actor c.now done) self.old self.new) }
-        ensures ours { (self.new.ours ≡ self.old.ours) × (self.new.unsure ≡ self.old.unsure) }
-        ensures memory { OnErr result (self.new ≡ self.old) }
-    {
-        let Call::Lose(u, wire, up, down) = *c else {
-            return Ok(Answer::NoSuch);
-        };
-        let answer = self.answer_lose(u, wire, up, down);
-        if answer == Answer::Fine {
-            self.enter_lost(actor, line, u, wire, up, down)?;
-            return Ok(answer);
-        }
-        self.enter_alone(actor, line, c, done, answer)
     }
 
     /// Enters the loss of an open connection.
@@ -128,37 +102,11 @@ impl TxWorld {
     }
 
     /// What a `recovered` is answered.
-    fn answer_recovered(&self, u: TxNo, r: RmNo) -> Answer
+    pub(super) fn answer_recovered(&self, u: TxNo, r: RmNo) -> Answer
         ensures { (m : ℕ) → result ≡ answer_at self.now.transaction.value self.now.world (Recovered u r) m }
     {
         self.half
             .if_begun(recovery_answer(&self.half, &self.core, &self.history, r))
-    }
-
-    /// Enters a `recovered`.
-    pub(super) fn enter_recovery(
-        &mut self,
-        actor: ActorNo,
-        line: u32,
-        c: &Call,
-        done: u16,
-    ) -> Result<Answer, WorldError>
-        requires enters { may_enter self.old.world line c.now ≡ true }
-        requires kind { is_recovered c.now ≡ true }
-        ensures answer { IfOk result (λ a. a ≡ answer_at self.old.transaction.value self.old.world c.now done) }
-        ensures done { OnOk result (DoesAlone (Calls line actor c.now done) self.old self.new) }
-        ensures ours { (self.new.ours ≡ self.old.ours) × (self.new.unsure ≡ self.old.unsure) }
-        ensures memory { OnErr result (self.new ≡ self.old) }
-    {
-        let Call::Recovered(u, r) = *c else {
-            return Ok(Answer::NoSuch);
-        };
-        let answer = self.answer_recovered(u, r);
-        if answer == Answer::Fine {
-            self.enter_recovered(actor, line, u, r)?;
-            return Ok(answer);
-        }
-        self.enter_alone(actor, line, c, done, answer)
     }
 
     /// Enters that a manager has recovered.
