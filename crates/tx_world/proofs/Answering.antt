@@ -1,6 +1,6 @@
 -- What the log answered to the coordinator's act, and what the coordinator does at it.
 use Rattle.std.proofs.Common.{◌≡◌, ◌⊎◌, ◌∙◌, inl, inr, ℕ, Bool, true, false, List, [], ◌∷◌, refl, sym, ap, subst}
-use Rattle.std.specs.Prelude.{◌||◌, ◌&&◌, ◌≢◌, not, Some, None, Result, Ok, Err, IfErr, IsTrue, IsFalse, if◌then◌else◌}
+use Rattle.std.specs.Prelude.{◌||◌, ◌&&◌, ◌≢◌, ◌↔◌, not, Some, None, Result, Ok, Err, IfErr, IsTrue, IsFalse, if◌then◌else◌}
 use Rattle.outside.specs.Faults.{Rose}
 use Rattle.dtx_values.specs.Outgoing.{Outgoing, written}
 use Rattle.dtx_values.specs.declared.entry.Entry.{Entry}
@@ -104,6 +104,21 @@ acts_now faults t k x out from j y o to n may state put ran down calls cause use
       kept = kept;
     }
 
+-- Nothing was done: the log is as it was.
+same_there : {D : Type 0} (faults : D → ℕ) (k : Coordinated) (id life : ℕ) (from to : LogState D) (a : LogAnswer) → (a ≡ Done → ⊥) → (a ≡ StoppedNow → ⊥)
+    → ((a ≡ StoppedBefore) ↔ (IsFalse from.is_up ⊎ (life ≢ from.life))) → (a ≡ Full → lowest_closed from.slots ≡ 1024) → to ≡ from → Answered faults k id life from to a
+same_there {D} faults k id life from to a undone unbroken before full same =
+    record {
+      now = (λ e. absurd (unbroken e), λ x. absurd (up_and_down from.is_up x.0 (sym (ap (λ (l : LogState D). l.is_up) same) ∙ x.1)));
+      before = before;
+      full = full;
+      smooth = λ n. ap (λ (l : LogState D). faults l.disk) same;
+      cause = λ e. absurd (unbroken e);
+      used = λ e. absurd (unbroken e);
+      counted = λ e. absurd (undone e);
+      unchanged = λ d n. same;
+    }
+
 -- The log was found stopped, or in another life, and is as it was.
 pub acts_before : {D : Type 0} (faults : D → ℕ) (t : ℕ) (k : Coordinated) (x : Kept) (out : Outgoing) (from : LogState D) (j : Coordinated) (y : Kept) (o : Outgoing) (to : LogState D)
     → may_coordinate k StoppedBefore ≡ true → j ≡ follow k Stopped → o ≡ written out (Stopped ∷ []) → (IsFalse from.is_up ⊎ (x.life ≢ from.life)) → to ≡ from → y ≡ x → Acts faults t k x out from j y o to
@@ -113,17 +128,7 @@ acts_before {D} faults t k x out from j y o to may state put refused same kept =
       may = may;
       state = state ∙ one_stop k (coordinates k StoppedBefore) (stop_written_before k (may_log k));
       written = put ∙ ap (written out) (sym (stop_written_before k (may_log k)));
-      answered =
-          record {
-            now = (λ e. absurd cc, λ x. absurd (up_and_down from.is_up x.0 (sym (ap (λ (l : LogState D). l.is_up) same) ∙ x.1)));
-            before = (λ e. refused, λ x. refl);
-            full = λ e. absurd cc;
-            smooth = λ n. ap (λ (l : LogState D). faults l.disk) same;
-            cause = λ e. absurd cc;
-            used = λ e. absurd cc;
-            counted = λ e. absurd cc;
-            unchanged = λ d n. same;
-          };
+      answered = same_there faults k (identifier_of t) x.life from to StoppedBefore (λ e. absurd cc) (λ e. absurd cc) (λ e. refused, λ z. refl) (λ e. absurd cc) same;
       kept = kept;
     }
 
@@ -169,16 +174,8 @@ acts_full {D} faults t k x out from j y o to votes state put up lives closed sam
       state = state ∙ ap (follow_all k) (sym wrote);
       written = put ∙ ap (written out) (sym wrote);
       answered =
-          record {
-            now = (λ e. absurd cc, λ x. absurd (up_and_down from.is_up x.0 (sym (ap (λ (l : LogState D). l.is_up) same) ∙ x.1)));
-            before = (λ e. absurd cc, λ x. elim x [ inl d ↦ absurd (up_and_down from.is_up up d) | inr d ↦ absurd (d lives) ]);
-            full = λ e. closed;
-            smooth = λ n. ap (λ (l : LogState D). faults l.disk) same;
-            cause = λ e. absurd cc;
-            used = λ e. absurd cc;
-            counted = λ e. absurd cc;
-            unchanged = λ d n. same;
-          };
+          same_there faults k (identifier_of t) x.life from to Full (λ e. absurd cc) (λ e. absurd cc)
+          (λ e. absurd cc, λ z. elim z [ inl d ↦ absurd (up_and_down from.is_up up d) | inr d ↦ absurd (d lives) ]) (λ e. closed) same;
       kept = kept;
     }
 
