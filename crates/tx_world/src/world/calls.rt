@@ -12,6 +12,7 @@ ghost use Rattle.tx_world.specs.Stepping.{Does, DoesAt};
 ghost use Rattle.tx_world.specs.Prepared.{NamesPrepared};
 
 use super::TxWorld;
+use super::entering::reserve_call;
 use crate::local_calls::await_answer;
 use crate::names::{is_entered, is_made};
 use crate::refusal::WorldError;
@@ -164,7 +165,7 @@ impl TxWorld {
         ensures ours { (self.new.ours ≡ self.old.ours) × (self.new.unsure ≡ self.old.unsure) }
         ensures memory { OnErr result (self.new ≡ self.old) }
     {
-        self.calls.reserve(1)?;
+        reserve_call(&mut self.calls)?;
         self.history.reserve_for(false)?;
         self.calls.push_reserved(EnteredCall {
             line,

@@ -1,5 +1,5 @@
 //! The calls.
-ghost use Rattle.std.specs.Prelude.{ℕ, ◌≡◌, ◌||◌, not, IfOk, OnOk, OnErr, true};
+ghost use Rattle.std.specs.Prelude.{ℕ, ◌≡◌, ◌<◌, ◌||◌, not, vec_capacity, vec_len, IfOk, OnOk, OnErr, true};
 ghost use Rattle.dtx_values.specs.declared.call.Call.TheVariants.{Lose, Recovered};
 ghost use Rattle.dtx_values.specs.declared.entry.Answer.TheVariants.{Fine};
 ghost use Rattle.dtx_model.specs.Caused.{MayAnswer};
@@ -18,6 +18,21 @@ use crate::refusal::WorldError;
 use crate::writing::{live, write_near};
 use dtx_model::EnteredCall;
 use dtx_values::{ActorNo, Answer, Call, Conn, Entry, Outbox, RmNo, TxNo};
+use std::alloc::AllocError;
+
+/// The least room for calls that is made.
+const FEW_CALLS: usize = 8;
+
+/// Makes room for one call more: by half of what there is, since a run has many transactions of few calls each, and what is never used costs its memory all the same.
+pub(super) fn reserve_call(calls: &mut Vec<EnteredCall>) -> Result<(), AllocError>
+    ensures items { calls.new.items ≡ calls.old.items }
+    ensures room { OnOk result (vec_len calls.new < vec_capacity calls.new) }
+{
+    if calls.len() < calls.capacity() {
+        return Ok(());
+    }
+    calls.reserve_exact(FEW_CALLS.max(calls.len() / 2))
+}
 
 /// Whether the call may send, where this says whether no promotion began: then only where it may begin one.
 fn may_send(c: &Call, unpromoted: bool) -> bool
@@ -49,7 +64,7 @@ impl TxWorld {
     {
         let sends = may_send(c, self.half.is_unpromoted());
         self.history.reserve_for(sends)?;
-        self.calls.reserve(1)?;
+        reserve_call(&mut self.calls)?;
         out.clear();
         let answer = answer_call(&mut self.half, actor, line, c, done, out);
         self.calls.push_reserved(EnteredCall {
@@ -91,7 +106,7 @@ impl TxWorld {
         ensures memory { OnErr result (self.new ≡ self.old) }
     {
         self.history.reserve()?;
-        self.calls.reserve(1)?;
+        reserve_call(&mut self.calls)?;
         let call = Call::Lose(u, c, up, down);
         self.calls.push_reserved(EnteredCall { line, actor, call });
         let block = [Entry::Called(line, actor, Answer::Fine)];
@@ -124,7 +139,7 @@ impl TxWorld {
         ensures memory { OnErr result (self.new ≡ self.old) }
     {
         self.history.reserve()?;
-        self.calls.reserve(1)?;
+        reserve_call(&mut self.calls)?;
         let call = Call::Recovered(u, r);
         self.calls.push_reserved(EnteredCall { line, actor, call });
         let block = [

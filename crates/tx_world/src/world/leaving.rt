@@ -12,6 +12,7 @@ ghost use Rattle.tx_world.specs.OwnCalls.{DoesAlone};
 ghost use Rattle.tx_world.specs.State.{may_enter};
 
 use super::TxWorld;
+use super::entering::reserve_call;
 use crate::refusal::WorldError;
 use dtx_model::EnteredCall;
 use dtx_values::{ActorNo, Answer, Call, Conn, EnlNo, Entry, Outbox, Row};
@@ -77,7 +78,7 @@ impl TxWorld {
             return Err(WorldError::Memory);
         }
         self.history.reserve()?;
-        self.calls.reserve(1)?;
+        reserve_call(&mut self.calls)?;
         out.clear();
         let promotes = is_promotable_row(self.half.rows(), e);
         self.half.gone(e, true, out);

@@ -7,6 +7,7 @@ ghost use Rattle.dtx_model.specs.World.{answer_at};
 ghost use Rattle.tx_world.specs.OwnCalls.{DoesAlone};
 ghost use Rattle.tx_world.specs.State.{may_enter};
 
+use super::entering::reserve_call;
 use super::{TxWorld, identifier};
 use crate::local_calls::write_return;
 use crate::managers::{manager_of, returned};
@@ -45,7 +46,7 @@ impl TxWorld {
         ensures memory { OnErr result (self.new ≡ self.old) }
     {
         self.history.reserve()?;
-        self.calls.reserve(1)?;
+        reserve_call(&mut self.calls)?;
         out.clear();
         write_return(&mut self.half, actor, line, e, out);
         let call = Call::Reenlist(e);

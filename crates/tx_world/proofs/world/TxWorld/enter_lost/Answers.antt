@@ -30,8 +30,8 @@ ready c m =
 calls : (c : After-is_stopped) (m : ℕ)
     → past_of c.push_reserved.new.self.items ≡ entered (Calls c.args.line c.args.actor (Lose c.args.u c.args.c c.args.up c.args.down) m) (past_of c.self.inside.calls.items)
 calls c m =
-    with_call c.self.inside.calls.items c.reserve-2.new.self.items c.push_reserved.new.self.items (record { line = c.args.line; actor = c.args.actor; call = Lose c.args.u c.args.c c.args.up c.args.down })
-    c.push_reserved.ensures.items c.in_ok-reserve-2.ensures.items
+    with_call c.self.inside.calls.items c.reserve_call.new.calls.items c.push_reserved.new.self.items (record { line = c.args.line; actor = c.args.actor; call = Lose c.args.u c.args.c c.args.up c.args.down })
+    c.push_reserved.ensures.items c.in_ok-reserve_call.ensures.items
 
 -- and its entry and the cut come onto the past
 past : (c : After-lose) → c.lose.new.self.past ≡ onto c.self.inside.history.past (Called c.args.line c.args.actor Fine ∷ cut c.self.inside.history.past c.args.c c.args.up c.args.down ∷ [])

@@ -29,8 +29,8 @@ ready c m =
 -- it is the newest
 calls : (c : After-recovery_over) (m : ℕ) → past_of c.push_reserved.new.self.items ≡ entered (Calls c.args.line c.args.actor (Recovered c.args.u c.args.r) m) (past_of c.self.inside.calls.items)
 calls c m =
-    with_call c.self.inside.calls.items c.reserve-2.new.self.items c.push_reserved.new.self.items (record { line = c.args.line; actor = c.args.actor; call = Recovered c.args.u c.args.r }) c.push_reserved.ensures.items
-    c.in_ok-reserve-2.ensures.items
+    with_call c.self.inside.calls.items c.reserve_call.new.calls.items c.push_reserved.new.self.items (record { line = c.args.line; actor = c.args.actor; call = Recovered c.args.u c.args.r }) c.push_reserved.ensures.items
+    c.in_ok-reserve_call.ensures.items
 
 -- and its block comes onto the past
 past : (c : After-write) → c.write.new.self.past ≡ onto c.self.inside.history.past (Called c.args.line c.args.actor Fine ∷ RecoveredEntry c.args.r ∷ [])

@@ -26,8 +26,8 @@ ready c m =
 -- the call is the newest
 calls : (c : After-is_stopped) (m : ℕ) → past_of c.push_reserved.new.self.items ≡ entered (Calls c.args.line c.args.actor (Reenlist c.args.e) m) (past_of c.self.inside.calls.items)
 calls c m =
-    with_call c.self.inside.calls.items c.reserve-2.new.self.items c.push_reserved.new.self.items (record { line = c.args.line; actor = c.args.actor; call = Reenlist c.args.e }) c.push_reserved.ensures.items
-    c.in_ok-reserve-2.ensures.items
+    with_call c.self.inside.calls.items c.reserve_call.new.calls.items c.push_reserved.new.self.items (record { line = c.args.line; actor = c.args.actor; call = Reenlist c.args.e }) c.push_reserved.ensures.items
+    c.in_ok-reserve_call.ensures.items
 
 pub write_return-requires-clause-accepted : goal.write_return-requires-clause-accepted
 write_return-requires-clause-accepted c =

@@ -31,8 +31,8 @@ ready c =
 -- the call is the newest
 calls : (c : After-is_stopped) → past_of c.push_reserved.new.self.items ≡ entered (Calls c.args.line c.args.actor c.args.c.now c.args.done) (past_of c.self.inside.calls.items)
 calls c =
-    with_call c.self.inside.calls.items c.reserve.new.self.items c.push_reserved.new.self.items (record { line = c.args.line; actor = c.args.actor; call = c.args.c.now }) c.push_reserved.ensures.items
-    c.in_ok-reserve.ensures.items
+    with_call c.self.inside.calls.items c.reserve_call.new.calls.items c.push_reserved.new.self.items (record { line = c.args.line; actor = c.args.actor; call = c.args.c.now }) c.push_reserved.ensures.items
+    c.in_ok-reserve_call.ensures.items
 
 -- and its entry comes onto the past
 past : (c : After-is_stopped) → onto c.reserve_for.new.self.past (Called c.args.line c.args.actor c.args.answer ∷ []) ≡ onto c.self.inside.history.past (Called c.args.line c.args.actor c.args.answer ∷ [])
