@@ -2,7 +2,7 @@
 use Rattle.std.proofs.Common.{◌≡◌, ℕ, Bool, true, false, ◌&&◌, ◌||◌, not, List, [], ◌∷◌, ◌++◌, map, refl, ◌∙◌, if◌then◌else◌}
 use Rattle.std.proofs.lemmas.List.Folds.{list_all-append}
 use Rattle.dtx_values.specs.declared.call.Call.{Call}
-use Rattle.dtx_values.specs.declared.call.Call.TheVariants.{Volatile, Durable, Promotable, Clone, Commit, Rollback, Marshal, Tick}
+use Rattle.dtx_values.specs.declared.call.Call.TheVariants.{Volatile, Durable, Promotable, Clone, Commit, Rollback, Marshal, Tick, Reenlist}
 use Rattle.dtx_values.specs.declared.entry.Answer.TheVariants.{Fine, Id, Ended as EndedAnswer}
 use Rattle.dtx_values.specs.declared.entry.Ask.TheVariants.{Prepare}
 use Rattle.dtx_values.specs.declared.entry.Entry.{Entry}
@@ -22,7 +22,7 @@ use Rattle.dtx_model.specs.Words.{each, has}
 use Rattle.dtx_model.specs.Waiting.{Waiter}
 use Rattle.dtx_model.specs.Half.{Half, is_promoting, fails_if, decide}
 use Rattle.dtx_model.proofs.Bools.{and_both}
-use Rattle.dtx_model.specs.Calls.{is_gone_call, is_returning}
+use Rattle.dtx_model.specs.Calls.{is_gone_call}
 
 -- Each entry of a list passes, and how that goes together.
 pub record Each (p : Entry → Bool) (es : List Entry) : Type 0 where
@@ -117,6 +117,10 @@ is_rolling_back _ = false
 abbrev pub is_tick : Call → Bool
 is_tick (Tick u n) = true
 is_tick _ = false
+
+abbrev pub is_returning : Call → Bool
+is_returning (Reenlist e) = true
+is_returning _ = false
 
 -- a promotable answers to promote, and says that it promoted; an owner answers
 abbrev pub is_promise : Reply → Bool

@@ -66,8 +66,3 @@ call_of s _ = None
 abbrev pub is_gone_call : Call → Bool
 is_gone_call (Gone e) = true
 is_gone_call _ = false
-
--- the call says that an enlistment comes back
-abbrev pub is_returning : Call → Bool
-is_returning (Reenlist e) = true
-is_returning _ = false

@@ -30,11 +30,11 @@ use Rattle.dtx_model.specs.Replies.{reply_entries}
 use Rattle.dtx_model.specs.Facts.{facts_if, has_facts}
 use Rattle.dtx_model.specs.World.{World, half, core, cut_upward, facts_at, gone_by, gone_decides, answer_at}
 use Rattle.dtx_model.specs.Steps.{LogAnswer, coordinates, ended_at, restarted, Step, Calls, Replies, Acts, Coordinates, Delivers, Stops, Restarts, block_at, delivered}
-use Rattle.dtx_model.proofs.Writes.{Each, e_one, IsClosed, each_closed, Source, ByCall, ByReply, ByMessage, ByAct, is_tick, is_telling, ticks, loses, returns, tells, sends, writes, is_outcome_message}
+use Rattle.dtx_model.proofs.Writes.{Each, e_one, IsClosed, each_closed, Source, ByCall, ByReply, ByMessage, ByAct, is_tick, is_telling, ticks, loses, returns, tells, sends, writes, is_outcome_message, is_returning}
 use Rattle.dtx_model.proofs.Blocks.{of_core_got, of_core_down, of_coordinates, of_restarted, of_veto, of_unless, of_local_down, of_arrived, of_whole_act, of_reply, of_gone_decides, of_cuts, of_called}
 use Rattle.dtx_model.proofs.Bools.{and_both, and_right, not_both, or_first, or_second}
 use Rattle.dtx_values.specs.Lines.{has_line}
-use Rattle.dtx_model.specs.Calls.{is_gone_call, is_returning}
+use Rattle.dtx_model.specs.Calls.{is_gone_call}
 
 -- the message opens the connection of a reenlistment
 abbrev pub is_reenlist : Message → Bool

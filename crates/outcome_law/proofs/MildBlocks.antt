@@ -27,11 +27,10 @@ use Rattle.dtx_model.specs.Replies.{reply_entries}
 use Rattle.dtx_model.specs.Facts.{facts_if, has_facts, is_late, reaches, ticked}
 use Rattle.dtx_model.specs.World.{World, half, core, facts_at}
 use Rattle.dtx_model.specs.Steps.{ended_at}
-use Rattle.dtx_model.proofs.Writes.{Each, e_cons, e_one, IsClosed, each_closed, Source, ByCall, ByReply, ByMessage, ByAct, is_committing, is_rolling_back, is_tick, is_promise, asks_commit, asks_rollback, ticks, returns, promises, writes, is_outcome_message}
+use Rattle.dtx_model.proofs.Writes.{Each, e_cons, e_one, IsClosed, each_closed, Source, ByCall, ByReply, ByMessage, ByAct, is_committing, is_rolling_back, is_tick, is_promise, asks_commit, asks_rollback, ticks, returns, promises, writes, is_outcome_message, is_returning}
 use Rattle.dtx_model.proofs.Blocks.{of_abort_sends, of_commit_sends, of_core_got, of_core_down, of_veto, of_veto_if, of_local_down, of_arrived, of_whole_act, of_reply, of_called}
 use Rattle.dtx_model.proofs.Bools.{and_both, not_both, or_first, or_second}
 use Rattle.dtx_values.specs.Lines.{has_line}
-use Rattle.dtx_model.specs.Calls.{is_returning}
 
 -- the entry isn't got and no end, no act of the log and no restart; it asks for no commit or rollback, ends no time, is no answer to promote, and nobody comes
 -- back

@@ -27,11 +27,10 @@ use Rattle.dtx_model.specs.Steps.{LogAnswer, coordinates, ended_at, restarted}
 use Rattle.dtx_model.specs.Waiting.{Waiter}
 use Rattle.outcome_law.proofs.Scans.{none_more}
 use Rattle.dtx_model.proofs.Blocks.{of_act as of_kinds, of_core_got, of_core_down, of_coordinates, of_restarted, of_local_down, of_arrived, of_commit_sent, of_reply, of_called}
-use Rattle.dtx_model.proofs.Writes.{Each, e_cons, e_one, IsClosed, each_closed, Source, ByCall, ByReply, ByMessage, ByAct, is_making_promotable, may_begin, is_cloning, promotes, is_promotable_place, enlists, enlists_promotable, opens_begin, clones, returns, sends, writes, is_outcome_message}
+use Rattle.dtx_model.proofs.Writes.{Each, e_cons, e_one, IsClosed, each_closed, Source, ByCall, ByReply, ByMessage, ByAct, is_making_promotable, may_begin, is_cloning, promotes, is_promotable_place, enlists, enlists_promotable, opens_begin, clones, returns, sends, writes, is_outcome_message, is_returning}
 use Rattle.dtx_model.proofs.Bools.{and_right, not_both, not_true, or_first, or_second, or_case}
 use Rattle.dtx_values.specs.Lines.{has_line}
 use Rattle.outcome_law.proofs.Messages.{BEGIN}
-use Rattle.dtx_model.specs.Calls.{is_returning}
 
 -- the entry makes no clone and no promotable, takes none back, asks none to promote or to commit, and sends no BEGIN
 abbrev pub is_tame : Entry → Bool

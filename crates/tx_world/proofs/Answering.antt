@@ -1,20 +1,22 @@
 -- What the log answered to the coordinator's act, and what the coordinator does at it.
 use Rattle.std.proofs.Common.{◌≡◌, ◌⊎◌, ◌∙◌, inl, inr, ℕ, Bool, true, false, List, [], ◌∷◌, refl, sym, ap, subst}
-use Rattle.std.specs.Prelude.{◌||◌, ◌&&◌, ◌≢◌, not, None, Result, Ok, Err, IfErr, IsTrue, IsFalse, if◌then◌else◌}
+use Rattle.std.specs.Prelude.{◌||◌, ◌&&◌, ◌≢◌, ◌↔◌, not, Some, None, Result, Ok, Err, IfErr, IsTrue, IsFalse, if◌then◌else◌}
 use Rattle.outside.specs.Faults.{Rose}
 use Rattle.dtx_values.specs.Outgoing.{Outgoing, written}
 use Rattle.dtx_values.specs.declared.entry.Entry.{Entry}
 use Rattle.dtx_values.specs.declared.entry.Entry.TheVariants.{Freed, LogFull, Logged, Stopped}
 use Rattle.dtx_model.specs.Coordinated.{Coordinated, abort_sends, commit_sends, follow, follow_all, may_free, may_log}
-use Rattle.dtx_model.specs.Log.{first_of}
+use Rattle.dtx_model.specs.Log.{CommitRecord, first_of}
+use Rattle.dtx_model.specs.Promotes.{identifier_of}
 use Rattle.dtx_model.specs.Steps.{LogAnswer, Done, Full, StoppedNow, StoppedBefore, appended, coordinates, freed}
 use Rattle.dtx_model.specs.Caused.{is_full_answer, may_coordinate}
+use Rattle.coordinator_core.specs.Acting.{record_for}
 use Rattle.coordinator_log.specs.Slots.{lowest_closed, open_records}
 use Rattle.coordinator_log.specs.State.{LogState}
 use Rattle.coordinator_log.specs.Stop.{after_calls, stop_in}
 use Rattle.coordinator_log.specs.declared.refusal.LogRefusal.{LogRefusal}
 use Rattle.coordinator_log.specs.declared.refusal.LogRefusal.TheVariants.{Stopped as Refused, StoppedNow as Broken, NoSuch}
-use Rattle.tx_world.specs.AtLog.{Acts, Answered, act_calls}
+use Rattle.tx_world.specs.AtLog.{Acts, Answered, Kept, act_calls, kept_after}
 
 -- an append may be answered in each way, and a free in each but that the log is full
 pub may_append : (k : Coordinated) (a : LogAnswer) → may_log k ≡ true → may_coordinate k a ≡ true
@@ -57,15 +59,32 @@ freeing k m = ap (λ b. if b then 4 else 2) m
 abbrev pub IsCounted : {D : Type 0} → ℕ → LogState D → LogState D → Type 0
 IsCounted n from to = (stop_in n from.armed ≡ None) × (to.armed ≡ after_calls n from.armed)
 
+-- What is kept then: the record that was appended, or that an append was stopped at; and none that was freed, or the one that a free was stopped at.
+pub kept_logged : (t : ℕ) (k : Coordinated) (x : Kept) (r : CommitRecord) → may_log k ≡ true → r ≡ record_for t k → record { ours = Some r; unsure = x.unsure; life = x.life } ≡ kept_after t k Done x
+kept_logged t k x r m is =
+    let ours : Some r ≡ (if may_log k then Some (record_for t k) else None) = ap (λ (q : CommitRecord). Some q) is ∙ sym (ap (λ b. if b then Some (record_for t k) else None) m) in
+    λ i. record { ours = ours i; unsure = x.unsure; life = x.life }
+
+pub kept_tried : (t : ℕ) (k : Coordinated) (x : Kept) (r : CommitRecord) → may_log k ≡ true → r ≡ record_for t k → record { ours = Some r; unsure = true; life = x.life } ≡ kept_after t k StoppedNow x
+kept_tried t k x r m is =
+    let ours : Some r ≡ (if may_log k then Some (record_for t k) else x.ours) = ap (λ (q : CommitRecord). Some q) is ∙ sym (ap (λ b. if b then Some (record_for t k) else x.ours) m) in
+    λ i. record { ours = ours i; unsure = true; life = x.life }
+
+pub kept_freed : (t : ℕ) (k : Coordinated) (x : Kept) → may_log k ≡ false → record { ours = None; unsure = x.unsure; life = x.life } ≡ kept_after t k Done x
+kept_freed t k x m = λ i. record { ours = sym (ap (λ b. if b then Some (record_for t k) else None) m) i; unsure = x.unsure; life = x.life }
+
+pub kept_unfreed : (t : ℕ) (k : Coordinated) (x : Kept) → may_log k ≡ false → record { ours = x.ours; unsure = true; life = x.life } ≡ kept_after t k StoppedNow x
+kept_unfreed t k x m = λ i. record { ours = sym (ap (λ b. if b then Some (record_for t k) else x.ours) m) i; unsure = true; life = x.life }
+
 up_and_down : (b : Bool) → b ≡ true → b ≡ false → ⊥
 up_and_down true t f = absurd cc
 up_and_down false t f = absurd cc
 
 -- The log was stopped by the act.
-pub acts_now : {D : Type 0} (faults : D → ℕ) (k : Coordinated) (id life : ℕ) (out : Outgoing) (from : LogState D) (j : Coordinated) (o : Outgoing) (to : LogState D) (n : ℕ)
-    → may_coordinate k StoppedNow ≡ true → j ≡ follow k Stopped → o ≡ written out (Stopped ∷ []) → ((IsFalse from.is_up ⊎ (life ≢ from.life)) → ⊥) → IsFalse to.is_up → act_calls k ≡ n
-    → (stop_in n from.armed ≡ None → Rose (faults from.disk) (faults to.disk)) → Rose (faults from.disk) (faults to.disk) ⊎ (to.armed ≡ None) → Acts faults k id life out from j o to
-acts_now faults k id life out from j o to n may state put ran down calls cause used =
+pub acts_now : {D : Type 0} (faults : D → ℕ) (t : ℕ) (k : Coordinated) (x : Kept) (out : Outgoing) (from : LogState D) (j : Coordinated) (y : Kept) (o : Outgoing) (to : LogState D) (n : ℕ)
+    → may_coordinate k StoppedNow ≡ true → j ≡ follow k Stopped → o ≡ written out (Stopped ∷ []) → ((IsFalse from.is_up ⊎ (x.life ≢ from.life)) → ⊥) → IsFalse to.is_up → act_calls k ≡ n
+    → (stop_in n from.armed ≡ None → Rose (faults from.disk) (faults to.disk)) → Rose (faults from.disk) (faults to.disk) ⊎ (to.armed ≡ None) → y ≡ kept_after t k StoppedNow x → Acts faults t k x out from j y o to
+acts_now faults t k x out from j y o to n may state put ran down calls cause used kept =
     record {
       answer = StoppedNow;
       may = may;
@@ -82,28 +101,35 @@ acts_now faults k id life out from j o to n may state put ran down calls cause u
             counted = λ e. absurd cc;
             unchanged = λ d n. absurd (n refl);
           };
+      kept = kept;
+    }
+
+-- Nothing was done: the log is as it was.
+same_there : {D : Type 0} (faults : D → ℕ) (k : Coordinated) (id life : ℕ) (from to : LogState D) (a : LogAnswer) → (a ≡ Done → ⊥) → (a ≡ StoppedNow → ⊥)
+    → ((a ≡ StoppedBefore) ↔ (IsFalse from.is_up ⊎ (life ≢ from.life))) → (a ≡ Full → lowest_closed from.slots ≡ 1024) → to ≡ from → Answered faults k id life from to a
+same_there {D} faults k id life from to a undone unbroken before full same =
+    record {
+      now = (λ e. absurd (unbroken e), λ x. absurd (up_and_down from.is_up x.0 (sym (ap (λ (l : LogState D). l.is_up) same) ∙ x.1)));
+      before = before;
+      full = full;
+      smooth = λ n. ap (λ (l : LogState D). faults l.disk) same;
+      cause = λ e. absurd (unbroken e);
+      used = λ e. absurd (unbroken e);
+      counted = λ e. absurd (undone e);
+      unchanged = λ d n. same;
     }
 
 -- The log was found stopped, or in another life, and is as it was.
-pub acts_before : {D : Type 0} (faults : D → ℕ) (k : Coordinated) (id life : ℕ) (out : Outgoing) (from : LogState D) (j : Coordinated) (o : Outgoing) (to : LogState D)
-    → may_coordinate k StoppedBefore ≡ true → j ≡ follow k Stopped → o ≡ written out (Stopped ∷ []) → (IsFalse from.is_up ⊎ (life ≢ from.life)) → to ≡ from → Acts faults k id life out from j o to
-acts_before {D} faults k id life out from j o to may state put refused same =
+pub acts_before : {D : Type 0} (faults : D → ℕ) (t : ℕ) (k : Coordinated) (x : Kept) (out : Outgoing) (from : LogState D) (j : Coordinated) (y : Kept) (o : Outgoing) (to : LogState D)
+    → may_coordinate k StoppedBefore ≡ true → j ≡ follow k Stopped → o ≡ written out (Stopped ∷ []) → (IsFalse from.is_up ⊎ (x.life ≢ from.life)) → to ≡ from → y ≡ x → Acts faults t k x out from j y o to
+acts_before {D} faults t k x out from j y o to may state put refused same kept =
     record {
       answer = StoppedBefore;
       may = may;
       state = state ∙ one_stop k (coordinates k StoppedBefore) (stop_written_before k (may_log k));
       written = put ∙ ap (written out) (sym (stop_written_before k (may_log k)));
-      answered =
-          record {
-            now = (λ e. absurd cc, λ x. absurd (up_and_down from.is_up x.0 (sym (ap (λ (l : LogState D). l.is_up) same) ∙ x.1)));
-            before = (λ e. refused, λ x. refl);
-            full = λ e. absurd cc;
-            smooth = λ n. ap (λ (l : LogState D). faults l.disk) same;
-            cause = λ e. absurd cc;
-            used = λ e. absurd cc;
-            counted = λ e. absurd cc;
-            unchanged = λ d n. same;
-          };
+      answered = same_there faults k (identifier_of t) x.life from to StoppedBefore (λ e. absurd cc) (λ e. absurd cc) (λ e. refused, λ z. refl) (λ e. absurd cc) same;
+      kept = kept;
     }
 
 -- The act was done.
@@ -122,24 +148,25 @@ done_there faults k id life from to ran up smooth counted =
     }
 
 -- The record was appended: its entry is written, and then all are told.
-pub acts_logged : {D : Type 0} (faults : D → ℕ) (k : Coordinated) (id life : ℕ) (out : Outgoing) (from : LogState D) (j : Coordinated) (o : Outgoing) (to : LogState D)
-    → may_log k ≡ true → j ≡ follow_all k (Logged ∷ commit_sends (follow k Logged)) → o ≡ written out (Logged ∷ commit_sends (follow k Logged)) → ((IsFalse from.is_up ⊎ (life ≢ from.life)) → ⊥)
-    → IsTrue to.is_up → faults to.disk ≡ faults from.disk → IsCounted 4 from to → Acts faults k id life out from j o to
-acts_logged faults k id life out from j o to votes state put ran up smooth counted =
+pub acts_logged : {D : Type 0} (faults : D → ℕ) (t : ℕ) (k : Coordinated) (x : Kept) (out : Outgoing) (from : LogState D) (j : Coordinated) (y : Kept) (o : Outgoing) (to : LogState D)
+    → may_log k ≡ true → j ≡ follow_all k (Logged ∷ commit_sends (follow k Logged)) → o ≡ written out (Logged ∷ commit_sends (follow k Logged)) → ((IsFalse from.is_up ⊎ (x.life ≢ from.life)) → ⊥)
+    → IsTrue to.is_up → faults to.disk ≡ faults from.disk → IsCounted 4 from to → y ≡ kept_after t k Done x → Acts faults t k x out from j y o to
+acts_logged faults t k x out from j y o to votes state put ran up smooth counted kept =
     let wrote : coordinates k Done ≡ Logged ∷ commit_sends (follow k Logged) = rw votes refl in
     record {
       answer = Done;
       may = may_append k Done votes;
       state = state ∙ ap (follow_all k) (sym wrote);
       written = put ∙ ap (written out) (sym wrote);
-      answered = done_there faults k id life from to ran up smooth (λ c. subst (λ n. IsCounted n from to) (sym (appending k votes)) counted);
+      answered = done_there faults k (identifier_of t) x.life from to ran up smooth (λ c. subst (λ n. IsCounted n from to) (sym (appending k votes)) counted);
+      kept = kept;
     }
 
 -- No gate is closed: its entry is written, and the coordinator aborts. The log is as it was.
-pub acts_full : {D : Type 0} (faults : D → ℕ) (k : Coordinated) (id life : ℕ) (out : Outgoing) (from : LogState D) (j : Coordinated) (o : Outgoing) (to : LogState D)
-    → may_log k ≡ true → j ≡ follow_all k (LogFull ∷ abort_sends (follow k LogFull)) → o ≡ written out (LogFull ∷ abort_sends (follow k LogFull)) → IsTrue from.is_up → life ≡ from.life
-    → lowest_closed from.slots ≡ 1024 → to ≡ from → Acts faults k id life out from j o to
-acts_full {D} faults k id life out from j o to votes state put up lives closed same =
+pub acts_full : {D : Type 0} (faults : D → ℕ) (t : ℕ) (k : Coordinated) (x : Kept) (out : Outgoing) (from : LogState D) (j : Coordinated) (y : Kept) (o : Outgoing) (to : LogState D)
+    → may_log k ≡ true → j ≡ follow_all k (LogFull ∷ abort_sends (follow k LogFull)) → o ≡ written out (LogFull ∷ abort_sends (follow k LogFull)) → IsTrue from.is_up → x.life ≡ from.life
+    → lowest_closed from.slots ≡ 1024 → to ≡ from → y ≡ x → Acts faults t k x out from j y o to
+acts_full {D} faults t k x out from j y o to votes state put up lives closed same kept =
     let wrote : coordinates k Full ≡ LogFull ∷ abort_sends (follow k LogFull) = rw votes refl in
     record {
       answer = Full;
@@ -147,33 +174,27 @@ acts_full {D} faults k id life out from j o to votes state put up lives closed s
       state = state ∙ ap (follow_all k) (sym wrote);
       written = put ∙ ap (written out) (sym wrote);
       answered =
-          record {
-            now = (λ e. absurd cc, λ x. absurd (up_and_down from.is_up x.0 (sym (ap (λ (l : LogState D). l.is_up) same) ∙ x.1)));
-            before = (λ e. absurd cc, λ x. elim x [ inl d ↦ absurd (up_and_down from.is_up up d) | inr d ↦ absurd (d lives) ]);
-            full = λ e. closed;
-            smooth = λ n. ap (λ (l : LogState D). faults l.disk) same;
-            cause = λ e. absurd cc;
-            used = λ e. absurd cc;
-            counted = λ e. absurd cc;
-            unchanged = λ d n. same;
-          };
+          same_there faults k (identifier_of t) x.life from to Full (λ e. absurd cc) (λ e. absurd cc)
+          (λ e. absurd cc, λ z. elim z [ inl d ↦ absurd (up_and_down from.is_up up d) | inr d ↦ absurd (d lives) ]) (λ e. closed) same;
+      kept = kept;
     }
 
 -- The record was freed: nothing else is written.
-pub acts_freed : {D : Type 0} (faults : D → ℕ) (k : Coordinated) (id life : ℕ) (out : Outgoing) (from : LogState D) (j : Coordinated) (o : Outgoing) (to : LogState D)
-    → may_log k ≡ false → may_free k ≡ true → j ≡ follow k Freed → o ≡ written out (Freed ∷ []) → ((IsFalse from.is_up ⊎ (life ≢ from.life)) → ⊥) → IsTrue to.is_up
-    → faults to.disk ≡ faults from.disk → (first_of id (open_records from.slots) ≢ None → IsCounted 2 from to) → Acts faults k id life out from j o to
+pub acts_freed : {D : Type 0} (faults : D → ℕ) (t : ℕ) (k : Coordinated) (x : Kept) (out : Outgoing) (from : LogState D) (j : Coordinated) (y : Kept) (o : Outgoing) (to : LogState D)
+    → may_log k ≡ false → may_free k ≡ true → j ≡ follow k Freed → o ≡ written out (Freed ∷ []) → ((IsFalse from.is_up ⊎ (x.life ≢ from.life)) → ⊥) → IsTrue to.is_up
+    → faults to.disk ≡ faults from.disk → (first_of (identifier_of t) (open_records from.slots) ≢ None → IsCounted 2 from to) → y ≡ kept_after t k Done x → Acts faults t k x out from j y o to
 unfolding follow_all
-acts_freed faults k id life out from j o to none may state put ran up smooth counted =
+acts_freed faults t k x out from j y o to none may state put ran up smooth counted kept =
     record {
       answer = Done;
       may = may_release k Done may refl;
       state = state ∙ one_free (coordinates k Done) (written_free (may_log k) none);
       written = put ∙ ap (written out) (sym (written_free (may_log k) none));
-      answered = done_there faults k id life from to ran up smooth (λ c. subst (λ n. IsCounted n from to) (sym (freeing k none)) (there c));
+      answered = done_there faults k (identifier_of t) x.life from to ran up smooth (λ c. subst (λ n. IsCounted n from to) (sym (freeing k none)) (there c));
+      kept = kept;
     }
   where
-    there : (may_log k ≡ true) ⊎ (first_of id (open_records from.slots) ≢ None) → IsCounted 2 from to
+    there : (may_log k ≡ true) ⊎ (first_of (identifier_of t) (open_records from.slots) ≢ None) → IsCounted 2 from to
     there (inl m) = absurd (up_and_down (may_log k) m none)
     there (inr f) = counted f
 

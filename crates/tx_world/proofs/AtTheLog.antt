@@ -27,7 +27,7 @@ use Rattle.coordinator_core.proofs.Causes.{active_then, heard_why}
 use Rattle.coordinator_core.specs.Kept.{Kept as CoreKept}
 use Rattle.coordinator_log.specs.State.{LogState}
 use Rattle.tx_world.specs.State.{TxState, sends_begin}
-use Rattle.tx_world.specs.AtLog.{Acts, Answered, IsFit, IsOurs, Keeps, KeepsLog, KeepsSlots, Kept as LogKept, LeavesSlots, Tie}
+use Rattle.tx_world.specs.AtLog.{Acts, Answered, IsFit, IsOurs, Keeps, KeepsLog, KeepsSlots, Kept as LogKept, LeavesSlots, Tie, kept_after}
 use Rattle.world_laws.specs.Carried.{are_sendable}
 use Rattle.world_laws.specs.Course.{is_far, is_written}
 use Rattle.tx_world.specs.Kept.{Kept, Whole, stop_if, stopped_if}
@@ -195,7 +195,7 @@ acted_whole t w h k j a n x acts past same ours tried =
     record { kept = subst P (sym (acted_world t w h k j a n acts past)) acts.kept; ours = subst Q (sym same) ours; tried = tried }
 
 pub acted_does : {D : Type 0} (faults : D → ℕ) (t : TxNo) (w : World) (h : Known) (k j : CoreKept) (n : List Entry) (x y : LogKept) (o p : Outgoing) (from to : LogState D)
-    (acts : Acts faults k.state (identifier_of k.transaction.value) x.life o from j.state p to) → Kept t w h k → Acted t w h k j acts.answer → n ≡ onto w.past (coordinates k.state acts.answer) → y.life ≡ x.life
+    (acts : Acts faults k.transaction.value k.state x o from j.state y p to) → Kept t w h k → Acted t w h k j acts.answer → n ≡ onto w.past (coordinates k.state acts.answer) → y.life ≡ x.life
     → Does faults (Coordinates acts.answer) (seen_as t w x) from (seen_as t (record { calls = w.calls; past = n }) y) to
 acted_does {D} faults t w h k j n x y o p from to acts kept did past lives =
     let m = Coordinates acts.answer in
@@ -204,6 +204,7 @@ acted_does {D} faults t w h k j n x y o p from to acts kept did past lives =
       world = acted_world t w h k j acts.answer n did past ∙ unturned (sends_begin t.value w m) (not from.is_up) did.silent;
       life = lives ∙ unbegun (sends_begin t.value w m) did.silent;
       answered = subst (λ (i : CoreKept). Answered faults i.state (identifier_of i.transaction.value) x.life from to acts.answer) kept.core acts.answered;
+      kept = subst (λ (i : CoreKept). y ≡ kept_after i.transaction.value i.state acts.answer x) kept.core acts.kept;
     }
   where
     unturned : (b u : Bool) → b ≡ false → after t.value w (Coordinates acts.answer)
@@ -217,7 +218,7 @@ acted_does {D} faults t w h k j n x y o p from to acts kept did past lives =
 
 -- as its users see the transaction
 pub acted_so : {D : Type 0} (faults : D → ℕ) (t : TxNo) (w : World) (h : Known) (k j : CoreKept) (n : List Entry) (x y : LogKept) (o p : Outgoing) (old : TxState) (from to : LogState D)
-    (acts : Acts faults k.state (identifier_of k.transaction.value) x.life o from j.state p to) → Kept t w h k → Acted t w h k j acts.answer → n ≡ onto w.past (coordinates k.state acts.answer) → y.life ≡ x.life
+    (acts : Acts faults k.transaction.value k.state x o from j.state y p to) → Kept t w h k → Acted t w h k j acts.answer → n ≡ onto w.past (coordinates k.state acts.answer) → y.life ≡ x.life
     → seen_as t w x ≡ old
     → (a : LogAnswer) × (may_coordinate (core old.world) a ≡ true) × Does faults (Coordinates a) old from (seen_as t (record { calls = w.calls; past = n }) y) to
 acted_so {D} faults t w h k j n x y o p old from to acts kept did past lives was =

@@ -256,7 +256,7 @@ down_ready t w h g k c x o p n xs kept left came local value wrote clear =
       past = past;
       written = near_written xs rest xs_is near;
       sendable = ap are_sendable past ∙ may.sendable;
-      stopped = stopped_is t w h k w.past kept refl ∙ sym (noted_stopped c x w.past) ∙ ap is_stopped (sym (came_past c Down x w.past n came));
+      stopped = stopped_is kept refl ∙ sym (noted_stopped c x w.past) ∙ ap is_stopped (sym (came_past c Down x w.past n came));
       sends = sends;
       runs = λ b. ap (λ (s : Coordinated). s.stopped) (core_is t w h k kept) ∙ may.runs (sym sends ∙ b);
     }

@@ -29,7 +29,9 @@ pub mod Chained
 pub mod Prepared
 pub mod Unlogged
 pub mod Silent
+pub mod Silently
 pub mod Alone
+pub mod Far
 pub mod Reenlisting
 pub mod Statuses
 pub mod Sending

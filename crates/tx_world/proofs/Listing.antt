@@ -175,32 +175,31 @@ act_is_first t w h k kept none some =
     first [] e = absurd (cc)
     first (x ∷ es) e = refl
 
+-- What is at a place up to the coordinator's act.
+core_there : (t : TxNo) (w : World) (h : Known) (k : CoreKept) (i n m : ℕ) (a : At) → Kept t w h k → IsAt (replies_due (plan_of w.calls) h.half) i (Beyond n) → IsAt (local_if (act_entries h.half)) n (Beyond m)
+    → IsAt (core_act k.state) m a → IsAt (replies_due (plan_of w.calls) (half w) ++ local_if (act_entries (half w)) ++ core_act (core w)) i a
+core_there t w h k i n m a kept before between here =
+    let replies = replies_due (plan_of w.calls) (half w) in
+    let act = local_if (act_entries (half w)) in
+    let passed = subst (λ (g : Half). IsAt (replies_due (plan_of w.calls) g) i (Beyond n)) (half_is t w h k kept) before in
+    let more = subst (λ (g : Half). IsAt (local_if (act_entries g)) n (Beyond m)) (half_is t w h k kept) between in
+    let found = subst (λ (x : Coordinated). IsAt (core_act x) m a) (core_is t w h k kept) here in
+    at_later (replies ++ act) (core_act (core w)) i m a (at_later replies act i n (Beyond m) passed more) found
+
 pub at_core : (t : TxNo) (w : World) (h : Known) (k : CoreKept) (i n m : ℕ) (s : PendingStep) → Kept t w h k → IsAt (replies_due (plan_of w.calls) h.half) i (Beyond n) → IsAt (local_if (act_entries h.half)) n (Beyond m)
     → IsAt (core_act k.state) m (StepHere s) → IsAt (pending w) i (StepHere s)
 unfolding pending local_pending
 at_core t w h k i n m s kept before between here =
-    let p = plan_of w.calls in
-    let replies = replies_due p (half w) in
-    let act = local_if (act_entries (half w)) in
-    let passed = subst (λ (g : Half). IsAt (replies_due p g) i (Beyond n)) (half_is t w h k kept) before in
-    let more = subst (λ (g : Half). IsAt (local_if (act_entries g)) n (Beyond m)) (half_is t w h k kept) between in
-    let found = subst (λ (x : Coordinated). IsAt (core_act x) m (StepHere s)) (core_is t w h k kept) here in
-    at_sooner (replies ++ act ++ core_act (core w)) (flat_map (deliveries_on w.past) (half w).seen.ends) i s
-    (at_later (replies ++ act) (core_act (core w)) i m (StepHere s) (at_later replies act i n (Beyond m) passed more) found)
+    at_sooner (replies_due (plan_of w.calls) (half w) ++ local_if (act_entries (half w)) ++ core_act (core w)) (flat_map (deliveries_on w.past) (half w).seen.ends) i s
+    (core_there t w h k i n m (StepHere s) kept before between here)
 
 pub at_delivery : (t : TxNo) (w : World) (h : Known) (k : CoreKept) (i n m l : ℕ) (a : At) → Kept t w h k → IsAt (replies_due (plan_of w.calls) h.half) i (Beyond n) → IsAt (local_if (act_entries h.half)) n (Beyond m)
     → IsAt (core_act k.state) m (Beyond l) → IsAt (flat_map (deliveries_on w.past) h.half.seen.ends) l a → IsAt (pending w) i a
 unfolding pending local_pending
 at_delivery t w h k i n m l a kept before between after_it here =
-    let p = plan_of w.calls in
-    let replies = replies_due p (half w) in
-    let act = local_if (act_entries (half w)) in
-    let passed = subst (λ (g : Half). IsAt (replies_due p g) i (Beyond n)) (half_is t w h k kept) before in
-    let more = subst (λ (g : Half). IsAt (local_if (act_entries g)) n (Beyond m)) (half_is t w h k kept) between in
-    let most = subst (λ (x : Coordinated). IsAt (core_act x) m (Beyond l)) (core_is t w h k kept) after_it in
     let found = subst (λ (g : Half). IsAt (flat_map (deliveries_on w.past) g.seen.ends) l a) (half_is t w h k kept) here in
-    at_later (replies ++ act ++ core_act (core w)) (flat_map (deliveries_on w.past) (half w).seen.ends) i l a
-    (at_later (replies ++ act) (core_act (core w)) i m (Beyond l) (at_later replies act i n (Beyond m) passed more) most) found
+    at_later (replies_due (plan_of w.calls) (half w) ++ local_if (act_entries (half w)) ++ core_act (core w)) (flat_map (deliveries_on w.past) (half w).seen.ends) i l a
+    (core_there t w h k i n m (Beyond l) kept before between after_it) found
 
 -- so many steps are pending at most
 length-deliveries : (h : List Entry) (ns : List End) → length (flat_map (deliveries_on h) ns) ≤ length ns + length ns

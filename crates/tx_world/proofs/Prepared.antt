@@ -72,19 +72,20 @@ call_fails {D} faults c m old from mid new to (Err e) p same =
     subst P (sym same) (prepared_steps faults c m old from mid to p)
 
 -- some steps, by the call that they come before
-pub steps_before : {D A E : Type 0} (faults : D → ℕ) (c d : Call) (k : ℕ) (old : TxState) (from : LogState D) (new : TxState) (to : LogState D) (r : Result A E)
-    → c ≡ d → k ≡ place_of d → OnErr r (SomeSteps faults k old from new to) → OnErr r (SomeSteps faults (place_of c) old from new to)
-steps_before faults c d k old from new to (Ok a) is same s = tt
-steps_before {D} faults c d k old from new to (Err e) is same s =
-    let P : ℕ → Type 0 = λ j. SomeSteps faults j old from new to in
-    subst P (same ∙ ap (λ (x : Call). place_of x) (sym is)) s
+pub steps_before : {D : Type 0} (faults : D → ℕ) (c d : Call) (k : ℕ) (old : TxState) (from : LogState D) (new : TxState) (to : LogState D)
+    → c ≡ d → k ≡ place_of d → SomeSteps faults k old from new to → SomeSteps faults (place_of c) old from new to
+steps_before faults c d k old from new to is same s = subst (λ j. SomeSteps faults j old from new to) (same ∙ ap (λ (x : Call). place_of x) (sym is)) s
+
+-- which so holds where memory ran out in them
+pub where_failed : {A E : Type 0} {P : Type 0} (r : Result A E) → P → OnErr r P
+where_failed (Ok a) p = tt
+where_failed (Err e) p = p
 
 -- What comes before a call of a kind, by that kind.
-pub repeats : {D E : Type 0} (faults : D → ℕ) (c : Call) (t : TxNo) (j k n : ℕ) (old : TxState) (from : LogState D) (new : TxState) (to : LogState D) (r : Result ℕ E)
-    → c ≡ Do t j n → k ≡ j → IfOk r (λ m. Repeats faults k n m old from new to) → IfOk r (λ m. Prepares faults c m old from new to)
-repeats faults c t j k n old from new to (Ok m) is same i =
-    subst (λ (d : Call). Prepares faults d m old from new to) (sym is) (subst (λ i. Repeats faults i n m old from new to) same i)
-repeats faults c t j k n old from new to (Err e) is same i = tt
+pub repeats : {D : Type 0} (faults : D → ℕ) (c : Call) (t : TxNo) (j i k n m : ℕ) (old : TxState) (from : LogState D) (new : TxState) (to : LogState D)
+    → c ≡ Do t j i → k ≡ j → n ≡ i → Repeats faults k n m old from new to → Prepares faults c m old from new to
+repeats faults c t j i k n m old from new to is place times r =
+    subst (λ (d : Call). Prepares faults d m old from new to) (sym is) (subst (λ p. Repeats faults p i m old from new to) place (subst (λ q. Repeats faults k q m old from new to) times r))
 
 pub settles : {D : Type 0} (faults : D → ℕ) (c : Call) (t : TxNo) (count : ℕ) (old : TxState) (from : LogState D) (new : TxState) (to : LogState D)
     → c ≡ Await t → Settles faults count old from new to → Prepares faults c 0 old from new to

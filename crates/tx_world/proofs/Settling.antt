@@ -5,12 +5,12 @@ use Rattle.dtx_values.specs.declared.number.TxNo.{TxNo}
 use Rattle.dtx_model.specs.Promotes.{identifier_of}
 use Rattle.dtx_model.specs.Words.{kth}
 use Rattle.dtx_model.specs.Log.{CommitRecord, log_has}
-use Rattle.dtx_model.specs.Steps.{StepName, pending}
+use Rattle.dtx_model.specs.Steps.{StepName}
 use Rattle.coordinator_log.specs.Slots.{open_records}
 use Rattle.coordinator_log.specs.State.{LogState}
 use Rattle.tx_world.specs.AtLog.{Fits, Keeps, KeepsLog, KeepsSlots, id_of, of_others}
 use Rattle.tx_world.specs.State.{TxState}
-use Rattle.tx_world.specs.Stepping.{DoesKth, Settles, SomeSteps, Stepped}
+use Rattle.tx_world.specs.Stepping.{DoesKth, SomeSteps, Stepped}
 
 -- no first step: none at all
 pub none_pending : (ms : List StepName) → kth ms 1 ≡ None → ms ≡ []
@@ -54,14 +54,6 @@ one_more faults k count old from mid at_it new to before did =
     let P : ℕ → Type 0 = λ n. Stepped faults k n old from new to in
     let more : suc count ≡ count + 1 = omega arith in
     subst P more (mid, at_it, before, did)
-
--- where no first step is left, it is settled
-pub settled_here : {D : Type 0} (faults : D → ℕ) (count : ℕ) (old : TxState) (from : LogState D) (mid : TxState) (at_it : LogState D) (new : TxState) (to : LogState D)
-    → Stepped faults 1 count old from mid at_it → kth (pending mid.world) 1 ≡ None → new ≡ mid → to ≡ at_it → Settles faults count old from new to
-settled_here {D} faults count old from mid at_it new to before none same same_log =
-    let P : TxState → Type 0 = λ x. Settles faults count old from x to in
-    let Q : LogState D → Type 0 = λ l. Settles faults count old from mid l in
-    subst P (sym same) (subst Q (sym same_log) (record { stepped = before; settled = none_pending (pending mid.world) none }))
 
 -- where no more steps are done, some were
 pub stopped_there : {D : Type 0} (faults : D → ℕ) (k count : ℕ) (old : TxState) (from : LogState D) (mid : TxState) (at_it : LogState D) (new : TxState) (to : LogState D)

@@ -20,7 +20,7 @@ use Rattle.coordinator_core.specs.Kept.{Kept as CoreKept}
 use Rattle.tx_world.specs.AtLog.{Kept as LogKept}
 use Rattle.tx_world.specs.Kept.{Kept}
 use Rattle.tx_world.specs.State.{TxState, sends_begin, turned}
-use Rattle.tx_world.specs.Stepping.{Does, DoesAt, IsAnswered}
+use Rattle.tx_world.specs.Stepping.{Does, DoesAt, IsAnswered, IsKeptAfter}
 use Rattle.tx_world.specs.OwnCalls.{DoesAlone, is_do}
 use Rattle.tx_world.proofs.CallsOn.{did_is}
 use Rattle.tx_world.proofs.Living.{seen_as}
@@ -63,16 +63,17 @@ alone_at up life m old new silent d = record {
 
 -- a step that was done where the log is up and lives so was done with that log, where it isn't the coordinator's act
 pub does_at : {D : Type 0} (faults : D → ℕ) (up : Bool) (life : ℕ) (m : Step) (old new : TxState) (log : LogState D) → up ≡ log.is_up → life ≡ log.life → IsAnswered faults old log log m
-    → DoesAt up life m old new → Does faults m old log new log
-does_at faults up life m old new log is lives answered d = record {
+    → IsKeptAfter old new m → DoesAt up life m old new → Does faults m old log new log
+does_at faults up life m old new log is lives answered kept d = record {
   transaction = d.transaction;
   world = d.world ∙ ap (λ b. turned b old.transaction.value old.world m) is;
   life = d.life ∙ ap (λ n. if sends_begin old.transaction.value old.world m then n else old.life) lives;
   answered = answered;
+  kept = kept;
 }
 
-pub does_alone : {D : Type 0} (faults : D → ℕ) (m : Step) (old new : TxState) (log : LogState D) → IsAnswered faults old log log m → DoesAlone m old new → Does faults m old log new log
-does_alone faults m old new log answered d = does_at faults log.is_up log.life m old new log refl refl answered (at_alone log.is_up log.life m old new d)
+pub does_alone : {D : Type 0} (faults : D → ℕ) (m : Step) (old new : TxState) (log : LogState D) → IsAnswered faults old log log m → IsKeptAfter old new m → DoesAlone m old new → Does faults m old log new log
+does_alone faults m old new log answered kept d = does_at faults log.is_up log.life m old new log refl refl answered kept (at_alone log.is_up log.life m old new d)
 
 -- the same of a call's answer
 pub ok_at_alone : {A E : Type 0} (r : Result A E) (up : Bool) (life : ℕ) (m : Step) (old new : TxState) → OnOk r (DoesAlone m old new) → OnOk r (DoesAt up life m old new)
@@ -85,9 +86,9 @@ ok_alone_at (Ok x) up life m old new silent d = alone_at up life m old new silen
 ok_alone_at (Err e) up life m old new silent d = tt
 
 pub ok_does_at : {D A E : Type 0} (faults : D → ℕ) (r : Result A E) (up : Bool) (life : ℕ) (m : Step) (old new : TxState) (log : LogState D) → up ≡ log.is_up → life ≡ log.life
-    → IsAnswered faults old log log m → OnOk r (DoesAt up life m old new) → OnOk r (Does faults m old log new log)
-ok_does_at faults (Ok x) up life m old new log is lives answered d = does_at faults up life m old new log is lives answered d
-ok_does_at faults (Err e) up life m old new log is lives answered d = tt
+    → IsAnswered faults old log log m → IsKeptAfter old new m → OnOk r (DoesAt up life m old new) → OnOk r (Does faults m old log new log)
+ok_does_at faults (Ok x) up life m old new log is lives answered kept d = does_at faults up life m old new log is lives answered kept d
+ok_does_at faults (Err e) up life m old new log is lives answered kept d = tt
 
 -- what a `do` is answered, which has no facts
 pub did_answer : (t : TxNo) (w : World) (h : Known) (k : CoreKept) (c : Call) (m : ℕ) (x : Answer) → Kept t w h k → is_do c ≡ true → x ≡ if_begun h.half.seen.limit (Did m) → x ≡ answer_at t.value w c m

@@ -65,8 +65,8 @@ pub block_sendable : (t : ℕ) (w : World) (m : Step) (h xs : List Entry) → Ma
 block_sendable t w m h xs may past block = ap (λ (g : List Entry). are_sendable (onto g xs)) past ∙ ap (λ ys. are_sendable (onto w.past ys)) block ∙ may.sendable
 
 -- whether the coordinator is stopped
-pub stopped_is : (t : TxNo) (w : World) (g : Known) (k : CoreKept) (h : List Entry) → Kept t w g k → h ≡ w.past → k.state.stopped ≡ is_stopped h
-stopped_is t w g k h kept past = ap (λ (x : Coordinated). x.stopped) (core_is t w g k kept) ∙ stopped_same w.past ∙ ap is_stopped (sym past)
+pub stopped_is : {t : TxNo} {w : World} {g : Known} {k : CoreKept} {h : List Entry} → Kept t w g k → h ≡ w.past → k.state.stopped ≡ is_stopped h
+stopped_is {t} {w} {g} {k} kept past = ap (λ (x : Coordinated). x.stopped) (core_is t w g k kept) ∙ stopped_same w.past ∙ ap is_stopped (sym past)
 
 pub begin_runs : (t : TxNo) (w : World) (m : Step) (g : Known) (k : CoreKept) (xs : List Entry) → Kept t w g k → MayWrite t.value w m → xs ≡ block_at t.value w m → has is_begin_sent xs ≡ true → k.state.stopped ≡ false
 begin_runs t w m g k xs kept may block b = ap (λ (x : Coordinated). x.stopped) (core_is t w g k kept) ∙ may.runs (ap (has is_begin_sent) (sym block) ∙ b)
@@ -118,7 +118,7 @@ ready t w m h g k p xs before same come once kept block near =
       past = past;
       written = near_written xs (block_at t.value w m) block near;
       sendable = ap are_sendable past ∙ may.sendable;
-      stopped = stopped_is t w h k p before same;
+      stopped = stopped_is before same;
       sends = ap (has is_begin_sent) block;
       runs = begin_runs t w m h k xs before may block;
     }

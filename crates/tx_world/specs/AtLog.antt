@@ -1,5 +1,5 @@
 -- What the coordinator of one transaction keeps of the log, and what of the log is another's.
-use Rattle.std.specs.Prelude.{ℕ, ◌≡◌, ◌≢◌, ◌⊎◌, ◌↔◌, ◌≤◌, Bool, true, false, not, List, filter, length, Option, None, is_some, IfOk, IfSome, IsTrue, IsFalse, Ok, if◌then◌else◌}
+use Rattle.std.specs.Prelude.{ℕ, ◌≡◌, ◌≢◌, ◌⊎◌, ◌↔◌, ◌≤◌, Bool, true, false, not, List, filter, length, Option, Some, None, is_some, IfOk, IfSome, IsTrue, IsFalse, Ok, if◌then◌else◌}
 use Rattle.dtx_values.specs.Outgoing.{Outgoing, written as put_out}
 use Rattle.outside.specs.Faults.{Rose}
 use Rattle.dtx_model.specs.Log.{CommitRecord, first_of, is_record_of, log_has}
@@ -7,6 +7,7 @@ use Rattle.dtx_model.specs.Promotes.{identifier_of}
 use Rattle.dtx_model.specs.Coordinated.{Coordinated, follow_all, is_recorded, may_log}
 use Rattle.dtx_model.specs.Steps.{LogAnswer, Done, Full, StoppedNow, StoppedBefore, coordinates}
 use Rattle.dtx_model.specs.Caused.{may_coordinate}
+use Rattle.coordinator_core.specs.Acting.{record_for}
 use Rattle.coordinator_log.specs.Slots.{lowest_closed, open_records}
 use Rattle.coordinator_log.specs.State.{LogState}
 use Rattle.coordinator_log.specs.Stop.{after_calls, stop_in}
@@ -99,6 +100,18 @@ pub record Kept : Type 0 where
   pub unsure : Bool
   pub life : ℕ
 
+-- what a transaction keeps of the log
+abbrev pub kept_of : TxState → Kept
+kept_of x = record { ours = x.ours; unsure = x.unsure; life = x.life }
+
+-- What the coordinator k of transaction t keeps of the log after its act there, by what the log answered: the record that it appended, none once that is freed, and where
+-- the act stopped the log, the record that it tried to append or to free, which may be lost then. It keeps what it kept where the log was full or stopped before: nothing was tried.
+abbrev pub kept_after : ℕ → Coordinated → LogAnswer → Kept → Kept
+kept_after t k Done x = record { ours = (if may_log k then Some (record_for t k) else None); unsure = x.unsure; life = x.life }
+kept_after t k StoppedNow x = record { ours = (if may_log k then Some (record_for t k) else x.ours); unsure = true; life = x.life }
+kept_after t k Full x = x
+kept_after t k StoppedBefore x = x
+
 -- What is kept is what the coordinator knows: while it isn't stopped, there is a record exactly where it was logged and wasn't freed, and nothing is unsure. A record
 -- has the transaction's identifier.
 pub record IsOurs (id : ℕ) (k : Coordinated) (x : Kept) : Type 0 where
@@ -106,10 +119,11 @@ pub record IsOurs (id : ℕ) (k : Coordinated) (x : Kept) : Type 0 where
   pub recorded : k.stopped ≡ false → is_some x.ours ≡ is_recorded k.stage
   pub named : IfSome x.ours (λ r. r.id ≡ id)
 
--- the coordinator of the transaction with this identifier did its act at the log, which answered so
-pub record Acts {D : Type 0} (faults : D → ℕ) (k : Coordinated) (id life : ℕ) (out : Outgoing) (from : LogState D) (after_it : Coordinated) (out_after : Outgoing) (to : LogState D) : Type 0 where
+-- the coordinator k of transaction t, which kept x of the log, did its act there: the log answered so, and then it keeps y
+pub record Acts {D : Type 0} (faults : D → ℕ) (t : ℕ) (k : Coordinated) (x : Kept) (out : Outgoing) (from : LogState D) (after_it : Coordinated) (y : Kept) (out_after : Outgoing) (to : LogState D) : Type 0 where
   pub answer : LogAnswer
   pub may : may_coordinate k answer ≡ true
   pub state : after_it ≡ follow_all k (coordinates k answer)
   pub written : out_after ≡ put_out out (coordinates k answer)
-  pub answered : Answered faults k id life from to answer
+  pub answered : Answered faults k (identifier_of t) x.life from to answer
+  pub kept : y ≡ kept_after t k answer x

@@ -16,6 +16,7 @@ use Rattle.dtx_model.specs.Half.{Half, is_gone, stands}
 use Rattle.dtx_model.specs.Observed.{is_branch}
 use Rattle.dtx_model.specs.Outcome.{is_empty}
 use Rattle.dtx_model.specs.Wires.{is_open_wire}
+use Rattle.local_half.specs.Half.{is_its_own}
 use Rattle.dtx_model.specs.World.{World, cut_upward, gone_unlinked, open_ones, reenlist_facts}
 
 -- the local side answers the call alone, as long as it isn't the loss of an enlistment with an open connection
@@ -25,15 +26,15 @@ is_local (Reenlist e) = false
 is_local (Recovered t r) = false
 is_local _ = true
 
--- the call loses a connection
-abbrev pub is_lose : Call → Bool
-is_lose (Lose t c u w) = true
-is_lose _ = false
-
 -- the call isn't the loss of an enlistment with an open connection
 abbrev pub is_unlinked : World → Call → Bool
 is_unlinked w (Gone e) = is_empty (open_ones w e)
 is_unlinked w c = true
+
+-- the local side answers the call alone: it is one of its own, or the loss of an enlistment with no open connection
+abbrev pub is_near : World → Call → Bool
+is_near w (Gone e) = is_empty (open_ones w e)
+is_near w c = is_its_own c
 
 -- what the local side answers to it alone, and what it writes
 abbrev pub half_answer : ℕ → Half → Call → ℕ → Answer
@@ -66,8 +67,3 @@ links_cut past begin e = cut_if past begin Begin ++ (cut_if past true (Enl e) ++
 -- as many entries as a cut can count, or fewer: no more messages than entries are on the way
 abbrev pub is_countable : List Entry → Bool
 is_countable past = nat_le (length past) 4294967295
-
--- the call says that a manager has recovered
-abbrev pub is_recovered : Call → Bool
-is_recovered (Recovered t r) = true
-is_recovered _ = false

@@ -11,7 +11,7 @@ use Rattle.dtx_model.specs.Steps.{Step, Replies, Coordinates, StepName, ReplyOf,
 use Rattle.dtx_model.specs.Caused.{IsNamed}
 use Rattle.coordinator_log.specs.State.{LogState}
 use Rattle.tx_world.specs.State.{TxState, life_after, turned}
-use Rattle.tx_world.specs.AtLog.{Answered, id_of}
+use Rattle.tx_world.specs.AtLog.{Answered, id_of, kept_after, kept_of}
 
 -- the enlistment and the note of a pending step that is a reply
 abbrev pub reply_in : World → Option StepName → Option (EnlNo × Note)
@@ -41,6 +41,11 @@ abbrev pub IsAnswered : {D : Type 0} → (D → ℕ) → TxState → LogState D 
 IsAnswered faults old from to (Coordinates a) = Answered faults (core old.world) (id_of old) old.life from to a
 IsAnswered faults old from to m = to ≡ from
 
+-- what is kept of the log after a step: the coordinator's act makes it anew, by what the log answered, and no other step changes the record, or how sure it is
+abbrev pub IsKeptAfter : TxState → TxState → Step → Type 0
+IsKeptAfter old new (Coordinates a) = kept_of new ≡ kept_after old.transaction.value (core old.world) a (kept_of old)
+IsKeptAfter old new m = (new.ours ≡ old.ours) × (new.unsure ≡ old.unsure)
+
 -- This step was done, where this says whether the log is up, and in which life.
 pub record DoesAt (up : Bool) (log_life : ℕ) (m : Step) (old new : TxState) : Type 0 where
   pub transaction : new.transaction ≡ old.transaction
@@ -53,6 +58,7 @@ pub record Does {D : Type 0} (faults : D → ℕ) (m : Step) (old : TxState) (fr
   pub world : new.world ≡ turned from.is_up old.transaction.value old.world m
   pub life : new.life ≡ life_after from.life old.transaction.value old.world m old.life
   pub answered : IsAnswered faults old from to m
+  pub kept : IsKeptAfter old new m
 
 -- the k-th pending step was done; a reply is the planned one
 pub record DoesKth {D : Type 0} (faults : D → ℕ) (k : ℕ) (old : TxState) (from : LogState D) (new : TxState) (to : LogState D) : Type 0 where

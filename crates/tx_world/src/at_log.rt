@@ -118,7 +118,7 @@ impl AtLog {
         requires fits { IsTrue D.honest → IsTrue log.old.is_up → IsFit (identifier_of core.old.transaction.value) self.old.ours self.old.unsure (open_records log.old.slots) }
         requires room { HasRoomFor 41 out.old }
         ensures transaction { core.new.transaction ≡ core.old.transaction }
-        ensures acts { Acts D.faults core.old.state (identifier_of core.old.transaction.value) self.old.life out.old log.old core.new.state out.new log.new }
+        ensures acts { Acts D.faults core.old.transaction.value core.old.state self.old out.old log.old core.new.state self.new out.new log.new }
         ensures ours { IsOurs (identifier_of core.old.transaction.value) core.new.state self.new }
         ensures life { (self.new.life ≡ self.old.life) × (log.new.life ≡ log.old.life) }
         ensures kept { IsTrue D.honest → Keeps D.image (identifier_of core.old.transaction.value) (IsFit (identifier_of core.old.transaction.value) self.old.ours self.old.unsure)
@@ -179,7 +179,7 @@ impl AtLog {
         requires fits { IsTrue D.honest → IsTrue log.old.is_up → IsFit (identifier_of core.old.transaction.value) self.old.ours self.old.unsure (open_records log.old.slots) }
         requires room { HasRoomFor 41 out.old }
         ensures transaction { core.new.transaction ≡ core.old.transaction }
-        ensures acts { Acts D.faults core.old.state (identifier_of core.old.transaction.value) self.old.life out.old log.old core.new.state out.new log.new }
+        ensures acts { Acts D.faults core.old.transaction.value core.old.state self.old out.old log.old core.new.state self.new out.new log.new }
         ensures ours { IsOurs (identifier_of core.old.transaction.value) core.new.state self.new }
         ensures life { (self.new.life ≡ self.old.life) × (log.new.life ≡ log.old.life) }
         ensures kept { IsTrue D.honest → Keeps D.image (identifier_of core.old.transaction.value) (IsFit (identifier_of core.old.transaction.value) self.old.ours self.old.unsure)
@@ -217,7 +217,7 @@ impl AtLog {
         requires fits { IsTrue D.honest → IsTrue log.old.is_up → IsFit (identifier_of core.old.transaction.value) self.old.ours self.old.unsure (open_records log.old.slots) }
         requires room { HasRoomFor 41 out.old }
         ensures transaction { core.new.transaction ≡ core.old.transaction }
-        ensures acts { Acts D.faults core.old.state (identifier_of core.old.transaction.value) self.old.life out.old log.old core.new.state out.new log.new }
+        ensures acts { Acts D.faults core.old.transaction.value core.old.state self.old out.old log.old core.new.state self.new out.new log.new }
         ensures ours { IsOurs (identifier_of core.old.transaction.value) core.new.state self.new }
         ensures life { (self.new.life ≡ self.old.life) × (log.new.life ≡ log.old.life) }
         ensures kept { IsTrue D.honest → Keeps D.image (identifier_of core.old.transaction.value) (IsFit (identifier_of core.old.transaction.value) self.old.ours self.old.unsure)

@@ -64,6 +64,7 @@ impl Connections {
         ensures taken { IsErrOf result (SessionRefusal.Taken c) ↔ (is_taken (wire_of c self.old.wires) ≡ true) }
         ensures memory { IsErrOf result SessionRefusal.Memory → self.old.start_room ≡ 0 }
         ensures only { IfErr result (λ e. (e ≡ SessionRefusal.Taken c) ⊎ (e ≡ SessionRefusal.Memory)) }
+        ensures unchanged { OnErr result (self.new.wires ≡ self.old.wires) }
         ensures start_room { self.old.start_room ≤ self.new.start_room + 1 }
         ensures send_room { self.old.send_room ≤ self.new.send_room }
         ensures carries { OnOk result ((h : List Entry) → Carries self.old.wires h → IsStarted c self.new.wires h) }
@@ -79,6 +80,7 @@ impl Connections {
         ensures taken { IsErrOf result (SessionRefusal.Taken c) ↔ (is_taken (wire_of c self.old.wires) ≡ true) }
         ensures memory { IsErrOf result SessionRefusal.Memory → self.old.start_room ≡ 0 }
         ensures only { IfErr result (λ e. (e ≡ SessionRefusal.Taken c) ⊎ (e ≡ SessionRefusal.Memory)) }
+        ensures unchanged { OnErr result (self.new.wires ≡ self.old.wires) }
         ensures start_room { self.old.start_room ≤ self.new.start_room + 1 }
         ensures send_room { self.old.send_room ≤ self.new.send_room }
         ensures carries { OnOk result ((h : List Entry) → Carries self.old.wires h → IsStartedLost c self.new.wires h) }

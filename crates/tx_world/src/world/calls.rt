@@ -1,15 +1,18 @@
 //! The calls that a world is given.
 ghost use Rattle.std.specs.Prelude.{◌≡◌, ◌&&◌, not, IfOk, OnOk, OnErr, true, false};
+ghost use Rattle.dtx_values.specs.declared.entry.Answer.TheVariants.{Fine};
 ghost use Rattle.dtx_model.specs.Facts.{has_facts};
 ghost use Rattle.dtx_model.specs.World.{answer_at};
 ghost use Rattle.dtx_model.specs.Steps.{Calls};
 ghost use Rattle.dtx_model.specs.Caused.{MayAnswer};
+ghost use Rattle.tx_world.specs.Entering.{is_near};
 ghost use Rattle.tx_world.specs.State.{is_linking, may_enter};
 ghost use Rattle.tx_world.specs.OwnCalls.{DoesAlone};
 ghost use Rattle.tx_world.specs.Stepping.{Does, DoesAt};
 ghost use Rattle.tx_world.specs.Prepared.{NamesPrepared};
 
 use super::TxWorld;
+use super::entering::reserve_call;
 use crate::local_calls::await_answer;
 use crate::names::{is_entered, is_made};
 use crate::refusal::WorldError;
@@ -81,67 +84,68 @@ impl TxWorld {
         ensures ours { (self.new.ours ≡ self.old.ours) × (self.new.unsure ≡ self.old.unsure) }
         ensures memory { OnErr result (self.new ≡ self.old) }
     {
-        if LocalHalf::is_its_own(c) {
+        if self.is_near(c) {
             return self.enter_local(up, life, out, actor, line, c, done);
         }
+        let answer = self.answer_far(c, done);
+        if answer == Answer::Fine {
+            self.enter_far(out, actor, line, c, done)?;
+            return Ok(answer);
+        }
+        self.write_alone(actor, line, c, done, answer)?;
+        Ok(answer)
+    }
+
+    /// Whether the local side answers the call alone: it is one of its own, or the loss of an enlistment with no open connection.
+    fn is_near(&self, c: &Call) -> bool
+        ensures { result ≡ is_near self.now.world c.now }
+    {
         match *c {
-            Call::Await(_) => {
-                let answer = self.half.if_begun(await_answer(self.half.told_client()));
-                self.enter_alone(actor, line, c, done, answer)
-            }
-            Call::Do(_, _, _) => {
-                let answer = self.half.if_begun(Answer::Did(done));
-                self.enter_alone(actor, line, c, done, answer)
-            }
-            _ => self.enter_linked(out, actor, line, c, done),
+            Call::Gone(e) => !self.has_open(e),
+            _ => LocalHalf::is_its_own(c),
         }
     }
 
-    /// Enters the loss of a connection, that of an enlistment, that one comes back, or that a manager has recovered.
-    fn enter_linked(
+    /// What a call is answered that the local side doesn't answer alone, for which so many steps were done.
+    fn answer_far(&self, c: &Call, done: u16) -> Answer
+        requires far { is_near self.now.world c.now ≡ false }
+        ensures { result ≡ answer_at self.now.transaction.value self.now.world c.now done }
+    {
+        match *c {
+            Call::Await(_) => self.half.if_begun(await_answer(self.half.told_client())),
+            Call::Do(_, _, _) => self.half.if_begun(Answer::Did(done)),
+            Call::Lose(u, wire, up, down) => self.answer_lose(u, wire, up, down),
+            Call::Gone(e) => self.answer_gone(e),
+            Call::Reenlist(e) => self.answer_reenlist(e),
+            Call::Recovered(u, r) => self.answer_recovered(u, r),
+            _ => unreachable!(),
+        }
+    }
+
+    /// Enters a call that the local side doesn't answer alone, and that is answered ok: a loss, that an enlistment comes back, or that a manager has recovered.
+    fn enter_far(
         &mut self,
         out: &mut Outbox,
         actor: ActorNo,
         line: u32,
         c: &Call,
         done: u16,
-    ) -> Result<Answer, WorldError>
+    ) -> Result<(), WorldError>
         requires enters { may_enter self.old.world line c.now ≡ true }
-        requires answers { MayAnswer self.old.transaction.value self.old.world c.now done }
         requires kind { is_linking c.now ≡ true }
-        ensures answer { IfOk result (λ a. a ≡ answer_at self.old.transaction.value self.old.world c.now done) }
+        requires far { is_near self.old.world c.now ≡ false }
+        requires fine { answer_at self.old.transaction.value self.old.world c.now done ≡ Fine }
         ensures done { OnOk result (DoesAlone (Calls line actor c.now done) self.old self.new) }
         ensures ours { (self.new.ours ≡ self.old.ours) × (self.new.unsure ≡ self.old.unsure) }
         ensures memory { OnErr result (self.new ≡ self.old) }
     {
-        match c {
-            Call::Lose(_, _, _, _) => self.enter_lose(actor, line, c, done),
-            Call::Gone(_) => self.enter_gone(out, actor, line, c, done),
-            Call::Reenlist(_) => self.enter_return(out, actor, line, c, done),
-            _ => self.enter_recovery(actor, line, c, done),
+        match *c {
+            Call::Lose(u, wire, up, down) => self.enter_lost(actor, line, u, wire, up, down),
+            Call::Gone(e) => self.enter_cut(out, actor, line, e),
+            Call::Reenlist(e) => self.enter_returned(out, actor, line, e),
+            Call::Recovered(u, r) => self.enter_recovered(actor, line, u, r),
+            _ => unreachable!(),
         }
-    }
-
-    /// Enters a call that writes its entry alone, with this answer.
-    pub(super) fn enter_alone(
-        &mut self,
-        actor: ActorNo,
-        line: u32,
-        c: &Call,
-        done: u16,
-        answer: Answer,
-    ) -> Result<Answer, WorldError>
-        requires enters { may_enter self.old.world line c.now ≡ true }
-        requires answers { MayAnswer self.old.transaction.value self.old.world c.now done }
-        requires answer { answer ≡ answer_at self.old.transaction.value self.old.world c.now done }
-        requires alone { has_facts answer ≡ false }
-        ensures answer { IfOk result (λ a. a ≡ answer) }
-        ensures done { OnOk result (DoesAlone (Calls line actor c.now done) self.old self.new) }
-        ensures ours { (self.new.ours ≡ self.old.ours) × (self.new.unsure ≡ self.old.unsure) }
-        ensures memory { OnErr result (self.new ≡ self.old) }
-    {
-        self.write_alone(actor, line, c, done, answer)?;
-        Ok(answer)
     }
 
     /// Writes the entry of a call that writes its entry alone, with this answer.
@@ -161,7 +165,7 @@ impl TxWorld {
         ensures ours { (self.new.ours ≡ self.old.ours) × (self.new.unsure ≡ self.old.unsure) }
         ensures memory { OnErr result (self.new ≡ self.old) }
     {
-        self.calls.reserve(1)?;
+        reserve_call(&mut self.calls)?;
         self.history.reserve_for(false)?;
         self.calls.push_reserved(EnteredCall {
             line,

@@ -1,11 +1,11 @@
 //! The calls.
-ghost use Rattle.std.specs.Prelude.{ℕ, ◌≡◌, ◌||◌, not, IfOk, OnOk, OnErr, true};
+ghost use Rattle.std.specs.Prelude.{ℕ, ◌≡◌, ◌<◌, ◌||◌, not, vec_capacity, vec_len, IfOk, OnOk, OnErr, true};
 ghost use Rattle.dtx_values.specs.declared.call.Call.TheVariants.{Lose, Recovered};
 ghost use Rattle.dtx_values.specs.declared.entry.Answer.TheVariants.{Fine};
 ghost use Rattle.dtx_model.specs.Caused.{MayAnswer};
 ghost use Rattle.dtx_model.specs.Steps.{Calls};
 ghost use Rattle.dtx_model.specs.World.{answer_at};
-ghost use Rattle.tx_world.specs.Entering.{is_local, is_lose, is_recovered, is_unlinked};
+ghost use Rattle.tx_world.specs.Entering.{is_local, is_unlinked};
 ghost use Rattle.tx_world.specs.OwnCalls.{DoesAlone};
 ghost use Rattle.tx_world.specs.Sending.{may_promote};
 ghost use Rattle.tx_world.specs.State.{may_enter};
@@ -18,6 +18,21 @@ use crate::refusal::WorldError;
 use crate::writing::{live, write_near};
 use dtx_model::EnteredCall;
 use dtx_values::{ActorNo, Answer, Call, Conn, Entry, Outbox, RmNo, TxNo};
+use std::alloc::AllocError;
+
+/// The least room for calls that is made.
+const FEW_CALLS: usize = 8;
+
+/// Makes room for one call more: by half of what there is, since a run has many transactions of few calls each, and what is never used costs its memory all the same.
+pub(super) fn reserve_call(calls: &mut Vec<EnteredCall>) -> Result<(), AllocError>
+    ensures items { calls.new.items ≡ calls.old.items }
+    ensures room { OnOk result (vec_len calls.new < vec_capacity calls.new) }
+{
+    if calls.len() < calls.capacity() {
+        return Ok(());
+    }
+    calls.reserve_exact(FEW_CALLS.max(calls.len() / 2))
+}
 
 /// Whether the call may send, where this says whether no promotion began: then only where it may begin one.
 fn may_send(c: &Call, unpromoted: bool) -> bool
@@ -49,7 +64,7 @@ impl TxWorld {
     {
         let sends = may_send(c, self.half.is_unpromoted());
         self.history.reserve_for(sends)?;
-        self.calls.reserve(1)?;
+        reserve_call(&mut self.calls)?;
         out.clear();
         let answer = answer_call(&mut self.half, actor, line, c, done, out);
         self.calls.push_reserved(EnteredCall {
@@ -63,7 +78,7 @@ impl TxWorld {
     }
 
     /// What a `lose` is answered.
-    fn answer_lose(&self, u: TxNo, c: Conn, up: u16, down: u16) -> Answer
+    pub(super) fn answer_lose(&self, u: TxNo, c: Conn, up: u16, down: u16) -> Answer
         ensures { (m : ℕ) → result ≡ answer_at self.now.transaction.value self.now.world (Lose u c up down) m }
     {
         let is_open = self.history.is_open(c);
@@ -72,32 +87,6 @@ impl TxWorld {
         } else {
             Answer::NoSuch
         })
-    }
-
-    /// Enters a `lose`.
-    pub(super) fn enter_lose(
-        &mut self,
-        actor: ActorNo,
-        line: u32,
-        c: &Call,
-        done: u16,
-    ) -> Result<Answer, WorldError>
-        requires enters { may_enter self.old.world line c.now ≡ true }
-        requires kind { is_lose c.now ≡ true }
-        ensures answer { IfOk result (λ a. a ≡ answer_at self.old.transaction.value self.old.world c.now done) }
-        ensures done { OnOk result (DoesAlone (Calls line actor c.now done) self.old self.new) }
-        ensures ours { (self.new.ours ≡ self.old.ours) × (self.new.unsure ≡ self.old.unsure) }
-        ensures memory { OnErr result (self.new ≡ self.old) }
-    {
-        let Call::Lose(u, wire, up, down) = *c else {
-            return Ok(Answer::NoSuch);
-        };
-        let answer = self.answer_lose(u, wire, up, down);
-        if answer == Answer::Fine {
-            self.enter_lost(actor, line, u, wire, up, down)?;
-            return Ok(answer);
-        }
-        self.enter_alone(actor, line, c, done, answer)
     }
 
     /// Enters the loss of an open connection.
@@ -117,7 +106,7 @@ impl TxWorld {
         ensures memory { OnErr result (self.new ≡ self.old) }
     {
         self.history.reserve()?;
-        self.calls.reserve(1)?;
+        reserve_call(&mut self.calls)?;
         let call = Call::Lose(u, c, up, down);
         self.calls.push_reserved(EnteredCall { line, actor, call });
         let block = [Entry::Called(line, actor, Answer::Fine)];
@@ -128,37 +117,11 @@ impl TxWorld {
     }
 
     /// What a `recovered` is answered.
-    fn answer_recovered(&self, u: TxNo, r: RmNo) -> Answer
+    pub(super) fn answer_recovered(&self, u: TxNo, r: RmNo) -> Answer
         ensures { (m : ℕ) → result ≡ answer_at self.now.transaction.value self.now.world (Recovered u r) m }
     {
         self.half
             .if_begun(recovery_answer(&self.half, &self.core, &self.history, r))
-    }
-
-    /// Enters a `recovered`.
-    pub(super) fn enter_recovery(
-        &mut self,
-        actor: ActorNo,
-        line: u32,
-        c: &Call,
-        done: u16,
-    ) -> Result<Answer, WorldError>
-        requires enters { may_enter self.old.world line c.now ≡ true }
-        requires kind { is_recovered c.now ≡ true }
-        ensures answer { IfOk result (λ a. a ≡ answer_at self.old.transaction.value self.old.world c.now done) }
-        ensures done { OnOk result (DoesAlone (Calls line actor c.now done) self.old self.new) }
-        ensures ours { (self.new.ours ≡ self.old.ours) × (self.new.unsure ≡ self.old.unsure) }
-        ensures memory { OnErr result (self.new ≡ self.old) }
-    {
-        let Call::Recovered(u, r) = *c else {
-            return Ok(Answer::NoSuch);
-        };
-        let answer = self.answer_recovered(u, r);
-        if answer == Answer::Fine {
-            self.enter_recovered(actor, line, u, r)?;
-            return Ok(answer);
-        }
-        self.enter_alone(actor, line, c, done, answer)
     }
 
     /// Enters that a manager has recovered.
@@ -176,7 +139,7 @@ impl TxWorld {
         ensures memory { OnErr result (self.new ≡ self.old) }
     {
         self.history.reserve()?;
-        self.calls.reserve(1)?;
+        reserve_call(&mut self.calls)?;
         let call = Call::Recovered(u, r);
         self.calls.push_reserved(EnteredCall { line, actor, call });
         let block = [

@@ -1,19 +1,18 @@
 //! The losses of enlistments.
-ghost use Rattle.std.specs.Prelude.{ℕ, ◌≡◌, ◌&&◌, ◌||◌, not, IfOk, OnOk, OnErr, true, false};
+ghost use Rattle.std.specs.Prelude.{ℕ, ◌≡◌, ◌&&◌, ◌||◌, not, OnOk, OnErr, true, false};
 ghost use Rattle.dtx_values.specs.declared.call.Call.TheVariants.{Gone};
 ghost use Rattle.dtx_values.specs.declared.entry.Answer.TheVariants.{Fine};
 ghost use Rattle.dtx_values.specs.Class.{is_promotable};
 ghost use Rattle.dtx_values.specs.Row.{is_of};
-ghost use Rattle.dtx_model.specs.Caused.{MayAnswer};
 ghost use Rattle.dtx_model.specs.Outcome.{is_empty};
 ghost use Rattle.dtx_model.specs.Steps.{Calls};
 ghost use Rattle.dtx_model.specs.Words.{has};
 ghost use Rattle.dtx_model.specs.World.{answer_at, open_ones};
-ghost use Rattle.dtx_model.specs.Calls.{is_gone_call};
 ghost use Rattle.tx_world.specs.OwnCalls.{DoesAlone};
 ghost use Rattle.tx_world.specs.State.{may_enter};
 
 use super::TxWorld;
+use super::entering::reserve_call;
 use crate::refusal::WorldError;
 use dtx_model::EnteredCall;
 use dtx_values::{ActorNo, Answer, Call, Conn, EnlNo, Entry, Outbox, Row};
@@ -41,7 +40,7 @@ fn is_any_open(promotes: bool, begin: bool, own: bool, again: bool) -> bool
 
 impl TxWorld {
     /// Whether one of the enlistment's connections is open.
-    fn has_open(&self, e: EnlNo) -> bool
+    pub(super) fn has_open(&self, e: EnlNo) -> bool
         ensures { result ≡ not (is_empty (open_ones self.now.world e)) }
     {
         is_any_open(
@@ -53,46 +52,15 @@ impl TxWorld {
     }
 
     /// What a `gone` is answered.
-    fn answer_gone(&self, e: EnlNo) -> Answer
+    pub(super) fn answer_gone(&self, e: EnlNo) -> Answer
         ensures { (m : ℕ) → result ≡ answer_at self.now.transaction.value self.now.world (Gone e) m }
     {
         self.half.if_begun(self.half.gone_answer(e))
     }
 
-    /// Enters a `gone`.
-    pub(super) fn enter_gone(
-        &mut self,
-        out: &mut Outbox,
-        actor: ActorNo,
-        line: u32,
-        c: &Call,
-        done: u16,
-    ) -> Result<Answer, WorldError>
-        requires enters { may_enter self.old.world line c.now ≡ true }
-        requires kind { is_gone_call c.now ≡ true }
-        ensures answer { IfOk result (λ a. a ≡ answer_at self.old.transaction.value self.old.world c.now done) }
-        ensures done { OnOk result (DoesAlone (Calls line actor c.now done) self.old self.new) }
-        ensures ours { (self.new.ours ≡ self.old.ours) × (self.new.unsure ≡ self.old.unsure) }
-        ensures memory { OnErr result (self.new ≡ self.old) }
-    {
-        let Call::Gone(e) = *c else {
-            return Ok(Answer::NoSuch);
-        };
-        if !self.has_open(e) {
-            // It sends no BEGIN, so it doesn't matter what is said of the log.
-            return self.enter_local(true, 0, out, actor, line, c, done);
-        }
-        let answer = self.answer_gone(e);
-        if answer == Answer::Fine {
-            self.enter_cut(out, actor, line, e)?;
-            return Ok(answer);
-        }
-        self.enter_alone(actor, line, c, done, answer)
-    }
-
     /// Enters the loss of an enlistment with open connections, which are cut. A cut counts up to 4,294,967,295 messages: where the history has more entries than that,
     /// there is no memory for it.
-    fn enter_cut(
+    pub(super) fn enter_cut(
         &mut self,
         out: &mut Outbox,
         actor: ActorNo,
@@ -110,7 +78,7 @@ impl TxWorld {
             return Err(WorldError::Memory);
         }
         self.history.reserve()?;
-        self.calls.reserve(1)?;
+        reserve_call(&mut self.calls)?;
         out.clear();
         let promotes = is_promotable_row(self.half.rows(), e);
         self.half.gone(e, true, out);

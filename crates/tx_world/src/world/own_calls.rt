@@ -10,7 +10,7 @@ ghost use Rattle.dtx_model.specs.Steps.{Calls};
 ghost use Rattle.dtx_model.specs.World.{answer_at, half};
 ghost use Rattle.coordinator_log.specs.Slots.{open_records};
 ghost use Rattle.tx_world.specs.AtLog.{Fits, KeepsLog, KeepsSlots};
-ghost use Rattle.tx_world.specs.OwnCalls.{DoesAlone, DoesCall, Prepares, Repeats, is_do, place_of, said, status_of};
+ghost use Rattle.tx_world.specs.OwnCalls.{DoesAlone, DoesCall, Prepares, is_do, place_of, said, status_of};
 ghost use Rattle.tx_world.specs.State.{may_enter};
 ghost use Rattle.tx_world.specs.Stepping.{SomeSteps};
 ghost use Rattle.tx_world.specs.Prepared.{NamesPrepared};
@@ -65,37 +65,6 @@ impl TxWorld {
         entered
     }
 
-    /// Does the k-th pending step, from 1, n times, or until fewer than k are pending; how often it did.
-    fn repeat<D: Disk>(
-        &mut self,
-        log: &mut Log<D>,
-        out: &mut Outbox,
-        k: u32,
-        n: u16,
-    ) -> Result<u16, WorldError>
-        requires fits { IsTrue D.honest → IsTrue log.old.is_up → Fits self.old (open_records log.old.slots) }
-        ensures repeated { IfOk result (λ m. Repeats D.faults k n m self.old log.old self.new log.new) }
-        ensures memory { OnErr result (SomeSteps D.faults k self.old log.old self.new log.new) }
-        ensures transaction { self.new.transaction ≡ self.old.transaction }
-        ensures fits { IsTrue D.honest → IsTrue log.new.is_up → Fits self.new (open_records log.new.slots) }
-        ensures kept { IsTrue D.honest → KeepsLog D.image self.old log.old self.new log.new }
-        ensures slots { KeepsSlots self.old log.old self.new log.new }
-        ensures named { NamesPrepared self.old → NamesPrepared self.new }
-        ensures life { log.new.life ≡ log.old.life }
-        ensures grows { D.faults log.old.disk ≤ D.faults log.new.disk }
-        ensures unarmed { log.old.armed ≡ None → log.new.armed ≡ None }
-        ensures still { IsTrue log.new.is_up → IsTrue log.old.is_up }
-    {
-        let mut count = 0;
-        while count < n {
-            if !self.step(log, out, k)? {
-                return Ok(count);
-            }
-            count += 1;
-        }
-        Ok(count)
-    }
-
     /// Does what comes right before a call: the steps of a `do`, and an `await` settles. How many steps a `do` did; 0 for any other call.
     fn prepare<D: Disk>(
         &mut self,
@@ -117,7 +86,11 @@ impl TxWorld {
         ensures still { IsTrue log.new.is_up → IsTrue log.old.is_up }
     {
         match *c {
-            Call::Do(_, k, n) => self.repeat(log, out, u32::from(k), n),
+            Call::Do(_, k, n) => {
+                let count = self.repeat(log, out, u32::from(k), u32::from(n))?;
+                // It did no more steps than the call asks for.
+                Ok(count as u16)
+            }
             Call::Await(_) => {
                 self.settle(log, out)?;
                 Ok(0)

@@ -1,13 +1,13 @@
 //! That an enlistment comes back.
-ghost use Rattle.std.specs.Prelude.{ℕ, ◌≡◌, IfOk, OnOk, OnErr, true};
+ghost use Rattle.std.specs.Prelude.{ℕ, ◌≡◌, OnOk, OnErr, true};
 ghost use Rattle.dtx_values.specs.declared.call.Call.TheVariants.{Reenlist};
 ghost use Rattle.dtx_values.specs.declared.entry.Answer.TheVariants.{Fine};
 ghost use Rattle.dtx_model.specs.Steps.{Calls};
 ghost use Rattle.dtx_model.specs.World.{answer_at};
 ghost use Rattle.tx_world.specs.OwnCalls.{DoesAlone};
 ghost use Rattle.tx_world.specs.State.{may_enter};
-ghost use Rattle.dtx_model.specs.Calls.{is_returning};
 
+use super::entering::reserve_call;
 use super::{TxWorld, identifier};
 use crate::local_calls::write_return;
 use crate::managers::{manager_of, returned};
@@ -18,7 +18,7 @@ use reenlist_recovery::check;
 
 impl TxWorld {
     /// What a `reenlist` is answered: the manager hands in the information that it has of its enlistment, and that is checked against the history.
-    fn answer_reenlist(&self, e: EnlNo) -> Answer
+    pub(super) fn answer_reenlist(&self, e: EnlNo) -> Answer
         ensures { (m : ℕ) → result ≡ answer_at self.now.transaction.value self.now.world (Reenlist e) m }
     {
         let wanted = identifier(self.transaction);
@@ -31,35 +31,8 @@ impl TxWorld {
             .if_begun(returned(check(self.history.entries(), wanted, &info)))
     }
 
-    /// Enters a `reenlist`.
-    pub(super) fn enter_return(
-        &mut self,
-        out: &mut Outbox,
-        actor: ActorNo,
-        line: u32,
-        c: &Call,
-        done: u16,
-    ) -> Result<Answer, WorldError>
-        requires enters { may_enter self.old.world line c.now ≡ true }
-        requires kind { is_returning c.now ≡ true }
-        ensures answer { IfOk result (λ a. a ≡ answer_at self.old.transaction.value self.old.world c.now done) }
-        ensures done { OnOk result (DoesAlone (Calls line actor c.now done) self.old self.new) }
-        ensures ours { (self.new.ours ≡ self.old.ours) × (self.new.unsure ≡ self.old.unsure) }
-        ensures memory { OnErr result (self.new ≡ self.old) }
-    {
-        let Call::Reenlist(e) = *c else {
-            return Ok(Answer::NoSuch);
-        };
-        let answer = self.answer_reenlist(e);
-        if answer == Answer::Fine {
-            self.enter_returned(out, actor, line, e)?;
-            return Ok(answer);
-        }
-        self.enter_alone(actor, line, c, done, answer)
-    }
-
     /// Enters that an enlistment comes back.
-    fn enter_returned(
+    pub(super) fn enter_returned(
         &mut self,
         out: &mut Outbox,
         actor: ActorNo,
@@ -73,7 +46,7 @@ impl TxWorld {
         ensures memory { OnErr result (self.new ≡ self.old) }
     {
         self.history.reserve()?;
-        self.calls.reserve(1)?;
+        reserve_call(&mut self.calls)?;
         out.clear();
         write_return(&mut self.half, actor, line, e, out);
         let call = Call::Reenlist(e);

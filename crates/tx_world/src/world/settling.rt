@@ -5,6 +5,7 @@ ghost use Rattle.dtx_model.specs.Steps.{pending};
 ghost use Rattle.coordinator_log.specs.Slots.{open_records};
 ghost use Rattle.tx_world.specs.AtLog.{Fits, KeepsLog, KeepsSlots};
 ghost use Rattle.world_laws.specs.Left.{steps_left};
+ghost use Rattle.tx_world.specs.OwnCalls.{Repeats};
 ghost use Rattle.tx_world.specs.Stepping.{DoesKth, Settles, SomeSteps};
 ghost use Rattle.tx_world.specs.Prepared.{NamesPrepared};
 
@@ -43,6 +44,37 @@ impl TxWorld {
         self.step_kth(log, out, k)
     }
 
+    /// Does the k-th pending step, from 1, n times, or until fewer than k are pending; how often it did.
+    pub(super) fn repeat<D: Disk>(
+        &mut self,
+        log: &mut Log<D>,
+        out: &mut Outbox,
+        k: u32,
+        n: u32,
+    ) -> Result<u32, WorldError>
+        requires fits { IsTrue D.honest → IsTrue log.old.is_up → Fits self.old (open_records log.old.slots) }
+        ensures repeated { IfOk result (λ m. Repeats D.faults k n m self.old log.old self.new log.new) }
+        ensures memory { OnErr result (SomeSteps D.faults k self.old log.old self.new log.new) }
+        ensures transaction { self.new.transaction ≡ self.old.transaction }
+        ensures fits { IsTrue D.honest → IsTrue log.new.is_up → Fits self.new (open_records log.new.slots) }
+        ensures kept { IsTrue D.honest → KeepsLog D.image self.old log.old self.new log.new }
+        ensures slots { KeepsSlots self.old log.old self.new log.new }
+        ensures named { NamesPrepared self.old → NamesPrepared self.new }
+        ensures life { log.new.life ≡ log.old.life }
+        ensures grows { D.faults log.old.disk ≤ D.faults log.new.disk }
+        ensures unarmed { log.old.armed ≡ None → log.new.armed ≡ None }
+        ensures still { IsTrue log.new.is_up → IsTrue log.old.is_up }
+    {
+        let mut count = 0;
+        while count < n {
+            if !self.step(log, out, k)? {
+                return Ok(count);
+            }
+            count += 1;
+        }
+        Ok(count)
+    }
+
     /// Does the first pending step until none is left, and says how many it did.
     ///
     /// # Errors
@@ -62,13 +94,10 @@ impl TxWorld {
         ensures unarmed { log.old.armed ≡ None → log.new.armed ≡ None }
         ensures still { IsTrue log.new.is_up → IsTrue log.old.is_up }
     {
-        let mut count = 0;
-        while count < u32::MAX {
-            if !self.step(log, out, 1)? {
-                return Ok(count);
-            }
-            count += 1;
+        let count = self.repeat(log, out, 1, u32::MAX)?;
+        if count == u32::MAX {
+            return Err(WorldError::Memory);
         }
-        Err(WorldError::Memory)
+        Ok(count)
     }
 }

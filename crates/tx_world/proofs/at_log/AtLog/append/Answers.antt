@@ -4,14 +4,15 @@ use Rattle.dtx_model.specs.Promotes.{identifier_of}
 use Rattle.coordinator_log.specs.Slots.{open_records}
 use Rattle.tx_world.specs.AtLog.{Acts, IsOurs}
 use Rattle.tx_world.proofs.at_log.AtLog.append.Goals as goal
-use Rattle.std.proofs.Common.{sym, subst, ap, ◌∙◌, inl, Err}
+use Rattle.std.proofs.Common.{refl, sym, subst, ap, ◌∙◌, inl, Err}
+use Rattle.std.specs.Option.{option_map}
 use Rattle.dtx_model.specs.Coordinated.{Coordinated}
 use Rattle.dtx_model.specs.Steps.{StoppedNow, StoppedBefore}
 use Rattle.coordinator_log.specs.declared.refusal.LogRefusal.{LogRefusal}
 use Rattle.coordinator_log.specs.declared.refusal.LogRefusal.TheVariants.{Stopped as Refused}
 use Rattle.tx_world.specs.AtLog.{Kept}
 use Rattle.coordinator_log.specs.Slots.{lowest_closed}
-use Rattle.tx_world.proofs.Answering.{acts_before, acts_now, appending, broken_refused, may_append, never_both, none_refused, refused_unbroken, unchanged_by, was_up}
+use Rattle.tx_world.proofs.Answering.{acts_before, acts_now, appending, broken_refused, kept_tried, may_append, never_both, none_refused, refused_unbroken, unchanged_by, was_up}
 use Rattle.tx_world.proofs.Fitting.{keeps_appended, keeps_stopped, none_found, slots_appended, slots_stopped}
 use Rattle.tx_world.proofs.Keeping.{none_kept, ours_full, ours_logged, ours_stopped, runs_then}
 use Rattle.tx_world.specs.Prepared.{Names}
@@ -49,11 +50,13 @@ returns-in-Err-Full-clause-ours g c =
 pub returns-in-Err-StoppedNow-clause-acts : goal.returns-in-Err-StoppedNow-clause-acts
 returns-in-Err-StoppedNow-clause-acts g c =
     let broken = c.in-Err-StoppedNow.is ∙ ap (λ (e : LogRefusal). Err e) c.in-Err-StoppedNow.field-0-is in
-    let P : Kept → Type 0 = λ x. Acts g.D.Disk.faults c.args.core.now.state (identifier_of c.args.core.now.transaction.value) x.life c.args.out.now c.args.log.now c.stop.new.core.state c.stop.new.out c.append.new.self in
-    subst P c.self.view_is (acts_now g.D.Disk.faults c.args.core.now.state (identifier_of c.args.core.now.transaction.value) c.self.inside.life c.args.out.now c.args.log.now c.stop.new.core.state c.stop.new.out c.append.new.self 4
+    let inside : Kept = record { ours = option_map record_of c.self.inside.ours; unsure = c.self.inside.unsure; life = c.self.inside.life } in
+    let kept : Kept = record { ours = Some (record_of c.args.kept); unsure = true; life = c.self.inside.life } in
+    let P : Kept → Type 0 = λ x. Acts g.D.Disk.faults c.args.core.now.transaction.value c.args.core.now.state x c.args.out.now c.args.log.now c.stop.new.core.state kept c.stop.new.out c.append.new.self in
+    subst P c.self.view_is (acts_now g.D.Disk.faults c.args.core.now.transaction.value c.args.core.now.state inside c.args.out.now c.args.log.now c.stop.new.core.state kept c.stop.new.out c.append.new.self 4
     (may_append c.args.core.now.state StoppedNow c.requires.votes) c.stop.ensures.state c.stop.ensures.out
     (λ x. broken_refused c.append.result broken (c.append.ensures.stopped.1 x)) (c.append.ensures.stopped_now broken).0 (appending c.args.core.now.state c.requires.votes)
-    (c.append.ensures.cause broken) (c.append.ensures.used broken))
+    (c.append.ensures.cause broken) (c.append.ensures.used broken) (kept_tried c.args.core.now.transaction.value c.args.core.now.state inside (record_of c.args.kept) c.requires.votes c.requires.written))
 
 pub returns-in-Err-StoppedNow-clause-ours : goal.returns-in-Err-StoppedNow-clause-ours
 returns-in-Err-StoppedNow-clause-ours g c =
@@ -75,10 +78,11 @@ returns-in-Err-StoppedNow-clause-kept g c = λ honest.
 pub returns-in-Err-Stopped-clause-acts : goal.returns-in-Err-Stopped-clause-acts
 returns-in-Err-Stopped-clause-acts g c =
     let refused = c.in-Err-Stopped.is ∙ ap (λ (e : LogRefusal). Err e) c.in-Err-Stopped.field-0-is in
-    let P : Kept → Type 0 = λ x. Acts g.D.Disk.faults c.args.core.now.state (identifier_of c.args.core.now.transaction.value) x.life c.args.out.now c.args.log.now c.stop-in-Err-Stopped.new.core.state c.stop-in-Err-Stopped.new.out c.append.new.self in
-    subst P c.self.view_is (acts_before g.D.Disk.faults c.args.core.now.state (identifier_of c.args.core.now.transaction.value) c.self.inside.life c.args.out.now c.args.log.now c.stop-in-Err-Stopped.new.core.state c.stop-in-Err-Stopped.new.out c.append.new.self
+    let inside : Kept = record { ours = option_map record_of c.self.inside.ours; unsure = c.self.inside.unsure; life = c.self.inside.life } in
+    let P : Kept → Type 0 = λ x. Acts g.D.Disk.faults c.args.core.now.transaction.value c.args.core.now.state x c.args.out.now c.args.log.now c.stop-in-Err-Stopped.new.core.state x c.stop-in-Err-Stopped.new.out c.append.new.self in
+    subst P c.self.view_is (acts_before g.D.Disk.faults c.args.core.now.transaction.value c.args.core.now.state inside c.args.out.now c.args.log.now c.stop-in-Err-Stopped.new.core.state inside c.stop-in-Err-Stopped.new.out c.append.new.self
     (may_append c.args.core.now.state StoppedBefore c.requires.votes) c.stop-in-Err-Stopped.ensures.state c.stop-in-Err-Stopped.ensures.out (c.append.ensures.stopped.0 refused)
-    (unchanged_by c.append.result Refused refused_unbroken refused c.append.ensures.unchanged))
+    (unchanged_by c.append.result Refused refused_unbroken refused c.append.ensures.unchanged) refl)
 
 pub returns-in-Err-Stopped-clause-ours : goal.returns-in-Err-Stopped-clause-ours
 returns-in-Err-Stopped-clause-ours g c =

@@ -3,18 +3,18 @@ use Rattle.std.specs.Option.{option_map}
 use Rattle.dtx_model.specs.Log.{first_of, record_of}
 use Rattle.dtx_model.specs.Promotes.{identifier_of}
 use Rattle.coordinator_log.specs.Slots.{open_records}
-use Rattle.tx_world.specs.AtLog.{Acts, IsFit, IsOurs, Keeps, LeavesSlots}
+use Rattle.tx_world.specs.AtLog.{Acts, IsFit, IsOurs, Keeps, LeavesSlots, kept_after}
 use Rattle.tx_world.proofs.at_log.AtLog.free.Goals as goal
 use Rattle.std.proofs.Common.{sym, subst, ap, ◌∙◌, inl, Err, refl}
 use Rattle.std.specs.Prelude.{IfSome}
 use Rattle.coordinator_log.specs.State.{LogState}
 use Rattle.tx_world.proofs.Freeing.{freed_runs, images_of, lost_id, never_lost, records_of}
 use Rattle.dtx_model.specs.Coordinated.{Coordinated}
-use Rattle.dtx_model.specs.Steps.{StoppedNow, StoppedBefore}
+use Rattle.dtx_model.specs.Steps.{Done, StoppedNow, StoppedBefore}
 use Rattle.coordinator_log.specs.declared.refusal.LogRefusal.{LogRefusal}
 use Rattle.coordinator_log.specs.declared.refusal.LogRefusal.TheVariants.{Stopped as Refused, NoSuch}
 use Rattle.tx_world.specs.AtLog.{Kept}
-use Rattle.tx_world.proofs.Answering.{acts_before, acts_freed, acts_now, broken_refused, freeing, lost_refused, lost_unbroken, may_release, never_both, none_refused, refused_unbroken, unchanged_by, was_up}
+use Rattle.tx_world.proofs.Answering.{acts_before, acts_freed, acts_now, broken_refused, freeing, kept_freed, kept_unfreed, lost_refused, lost_unbroken, may_release, never_both, none_refused, refused_unbroken, unchanged_by, was_up}
 use Rattle.tx_world.proofs.Fitting.{keeps_freed, keeps_unfreed, slots_freed, slots_lost, slots_stopped}
 use Rattle.tx_world.proofs.Keeping.{one_kept, ours_freed, ours_stopped, runs_still}
 use Rattle.tx_world.specs.Prepared.{Names}
@@ -29,10 +29,13 @@ stop-requires-in-Err-Stopped-clause-up g c = runs_still c.args.core.now.state c.
 -- the record was freed
 pub returns-in-Ok-clause-acts : goal.returns-in-Ok-clause-acts
 returns-in-Ok-clause-acts g c =
-    let P : Kept → Type 0 = λ x. Acts g.D.Disk.faults c.args.core.now.state (identifier_of c.args.core.now.transaction.value) x.life c.args.out.now c.args.log.now c.freed.new.core.state c.freed.new.out c.free.new.self in
-    subst P c.self.view_is (acts_freed g.D.Disk.faults c.args.core.now.state (identifier_of c.args.core.now.transaction.value) c.self.inside.life c.args.out.now c.args.log.now c.freed.new.core.state c.freed.new.out c.free.new.self
+    let inside : Kept = record { ours = option_map record_of c.self.inside.ours; unsure = c.self.inside.unsure; life = c.self.inside.life } in
+    let freed = c.freed.ensures.kept ∙ kept_freed c.args.core.now.transaction.value c.args.core.now.state c.args.self.now c.requires.votes in
+    let P : Kept → Type 0 = λ x. Acts g.D.Disk.faults c.args.core.now.transaction.value c.args.core.now.state x c.args.out.now c.args.log.now c.freed.new.core.state c.freed.new.self c.freed.new.out c.free.new.self in
+    subst P c.self.view_is (acts_freed g.D.Disk.faults c.args.core.now.transaction.value c.args.core.now.state inside c.args.out.now c.args.log.now c.freed.new.core.state c.freed.new.self c.freed.new.out c.free.new.self
     c.requires.votes c.requires.finished c.freed.ensures.state c.freed.ensures.out (λ x. none_refused c.free.result c.in-Ok.field-0 c.in-Ok.is (c.free.ensures.stopped.1 x))
-    c.in-Ok.ensures.up c.in-Ok.ensures.smooth (λ f. c.in-Ok.ensures.counted))
+    c.in-Ok.ensures.up c.in-Ok.ensures.smooth (λ f. c.in-Ok.ensures.counted)
+    (let Q : Kept → Type 0 = λ x. c.freed.new.self ≡ kept_after c.args.core.now.transaction.value c.args.core.now.state Done x in subst Q (sym c.self.view_is) freed))
 
 pub returns-in-Ok-clause-ours : goal.returns-in-Ok-clause-ours
 returns-in-Ok-clause-ours g c =
@@ -57,11 +60,14 @@ pub returns-in-Err-NoSuch-clause-acts : goal.returns-in-Err-NoSuch-clause-acts
 returns-in-Err-NoSuch-clause-acts g c =
     let lost = lost_id c.free.result c.args.id c.in-Err-NoSuch.field-0-0 (c.in-Err-NoSuch.is ∙ ap (λ (e : LogRefusal). Err e) c.in-Err-NoSuch.field-0-is) c.free.ensures.only in
     let same : c.free.new.self ≡ c.args.log.now = unchanged_by c.free.result (NoSuch c.args.id) (lost_unbroken c.args.id) lost c.free.ensures.unchanged in
-    let P : Kept → Type 0 = λ x. Acts g.D.Disk.faults c.args.core.now.state (identifier_of c.args.core.now.transaction.value) x.life c.args.out.now c.args.log.now c.freed-in-Err-NoSuch.new.core.state c.freed-in-Err-NoSuch.new.out c.free.new.self in
-    subst P c.self.view_is (acts_freed g.D.Disk.faults c.args.core.now.state (identifier_of c.args.core.now.transaction.value) c.self.inside.life c.args.out.now c.args.log.now c.freed-in-Err-NoSuch.new.core.state c.freed-in-Err-NoSuch.new.out c.free.new.self
+    let inside : Kept = record { ours = option_map record_of c.self.inside.ours; unsure = c.self.inside.unsure; life = c.self.inside.life } in
+    let freed = c.freed-in-Err-NoSuch.ensures.kept ∙ kept_freed c.args.core.now.transaction.value c.args.core.now.state c.args.self.now c.requires.votes in
+    let P : Kept → Type 0 = λ x. Acts g.D.Disk.faults c.args.core.now.transaction.value c.args.core.now.state x c.args.out.now c.args.log.now c.freed-in-Err-NoSuch.new.core.state c.freed-in-Err-NoSuch.new.self c.freed-in-Err-NoSuch.new.out c.free.new.self in
+    subst P c.self.view_is (acts_freed g.D.Disk.faults c.args.core.now.transaction.value c.args.core.now.state inside c.args.out.now c.args.log.now c.freed-in-Err-NoSuch.new.core.state c.freed-in-Err-NoSuch.new.self c.freed-in-Err-NoSuch.new.out c.free.new.self
     c.requires.votes c.requires.finished c.freed-in-Err-NoSuch.ensures.state c.freed-in-Err-NoSuch.ensures.out (λ x. lost_refused c.free.result c.args.id lost (c.free.ensures.stopped.1 x))
     (ap (λ (l : LogState g.row.D.Denot). l.is_up) same ∙ (c.free.ensures.none.0 lost).0) (ap (λ (l : LogState g.row.D.Denot). g.D.Disk.faults l.disk) same)
-    (λ f. absurd (f (ap (λ n. first_of n (open_records c.args.log.now.slots)) (sym c.requires.own) ∙ (c.free.ensures.none.0 lost).2))))
+    (λ f. absurd (f (ap (λ n. first_of n (open_records c.args.log.now.slots)) (sym c.requires.own) ∙ (c.free.ensures.none.0 lost).2)))
+    (let Q : Kept → Type 0 = λ x. c.freed-in-Err-NoSuch.new.self ≡ kept_after c.args.core.now.transaction.value c.args.core.now.state Done x in subst Q (sym c.self.view_is) freed))
 
 pub returns-in-Err-NoSuch-clause-ours : goal.returns-in-Err-NoSuch-clause-ours
 returns-in-Err-NoSuch-clause-ours g c =
@@ -85,11 +91,13 @@ returns-in-Err-NoSuch-clause-kept g c = λ honest.
 pub returns-in-Err-StoppedNow-clause-acts : goal.returns-in-Err-StoppedNow-clause-acts
 returns-in-Err-StoppedNow-clause-acts g c =
     let broken = c.in-Err-StoppedNow.is ∙ ap (λ (e : LogRefusal). Err e) c.in-Err-StoppedNow.field-0-is in
-    let P : Kept → Type 0 = λ x. Acts g.D.Disk.faults c.args.core.now.state (identifier_of c.args.core.now.transaction.value) x.life c.args.out.now c.args.log.now c.stop.new.core.state c.stop.new.out c.free.new.self in
-    subst P c.self.view_is (acts_now g.D.Disk.faults c.args.core.now.state (identifier_of c.args.core.now.transaction.value) c.self.inside.life c.args.out.now c.args.log.now c.stop.new.core.state c.stop.new.out c.free.new.self 2
+    let inside : Kept = record { ours = option_map record_of c.self.inside.ours; unsure = c.self.inside.unsure; life = c.self.inside.life } in
+    let kept : Kept = record { ours = inside.ours; unsure = true; life = inside.life } in
+    let P : Kept → Type 0 = λ x. Acts g.D.Disk.faults c.args.core.now.transaction.value c.args.core.now.state x c.args.out.now c.args.log.now c.stop.new.core.state kept c.stop.new.out c.free.new.self in
+    subst P c.self.view_is (acts_now g.D.Disk.faults c.args.core.now.transaction.value c.args.core.now.state inside c.args.out.now c.args.log.now c.stop.new.core.state kept c.stop.new.out c.free.new.self 2
     (may_release c.args.core.now.state StoppedNow c.requires.finished refl) c.stop.ensures.state c.stop.ensures.out
     (λ x. broken_refused c.free.result broken (c.free.ensures.stopped.1 x)) (c.free.ensures.stopped_now broken).0 (freeing c.args.core.now.state c.requires.votes)
-    (c.free.ensures.cause broken) (c.free.ensures.used broken))
+    (c.free.ensures.cause broken) (c.free.ensures.used broken) (kept_unfreed c.args.core.now.transaction.value c.args.core.now.state inside c.requires.votes))
 
 pub returns-in-Err-StoppedNow-clause-ours : goal.returns-in-Err-StoppedNow-clause-ours
 returns-in-Err-StoppedNow-clause-ours g c =
@@ -115,10 +123,11 @@ returns-in-Err-StoppedNow-clause-kept g c = λ honest.
 pub returns-in-Err-Stopped-clause-acts : goal.returns-in-Err-Stopped-clause-acts
 returns-in-Err-Stopped-clause-acts g c =
     let refused = c.in-Err-Stopped.is ∙ ap (λ (e : LogRefusal). Err e) c.in-Err-Stopped.field-0-is in
-    let P : Kept → Type 0 = λ x. Acts g.D.Disk.faults c.args.core.now.state (identifier_of c.args.core.now.transaction.value) x.life c.args.out.now c.args.log.now c.stop-in-Err-Stopped.new.core.state c.stop-in-Err-Stopped.new.out c.free.new.self in
-    subst P c.self.view_is (acts_before g.D.Disk.faults c.args.core.now.state (identifier_of c.args.core.now.transaction.value) c.self.inside.life c.args.out.now c.args.log.now c.stop-in-Err-Stopped.new.core.state c.stop-in-Err-Stopped.new.out c.free.new.self
+    let inside : Kept = record { ours = option_map record_of c.self.inside.ours; unsure = c.self.inside.unsure; life = c.self.inside.life } in
+    let P : Kept → Type 0 = λ x. Acts g.D.Disk.faults c.args.core.now.transaction.value c.args.core.now.state x c.args.out.now c.args.log.now c.stop-in-Err-Stopped.new.core.state x c.stop-in-Err-Stopped.new.out c.free.new.self in
+    subst P c.self.view_is (acts_before g.D.Disk.faults c.args.core.now.transaction.value c.args.core.now.state inside c.args.out.now c.args.log.now c.stop-in-Err-Stopped.new.core.state inside c.stop-in-Err-Stopped.new.out c.free.new.self
     (may_release c.args.core.now.state StoppedBefore c.requires.finished refl) c.stop-in-Err-Stopped.ensures.state c.stop-in-Err-Stopped.ensures.out (c.free.ensures.stopped.0 refused)
-    (unchanged_by c.free.result Refused refused_unbroken refused c.free.ensures.unchanged))
+    (unchanged_by c.free.result Refused refused_unbroken refused c.free.ensures.unchanged) refl)
 
 pub returns-in-Err-Stopped-clause-ours : goal.returns-in-Err-Stopped-clause-ours
 returns-in-Err-Stopped-clause-ours g c =

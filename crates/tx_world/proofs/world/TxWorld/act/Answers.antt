@@ -1,10 +1,8 @@
 use Rattle.std.proofs.Common.{◌≡◌, ◌≤◌, arith, false, length, not, refl, sym, ◌∙◌}
 use Rattle.dtx_model.specs.Steps.{Acts}
-use Rattle.tx_world.proofs.Living.{whole_on}
 use Rattle.tx_world.proofs.Silent.{act_silent}
-use Rattle.tx_world.proofs.Unlogged.{alone_done}
-use Rattle.tx_world.proofs.Written.{Ready, act_ready, silent_kept, world_of}
-use Rattle.tx_world.proofs.Naming.{named_alone}
+use Rattle.tx_world.proofs.Silently.{ready_written, written_done, written_named, written_whole}
+use Rattle.tx_world.proofs.Written.{Ready, act_ready, world_of}
 use Rattle.tx_world.specs.Sending.{is_sent}
 use Rattle.dtx_model.specs.Words.{has}
 use Rattle.tx_world.proofs.Sending.{act_calm, room_where_few, room_where_sent, unsent_there}
@@ -56,26 +54,11 @@ pub write-requires-clause-stopped : goal.write-requires-clause-stopped
 write-requires-clause-stopped c = c.is_stopped.ensures ∙ (ready (goal.at.write-requires-clause-stopped c).After-entries).stopped
 
 pub invariant_of-self-2 : goal.invariant_of-self-2
-invariant_of-self-2 c =
-    let i = c.self.inside in
-    let w = world_of i.calls.items i.history.past in
-    let r = ready (goal.at.invariant_of-self-2 c).After-entries in
-    let wrote = c.write.ensures.past ∙ r.past in
-    whole_on i.transaction w Acts c.self.invariant refl (silent_kept i.transaction w Acts r.kept (sym (act_silent i.transaction.value w)) refl wrote) wrote
+invariant_of-self-2 c = written_whole (ready_written (ready (goal.at.invariant_of-self-2 c).After-entries) refl (sym (act_silent c.self.inside.transaction.value (world_of c.self.inside.calls.items c.self.inside.history.past))) refl c.write.ensures.past) c.self.invariant
 
 pub returns-clause-done : goal.returns-clause-done
-returns-clause-done c d =
-    let i = c.self.inside in
-    let w = world_of i.calls.items i.history.past in
-    let r = ready (goal.at.returns-clause-done c).After-entries in
-    alone_done i.transaction w Acts i.at_log c.args.self.now (sym (act_silent i.transaction.value w)) refl (c.write.ensures.past ∙ r.past) c.self.view_is
+returns-clause-done c d = written_done c.self.inside.at_log c.args.self.now (ready_written (ready (goal.at.returns-clause-done c).After-entries) refl (sym (act_silent c.self.inside.transaction.value (world_of c.self.inside.calls.items c.self.inside.history.past))) refl c.write.ensures.past) c.self.view_is
 
 -- the record that is kept names who said PREPARED
 pub returns-clause-named : goal.returns-clause-named
-returns-clause-named c = λ n.
-    let i = c.self.inside in
-    let w = world_of i.calls.items i.history.past in
-    let r = ready (goal.at.returns-clause-named c).After-entries in
-    let wrote = c.write.ensures.past ∙ r.past in
-    let whole = whole_on i.transaction w Acts c.self.invariant refl (silent_kept i.transaction w Acts r.kept (sym (act_silent i.transaction.value w)) refl wrote) wrote in
-    named_alone Acts i.at_log c.args.self.now c.self.invariant whole refl c.self.view_is (alone_done i.transaction w Acts i.at_log c.args.self.now (sym (act_silent i.transaction.value w)) refl wrote c.self.view_is) n
+returns-clause-named c n = written_named c.self.inside.at_log c.args.self.now (ready_written (ready (goal.at.returns-clause-named c).After-entries) refl (sym (act_silent c.self.inside.transaction.value (world_of c.self.inside.calls.items c.self.inside.history.past))) refl c.write.ensures.past) c.self.invariant c.self.view_is n

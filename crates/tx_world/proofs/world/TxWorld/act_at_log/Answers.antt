@@ -67,9 +67,7 @@ write-requires-clause-sendable g c =
 
 pub write-requires-clause-stopped : goal.write-requires-clause-stopped
 write-requires-clause-stopped g c =
-    let i = c.self.inside in
-    sym (did g (goal.at.write-requires-clause-stopped g c).After-act).running
-    ∙ stopped_is i.transaction (world_of i.calls.items i.history.past) i.half i.core c.reserve.new.self.past c.self.invariant.kept c.in_ok-reserve.ensures.same
+    sym (did g (goal.at.write-requires-clause-stopped g c).After-act).running ∙ stopped_is c.self.invariant.kept c.in_ok-reserve.ensures.same
 
 pub invariant_of-self-else-is_stopped : goal.invariant_of-self-else-is_stopped
 invariant_of-self-else-is_stopped g c =

@@ -7,11 +7,9 @@ use Rattle.dtx_model.specs.Wires.{MayCross}
 use Rattle.dtx_model.specs.World.{has_left}
 use Rattle.world_laws.specs.Course.{Came}
 use Rattle.tx_world.proofs.Delivering.{down_ready, lined, some_left}
-use Rattle.tx_world.proofs.Living.{whole_on}
 use Rattle.tx_world.proofs.Silent.{down_silent}
-use Rattle.tx_world.proofs.Unlogged.{alone_done}
-use Rattle.tx_world.proofs.Written.{Ready, silent_kept, world_of}
-use Rattle.tx_world.proofs.Naming.{named_alone}
+use Rattle.tx_world.proofs.Silently.{ready_written, written_done, written_named, written_whole}
+use Rattle.tx_world.proofs.Written.{Ready, world_of}
 use Rattle.tx_world.proofs.world.TxWorld.deliver_down.Goals.{After-entries}
 use Rattle.tx_world.proofs.world.TxWorld.deliver_down.Goals as goal
 
@@ -43,26 +41,11 @@ pub write-requires-clause-stopped : goal.write-requires-clause-stopped
 write-requires-clause-stopped c = c.is_stopped.ensures ∙ (ready (goal.at.write-requires-clause-stopped c).After-entries).stopped
 
 pub invariant_of-self-2 : goal.invariant_of-self-2
-invariant_of-self-2 c =
-    let i = c.self.inside in
-    let w = world_of i.calls.items i.history.past in
-    let r = ready (goal.at.invariant_of-self-2 c).After-entries in
-    let wrote = c.write.ensures.past ∙ r.past in
-    whole_on i.transaction w (Delivers c.args.c Down) c.self.invariant refl (silent_kept i.transaction w (Delivers c.args.c Down) r.kept (sym (down_silent i.transaction.value w c.args.c)) refl wrote) wrote
+invariant_of-self-2 c = written_whole (ready_written (ready (goal.at.invariant_of-self-2 c).After-entries) refl (sym (down_silent c.self.inside.transaction.value (world_of c.self.inside.calls.items c.self.inside.history.past) c.args.c)) refl c.write.ensures.past) c.self.invariant
 
 pub returns-clause-done : goal.returns-clause-done
-returns-clause-done c d =
-    let i = c.self.inside in
-    let w = world_of i.calls.items i.history.past in
-    let r = ready (goal.at.returns-clause-done c).After-entries in
-    alone_done i.transaction w (Delivers c.args.c Down) i.at_log c.args.self.now (sym (down_silent i.transaction.value w c.args.c)) refl (c.write.ensures.past ∙ r.past) c.self.view_is
+returns-clause-done c d = written_done c.self.inside.at_log c.args.self.now (ready_written (ready (goal.at.returns-clause-done c).After-entries) refl (sym (down_silent c.self.inside.transaction.value (world_of c.self.inside.calls.items c.self.inside.history.past) c.args.c)) refl c.write.ensures.past) c.self.view_is
 
 -- the record that is kept names who said PREPARED
 pub returns-clause-named : goal.returns-clause-named
-returns-clause-named c = λ n.
-    let i = c.self.inside in
-    let w = world_of i.calls.items i.history.past in
-    let r = ready (goal.at.returns-clause-named c).After-entries in
-    let wrote = c.write.ensures.past ∙ r.past in
-    let whole = whole_on i.transaction w (Delivers c.args.c Down) c.self.invariant refl (silent_kept i.transaction w (Delivers c.args.c Down) r.kept (sym (down_silent i.transaction.value w c.args.c)) refl wrote) wrote in
-    named_alone (Delivers c.args.c Down) i.at_log c.args.self.now c.self.invariant whole refl c.self.view_is (alone_done i.transaction w (Delivers c.args.c Down) i.at_log c.args.self.now (sym (down_silent i.transaction.value w c.args.c)) refl wrote c.self.view_is) n
+returns-clause-named c n = written_named c.self.inside.at_log c.args.self.now (ready_written (ready (goal.at.returns-clause-named c).After-entries) refl (sym (down_silent c.self.inside.transaction.value (world_of c.self.inside.calls.items c.self.inside.history.past) c.args.c)) refl c.write.ensures.past) c.self.invariant c.self.view_is n

@@ -1,16 +1,13 @@
-use Rattle.std.proofs.Common.{◌≡◌, List, Some, None, ◌↔◌, false, refl, sym, ◌∙◌, subst}
+use Rattle.std.proofs.Common.{◌≡◌, List, Some, None, ◌↔◌, false, ◌∙◌, subst}
 use Rattle.dtx_values.specs.declared.entry.Entry.{Entry}
 use Rattle.dtx_values.specs.declared.entry.Entry.TheVariants.{Got}
 use Rattle.dtx_values.specs.declared.message.Dir.TheVariants.{Up}
-use Rattle.dtx_model.specs.Steps.{Delivers}
 use Rattle.dtx_model.specs.Wires.{MayCross}
 use Rattle.dtx_model.specs.World.{has_left}
 use Rattle.world_laws.specs.Course.{Came}
 use Rattle.tx_world.proofs.Delivering.{ReadyUp, came_few, lined, some_left, up_ready}
-use Rattle.tx_world.proofs.Living.{whole_on}
-use Rattle.tx_world.proofs.Unlogged.{alone_done}
-use Rattle.tx_world.proofs.Written.{silent_kept, world_of}
-use Rattle.tx_world.proofs.Naming.{named_alone}
+use Rattle.tx_world.proofs.Silently.{up_written, written_done, written_named, written_whole}
+use Rattle.tx_world.proofs.Written.{world_of}
 use Rattle.tx_world.proofs.world.TxWorld.deliver_up.Goals.{After-entries}
 use Rattle.tx_world.proofs.world.TxWorld.deliver_up.Goals as goal
 
@@ -48,25 +45,11 @@ pub write-requires-clause-stopped : goal.write-requires-clause-stopped
 write-requires-clause-stopped c = c.is_stopped.ensures ∙ (ready (goal.at.write-requires-clause-stopped c).After-entries).stopped
 
 pub invariant_of-self-2 : goal.invariant_of-self-2
-invariant_of-self-2 c =
-    let i = c.self.inside in
-    let u = ready (goal.at.invariant_of-self-2 c).After-entries in
-    let w = world_of i.calls.items i.history.past in
-    let past = c.write.ensures.past ∙ u.past in
-    whole_on i.transaction w (Delivers c.args.c Up) c.self.invariant refl (silent_kept i.transaction w (Delivers c.args.c Up) u.kept (sym u.silent) refl past) past
+invariant_of-self-2 c = written_whole (up_written (ready (goal.at.invariant_of-self-2 c).After-entries) c.write.ensures.past) c.self.invariant
 
 pub returns-clause-done : goal.returns-clause-done
-returns-clause-done c d =
-    let u = ready (goal.at.returns-clause-done c).After-entries in
-    let i = c.self.inside in
-    alone_done i.transaction (world_of i.calls.items i.history.past) (Delivers c.args.c Up) i.at_log c.args.self.now (sym u.silent) refl (c.write.ensures.past ∙ u.past) c.self.view_is
+returns-clause-done c d = written_done c.self.inside.at_log c.args.self.now (up_written (ready (goal.at.returns-clause-done c).After-entries) c.write.ensures.past) c.self.view_is
 
 -- the record that is kept names who said PREPARED
 pub returns-clause-named : goal.returns-clause-named
-returns-clause-named c = λ n.
-    let i = c.self.inside in
-    let w = world_of i.calls.items i.history.past in
-    let r = ready (goal.at.returns-clause-named c).After-entries in
-    let wrote = c.write.ensures.past ∙ r.past in
-    let whole = whole_on i.transaction w (Delivers c.args.c Up) c.self.invariant refl (silent_kept i.transaction w (Delivers c.args.c Up) r.kept (sym r.silent) refl wrote) wrote in
-    named_alone (Delivers c.args.c Up) i.at_log c.args.self.now c.self.invariant whole refl c.self.view_is (alone_done i.transaction w (Delivers c.args.c Up) i.at_log c.args.self.now (sym r.silent) refl wrote c.self.view_is) n
+returns-clause-named c n = written_named c.self.inside.at_log c.args.self.now (up_written (ready (goal.at.returns-clause-named c).After-entries) c.write.ensures.past) c.self.invariant c.self.view_is n

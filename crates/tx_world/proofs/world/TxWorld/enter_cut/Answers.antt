@@ -12,9 +12,8 @@ use Rattle.tx_world.specs.State.{TxState, may_enter}
 use Rattle.tx_world.proofs.Calling.{with_call}
 use Rattle.tx_world.proofs.Leaving.{gone_stands, left, left_few, left_past, left_sendable, rows_promotable}
 use Rattle.tx_world.proofs.Linking.{Linked}
-use Rattle.tx_world.proofs.Living.{whole_on}
-use Rattle.tx_world.proofs.Unlogged.{alone_done}
-use Rattle.tx_world.proofs.Written.{silent_kept, stopped_is, world_of}
+use Rattle.tx_world.proofs.Silently.{linked_written, written_done, written_whole}
+use Rattle.tx_world.proofs.Written.{stopped_is, world_of}
 use Rattle.tx_world.proofs.world.TxWorld.enter_cut.Goals.{After-is_stopped, After-cut_links}
 use Rattle.tx_world.proofs.world.TxWorld.enter_cut.Goals as goal
 
@@ -35,8 +34,8 @@ ready c m =
 -- the call is the newest
 calls : (c : After-is_stopped) (m : ℕ) → past_of c.push_reserved.new.self.items ≡ entered (Calls c.args.line c.args.actor (Gone c.args.e) m) (past_of c.self.inside.calls.items)
 calls c m =
-    with_call c.self.inside.calls.items c.reserve-2.new.self.items c.push_reserved.new.self.items (record { line = c.args.line; actor = c.args.actor; call = Gone c.args.e }) c.push_reserved.ensures.items
-    c.in_ok-reserve-2.ensures.items
+    with_call c.self.inside.calls.items c.reserve_call.new.calls.items c.push_reserved.new.self.items (record { line = c.args.line; actor = c.args.actor; call = Gone c.args.e }) c.push_reserved.ensures.items
+    c.in_ok-reserve_call.ensures.items
 
 -- and its entries and the cuts come onto the past
 past : (c : After-cut_links)
@@ -58,8 +57,7 @@ write-requires-clause-sendable c =
 
 pub write-requires-clause-stopped : goal.write-requires-clause-stopped
 write-requires-clause-stopped c =
-    let i = c.self.inside in
-    c.is_stopped.ensures ∙ stopped_is i.transaction (world_of i.calls.items i.history.past) i.half i.core c.reserve.new.self.past c.self.invariant.kept c.in_ok-reserve.ensures.same
+    c.is_stopped.ensures ∙ stopped_is c.self.invariant.kept c.in_ok-reserve.ensures.same
 
 pub cut_links-requires-clause-few : goal.cut_links-requires-clause-few
 cut_links-requires-clause-few c =
@@ -69,17 +67,10 @@ cut_links-requires-clause-few c =
 
 pub invariant_of-self-2 : goal.invariant_of-self-2
 invariant_of-self-2 c =
-    let i = c.self.inside in
     let b = (goal.at.invariant_of-self-2 c).After-is_stopped in
-    let r = ready b 0 in
-    let w = world_of i.calls.items i.history.past in
-    let m = (Calls c.args.line c.args.actor (Gone c.args.e) 0) in
-    let wrote = past c ∙ ap (onto i.history.past) r.block in
-    whole_on i.transaction w m c.self.invariant refl (silent_kept i.transaction w m r.kept r.silent (calls b 0) wrote) wrote
+    written_whole (linked_written (ready b 0) refl (calls b 0) (past c)) c.self.invariant
 
 pub returns-clause-done : goal.returns-clause-done
 returns-clause-done c m =
-    let i = c.self.inside in
     let b = (goal.at.returns-clause-done c).After-is_stopped in
-    let r = ready b m in
-    alone_done i.transaction (world_of i.calls.items i.history.past) (Calls c.args.line c.args.actor (Gone c.args.e) m) i.at_log c.args.self.now r.silent (calls b m) (past c ∙ ap (onto i.history.past) r.block) c.self.view_is
+    written_done c.self.inside.at_log c.args.self.now (linked_written (ready b m) refl (calls b m) (past c)) c.self.view_is

@@ -33,8 +33,8 @@ ready c =
 -- the call is the newest
 calls : (c : After-entries) → past_of c.push_reserved.new.self.items ≡ entered (Calls c.args.line c.args.actor c.args.c.now c.args.done) (past_of c.self.inside.calls.items)
 calls c =
-    with_call c.self.inside.calls.items c.reserve.new.self.items c.push_reserved.new.self.items (record { line = c.args.line; actor = c.args.actor; call = c.args.c.now }) c.push_reserved.ensures.items
-    c.in_ok-reserve.ensures.items
+    with_call c.self.inside.calls.items c.reserve_call.new.calls.items c.push_reserved.new.self.items (record { line = c.args.line; actor = c.args.actor; call = c.args.c.now }) c.push_reserved.ensures.items
+    c.in_ok-reserve_call.ensures.items
 
 pub answer_call-answer-requires-clause-new : goal.answer_call-answer-requires-clause-new
 answer_call-answer-requires-clause-new c =

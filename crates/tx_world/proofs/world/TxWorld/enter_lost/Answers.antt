@@ -11,9 +11,8 @@ use Rattle.world_laws.specs.Carried.{are_sendable}
 use Rattle.tx_world.specs.State.{TxState, may_enter}
 use Rattle.tx_world.proofs.Calling.{with_call}
 use Rattle.tx_world.proofs.Linking.{Linked, after_call, lost, lost_open, lost_past}
-use Rattle.tx_world.proofs.Living.{whole_on}
-use Rattle.tx_world.proofs.Unlogged.{alone_done}
-use Rattle.tx_world.proofs.Written.{silent_kept, stopped_is, world_of}
+use Rattle.tx_world.proofs.Silently.{linked_written, written_done, written_whole}
+use Rattle.tx_world.proofs.Written.{stopped_is, world_of}
 use Rattle.tx_world.proofs.world.TxWorld.enter_lost.Goals.{After-is_stopped, After-lose}
 use Rattle.tx_world.proofs.world.TxWorld.enter_lost.Goals as goal
 
@@ -31,8 +30,8 @@ ready c m =
 calls : (c : After-is_stopped) (m : ℕ)
     → past_of c.push_reserved.new.self.items ≡ entered (Calls c.args.line c.args.actor (Lose c.args.u c.args.c c.args.up c.args.down) m) (past_of c.self.inside.calls.items)
 calls c m =
-    with_call c.self.inside.calls.items c.reserve-2.new.self.items c.push_reserved.new.self.items (record { line = c.args.line; actor = c.args.actor; call = Lose c.args.u c.args.c c.args.up c.args.down })
-    c.push_reserved.ensures.items c.in_ok-reserve-2.ensures.items
+    with_call c.self.inside.calls.items c.reserve_call.new.calls.items c.push_reserved.new.self.items (record { line = c.args.line; actor = c.args.actor; call = Lose c.args.u c.args.c c.args.up c.args.down })
+    c.push_reserved.ensures.items c.in_ok-reserve_call.ensures.items
 
 -- and its entry and the cut come onto the past
 past : (c : After-lose) → c.lose.new.self.past ≡ onto c.self.inside.history.past (Called c.args.line c.args.actor Fine ∷ cut c.self.inside.history.past c.args.c c.args.up c.args.down ∷ [])
@@ -50,22 +49,14 @@ write-requires-clause-sendable c = ap are_sendable c.in_ok-reserve.ensures.same 
 
 pub write-requires-clause-stopped : goal.write-requires-clause-stopped
 write-requires-clause-stopped c =
-    let i = c.self.inside in
-    c.is_stopped.ensures ∙ stopped_is i.transaction (world_of i.calls.items i.history.past) i.half i.core c.reserve.new.self.past c.self.invariant.kept c.in_ok-reserve.ensures.same
+    c.is_stopped.ensures ∙ stopped_is c.self.invariant.kept c.in_ok-reserve.ensures.same
 
 pub invariant_of-self-2 : goal.invariant_of-self-2
 invariant_of-self-2 c =
-    let i = c.self.inside in
     let b = (goal.at.invariant_of-self-2 c).After-is_stopped in
-    let r = ready b 0 in
-    let w = world_of i.calls.items i.history.past in
-    let m = (Calls c.args.line c.args.actor (Lose c.args.u c.args.c c.args.up c.args.down) 0) in
-    let wrote = past c ∙ ap (onto i.history.past) r.block in
-    whole_on i.transaction w m c.self.invariant refl (silent_kept i.transaction w m r.kept r.silent (calls b 0) wrote) wrote
+    written_whole (linked_written (ready b 0) refl (calls b 0) (past c)) c.self.invariant
 
 pub returns-clause-done : goal.returns-clause-done
 returns-clause-done c m =
-    let i = c.self.inside in
     let b = (goal.at.returns-clause-done c).After-is_stopped in
-    let r = ready b m in
-    alone_done i.transaction (world_of i.calls.items i.history.past) (Calls c.args.line c.args.actor (Lose c.args.u c.args.c c.args.up c.args.down) m) i.at_log c.args.self.now r.silent (calls b m) (past c ∙ ap (onto i.history.past) r.block) c.self.view_is
+    written_done c.self.inside.at_log c.args.self.now (linked_written (ready b m) refl (calls b m) (past c)) c.self.view_is

@@ -10,9 +10,8 @@ use Rattle.world_laws.specs.Carried.{are_sendable}
 use Rattle.tx_world.specs.State.{TxState, may_enter}
 use Rattle.tx_world.proofs.Calling.{with_call}
 use Rattle.tx_world.proofs.Linking.{Linked, recovered}
-use Rattle.tx_world.proofs.Living.{whole_on}
-use Rattle.tx_world.proofs.Unlogged.{alone_done}
-use Rattle.tx_world.proofs.Written.{silent_kept, stopped_is, world_of}
+use Rattle.tx_world.proofs.Silently.{linked_written, written_done, written_whole}
+use Rattle.tx_world.proofs.Written.{stopped_is, world_of}
 use Rattle.tx_world.proofs.world.TxWorld.enter_recovered.Goals.{After-recovery_over, After-write}
 use Rattle.tx_world.proofs.world.TxWorld.enter_recovered.Goals as goal
 
@@ -30,8 +29,8 @@ ready c m =
 -- it is the newest
 calls : (c : After-recovery_over) (m : ℕ) → past_of c.push_reserved.new.self.items ≡ entered (Calls c.args.line c.args.actor (Recovered c.args.u c.args.r) m) (past_of c.self.inside.calls.items)
 calls c m =
-    with_call c.self.inside.calls.items c.reserve-2.new.self.items c.push_reserved.new.self.items (record { line = c.args.line; actor = c.args.actor; call = Recovered c.args.u c.args.r }) c.push_reserved.ensures.items
-    c.in_ok-reserve-2.ensures.items
+    with_call c.self.inside.calls.items c.reserve_call.new.calls.items c.push_reserved.new.self.items (record { line = c.args.line; actor = c.args.actor; call = Recovered c.args.u c.args.r }) c.push_reserved.ensures.items
+    c.in_ok-reserve_call.ensures.items
 
 -- and its block comes onto the past
 past : (c : After-write) → c.write.new.self.past ≡ onto c.self.inside.history.past (Called c.args.line c.args.actor Fine ∷ RecoveredEntry c.args.r ∷ [])
@@ -44,22 +43,14 @@ write-requires-clause-sendable c =
 
 pub write-requires-clause-stopped : goal.write-requires-clause-stopped
 write-requires-clause-stopped c =
-    let i = c.self.inside in
-    c.is_stopped-stopped.ensures ∙ stopped_is i.transaction (world_of i.calls.items i.history.past) i.half i.core c.reserve.new.self.past c.self.invariant.kept c.in_ok-reserve.ensures.same
+    c.is_stopped-stopped.ensures ∙ stopped_is c.self.invariant.kept c.in_ok-reserve.ensures.same
 
 pub invariant_of-self-2 : goal.invariant_of-self-2
 invariant_of-self-2 c =
-    let i = c.self.inside in
     let b = (goal.at.invariant_of-self-2 c).After-recovery_over in
-    let r = ready b 0 in
-    let w = world_of i.calls.items i.history.past in
-    let m = (Calls c.args.line c.args.actor (Recovered c.args.u c.args.r) 0) in
-    let wrote = past c ∙ ap (onto i.history.past) r.block in
-    whole_on i.transaction w m c.self.invariant refl (silent_kept i.transaction w m r.kept r.silent (calls b 0) wrote) wrote
+    written_whole (linked_written (ready b 0) refl (calls b 0) (past c)) c.self.invariant
 
 pub returns-clause-done : goal.returns-clause-done
 returns-clause-done c m =
-    let i = c.self.inside in
     let b = (goal.at.returns-clause-done c).After-recovery_over in
-    let r = ready b m in
-    alone_done i.transaction (world_of i.calls.items i.history.past) (Calls c.args.line c.args.actor (Recovered c.args.u c.args.r) m) i.at_log c.args.self.now r.silent (calls b m) (past c ∙ ap (onto i.history.past) r.block) c.self.view_is
+    written_done c.self.inside.at_log c.args.self.now (linked_written (ready b m) refl (calls b m) (past c)) c.self.view_is

@@ -5,10 +5,9 @@ use Rattle.dtx_model.specs.Steps.{Calls, entered}
 use Rattle.dtx_model.specs.World.{answer_at}
 use Rattle.tx_world.specs.State.{TxState, may_enter}
 use Rattle.tx_world.proofs.Calling.{with_call}
-use Rattle.tx_world.proofs.Living.{whole_on}
 use Rattle.tx_world.proofs.Reenlisting.{Returned, fine_accepted, returns_back}
-use Rattle.tx_world.proofs.Unlogged.{alone_done}
-use Rattle.tx_world.proofs.Written.{silent_kept, stopped_is, world_of}
+use Rattle.tx_world.proofs.Silently.{block_written, written_done, written_whole}
+use Rattle.tx_world.proofs.Written.{stopped_is, world_of}
 use Rattle.tx_world.proofs.world.TxWorld.enter_returned.Goals.{After-is_stopped}
 use Rattle.tx_world.proofs.world.TxWorld.enter_returned.Goals as goal
 
@@ -27,8 +26,8 @@ ready c m =
 -- the call is the newest
 calls : (c : After-is_stopped) (m : ℕ) → past_of c.push_reserved.new.self.items ≡ entered (Calls c.args.line c.args.actor (Reenlist c.args.e) m) (past_of c.self.inside.calls.items)
 calls c m =
-    with_call c.self.inside.calls.items c.reserve-2.new.self.items c.push_reserved.new.self.items (record { line = c.args.line; actor = c.args.actor; call = Reenlist c.args.e }) c.push_reserved.ensures.items
-    c.in_ok-reserve-2.ensures.items
+    with_call c.self.inside.calls.items c.reserve_call.new.calls.items c.push_reserved.new.self.items (record { line = c.args.line; actor = c.args.actor; call = Reenlist c.args.e }) c.push_reserved.ensures.items
+    c.in_ok-reserve_call.ensures.items
 
 pub write_return-requires-clause-accepted : goal.write_return-requires-clause-accepted
 write_return-requires-clause-accepted c =
@@ -44,22 +43,14 @@ write-requires-clause-sendable c = (ready c 0).sendable
 
 pub write-requires-clause-stopped : goal.write-requires-clause-stopped
 write-requires-clause-stopped c =
-    let i = c.self.inside in
-    c.is_stopped.ensures ∙ stopped_is i.transaction (world_of i.calls.items i.history.past) i.half i.core c.reserve.new.self.past c.self.invariant.kept c.in_ok-reserve.ensures.same
+    c.is_stopped.ensures ∙ stopped_is c.self.invariant.kept c.in_ok-reserve.ensures.same
 
 pub invariant_of-self-2 : goal.invariant_of-self-2
 invariant_of-self-2 c =
-    let i = c.self.inside in
     let b = (goal.at.invariant_of-self-2 c).After-is_stopped in
-    let r = ready b 0 in
-    let w = world_of i.calls.items i.history.past in
-    let m = Calls c.args.line c.args.actor (Reenlist c.args.e) 0 in
-    let wrote = c.write.ensures.past ∙ r.past in
-    whole_on i.transaction w m c.self.invariant refl (silent_kept i.transaction w m r.ready.kept r.ready.silent (calls b 0) wrote) wrote
+    written_whole (block_written (ready b 0).ready refl (calls b 0) (c.write.ensures.past ∙ (ready b 0).past)) c.self.invariant
 
 pub returns-clause-done : goal.returns-clause-done
 returns-clause-done c m =
-    let i = c.self.inside in
     let b = (goal.at.returns-clause-done c).After-is_stopped in
-    let r = ready b m in
-    alone_done i.transaction (world_of i.calls.items i.history.past) (Calls c.args.line c.args.actor (Reenlist c.args.e) m) i.at_log c.args.self.now r.ready.silent (calls b m) (c.write.ensures.past ∙ r.past) c.self.view_is
+    written_done c.self.inside.at_log c.args.self.now (block_written (ready b m).ready refl (calls b m) (c.write.ensures.past ∙ (ready b m).past)) c.self.view_is

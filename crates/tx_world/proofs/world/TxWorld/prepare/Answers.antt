@@ -1,13 +1,14 @@
-use Rattle.tx_world.proofs.Prepared.{repeats, settles, steps_before}
+use Rattle.tx_world.proofs.Prepared.{repeats, settles, steps_before, where_failed}
 use Rattle.tx_world.proofs.world.TxWorld.prepare.Goals as goal
 
-pub returns-in-Do-clause-prepared : goal.returns-in-Do-clause-prepared
-returns-in-Do-clause-prepared g c =
-    repeats g.D.Disk.faults c.args.c.now _ _ _ _ c.args.self.now c.args.log.now c.repeat.new.self c.repeat.new.log c.repeat.result c.in-Do.is c.from.ensures c.repeat.ensures.repeated
+pub returns-in_ok-count-in-Do-clause-prepared : goal.returns-in_ok-count-in-Do-clause-prepared
+returns-in_ok-count-in-Do-clause-prepared g c =
+    repeats g.D.Disk.faults c.args.c.now _ _ _ _ _ _ c.args.self.now c.args.log.now c.repeat.new.self c.repeat.new.log c.in-Do.is c.from.ensures c.from-in-Do.ensures c.in_ok-count-in-Do.ensures.repeated
 
-pub returns-in-Do-clause-memory : goal.returns-in-Do-clause-memory
-returns-in-Do-clause-memory g c =
-    steps_before g.D.Disk.faults c.args.c.now _ _ c.args.self.now c.args.log.now c.repeat.new.self c.repeat.new.log c.repeat.result c.in-Do.is c.from.ensures c.repeat.ensures.memory
+pub returns-in_err-count-in-Do-clause-memory : goal.returns-in_err-count-in-Do-clause-memory
+returns-in_err-count-in-Do-clause-memory g c =
+    where_failed c.from_residual.result
+    (steps_before g.D.Disk.faults c.args.c.now _ _ c.args.self.now c.args.log.now c.repeat.new.self c.repeat.new.log c.in-Do.is c.from.ensures c.in_err-count-in-Do.ensures.memory)
 
 pub returns-in_ok-settle-in-Await-clause-prepared : goal.returns-in_ok-settle-in-Await-clause-prepared
 returns-in_ok-settle-in-Await-clause-prepared g c =
