@@ -138,7 +138,7 @@ fn demo_in<K: Sink, D: Disk + Send, G: Gate + Sync, R: Threads + Wait + Sync>(
     ensures unwritten { result.0 ≡ Exit.LogFault → sink.new ≡ sink.old }
     ensures room { LOG_BYTES ≤ D.size result.1 }
     ensures logs { IsTrue D.honest → result.0 ≢ Exit.LogFault → (result.1 ≡ disk) ⊎ AreOwnLogs (D.image result.1) }
-    ensures given_up_whole { IsTrue D.honest → result.0 ≡ Exit.Memory → MetNoFault D.faults disk result.1 → HasNoLogLine (Some (gen n)) → (result.1 ≡ disk) ⊎ IsLog (D.image result.1) }
+    ensures given_up_whole { IsTrue D.honest → result.0 ≡ Exit.Memory → MetNoFault D.faults disk result.1 → (result.1 ≡ disk) ⊎ IsLog (D.image result.1) }
 {
     // This does nothing when it runs. It brings in that the made bytes, which are a script, are never bad.
     reads_exactly();
@@ -237,7 +237,7 @@ pub fn run_program<S: Source, K: Sink, D: Disk + Send, G: Gate + Sync, R: Thread
     ensures room { LOG_BYTES ≤ D.size result.1 }
     ensures logs { IsTrue D.honest → result.0 ≢ Exit.LogFault → (result.1 ≡ disk) ⊎ AreOwnLogs (D.image result.1) }
     ensures given_up_whole { AsksReplay (map string_bytes words.now) → IsTrue D.honest → result.0 ≡ Exit.Memory → MetNoFault D.faults disk result.1 → HasNoLogLine (S.left source.old) → (result.1 ≡ disk) ⊎ IsLog (D.image result.1) }
-    ensures demo_whole { (n : ℕ) → Asks (map string_bytes words.now) (Command.Demo n) → IsTrue D.honest → result.0 ≡ Exit.Memory → MetNoFault D.faults disk result.1 → HasNoLogLine (Some (gen n)) → (result.1 ≡ disk) ⊎ IsLog (D.image result.1) }
+    ensures demo_whole { (n : ℕ) → Asks (map string_bytes words.now) (Command.Demo n) → IsTrue D.honest → result.0 ≡ Exit.Memory → MetNoFault D.faults disk result.1 → (result.1 ≡ disk) ⊎ IsLog (D.image result.1) }
     ensures untouched { (result.0 ≡ Exit.Usage) ⊎ ((result.0 ≡ Exit.ReadFault) ⊎ IsJudged result.0) → result.1 ≡ disk }
 {
     match command_of(words) {

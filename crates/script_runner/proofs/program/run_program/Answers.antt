@@ -2,7 +2,6 @@ use Rattle.std.proofs.Common.{◌≡◌, ◌∙◌, ℕ, inl, inr, map, refl, su
 use Rattle.std.specs.String.{string_bytes}
 use Rattle.program_words.specs.Commands.{Asks}
 use Rattle.script_maker.specs.Gen.{gen}
-use Rattle.script_runner.specs.Program.{HasNoLogLine}
 use Rattle.script_runner.specs.declared.exit.Exit.TheVariants.{NotThreadable, Usage}
 use Rattle.program_words.specs.declared.command.Command.TheVariants.{Replay, Make, Demo, Threads}
 use Rattle.program_words.specs.declared.command.Form.{Form}
@@ -153,9 +152,7 @@ returns-in-Some-Demo-clause-demo_answers g c n asks =
     c.demo_in.ensures.answers
 
 pub returns-in-Some-Demo-clause-demo_whole : goal.returns-in-Some-Demo-clause-demo_whole
-returns-in-Some-Demo-clause-demo_whole g c n asks h memory calm none =
-    let same : n ≡ c.in-Some-Demo.n = demo_same n c.in-Some-Demo.n (c.in-Some-Demo.ensures.one (Demo n) _ asks c.in-Some-Demo.ensures.some ∙ c.in-Some-Demo.field-0-is) in
-    c.demo_in.ensures.given_up_whole h memory calm (subst (λ (m : ℕ). HasNoLogLine (Some (gen m))) same none)
+returns-in-Some-Demo-clause-demo_whole g c n asks h memory calm = c.demo_in.ensures.given_up_whole h memory calm
 
 pub returns-in-Some-Demo-clause-read : goal.returns-in-Some-Demo-clause-read
 returns-in-Some-Demo-clause-read g c asks =
