@@ -5,8 +5,6 @@
 #[cfg(test)]
 mod boards;
 #[cfg(test)]
-mod calls;
-#[cfg(test)]
 mod flags;
 #[cfg(test)]
 mod gates;
@@ -18,5 +16,7 @@ mod runs;
 mod scripts;
 #[cfg(test)]
 mod slow_disk;
+#[cfg(test)]
+mod stages;
 #[cfg(test)]
 mod turns;
