@@ -26,7 +26,7 @@ pub fn disk(alloc: Global, fail: &[u64]) -> Result<MemDisk, AllocError>
 }
 
 /// Runs the program on these words, with a gate that holds nothing, and no objects. It answers a fault of the source, the disk or the sink only where its count rose.
-pub fn run_open<S: Source, K: Sink, D: Disk + Send, R: Threads + Wait + Sync>(
+pub fn run_open<S: Source, K: Sink, D: Disk + Drop + Send, R: Threads + Wait + Sync>(
     rt: &R,
     alloc: Global,
     given: &[&str],

@@ -41,7 +41,7 @@ impl Resource for Recorder {
 }
 
 /// The object of manager 1 that gives this answer, alone; and what it heard.
-fn recorder(
+fn one_object(
     alloc: Global,
     answer: Option<Reply>,
 ) -> Result<(Vec<Box<dyn Resource + Send>>, Arc<AtomicU64, Global>), AllocError> {
@@ -59,7 +59,7 @@ fn recorder(
 fn replayed(alloc: Global, text: &str, answer: Option<Reply>) -> Result<(Trace, u64), Fail> {
     let script = threadable(alloc, text.as_bytes())?;
     let mut log = sure_log(alloc)?;
-    let (mut objects, heard) = recorder(alloc, answer)?;
+    let (mut objects, heard) = one_object(alloc, answer)?;
     let trace = run_replay(alloc, &script, &mut log, objects.as_mut_slice())?;
     Ok((trace, heard.load(Ordering::SeqCst)))
 }
@@ -74,7 +74,7 @@ fn ran<R: Threads + Wait + Sync>(
 ) -> Result<(Trace, u64), Fail> {
     let script = threadable(alloc, text.as_bytes())?;
     let log = sure_log(alloc)?;
-    let (objects, heard) = recorder(alloc, Some(Reply::Vote(vote)))?;
+    let (objects, heard) = one_object(alloc, Some(Reply::Vote(vote)))?;
     let (trace, _disk) = run_threads(rt, alloc, &script, helpers, log, &OpenGate, objects);
     let Ok(trace) = trace else {
         return Err("no trace".into());
