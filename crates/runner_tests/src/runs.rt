@@ -3,7 +3,6 @@ ghost use Rattle.std.specs.Prelude.{◌≡◌, ◌≤◌, length, true, IfOk, Is
 ghost use Rattle.dtx_model.specs.Grammar.{IsScript};
 ghost use Rattle.dtx_values.specs.RecoveryInfo.{is_id};
 ghost use Rattle.outside.specs.Faults.{Rose};
-ghost use Rattle.script_runner.specs.declared.exit.Exit.{Exit};
 
 use coordinator_log::{Log, LogRefusal};
 use dtx_values::{EnlNo, LogRecord, Resource, RmNo};

@@ -1,5 +1,5 @@
 //! The whole of one transaction that is promoted, as text.
-ghost use Rattle.std.specs.Prelude.{◌≡◌, [], IfOk, IsTrue};
+ghost use Rattle.std.specs.Prelude.{◌≡◌, [], true, IfOk, IsTrue};
 ghost use Rattle.dtx_model.specs.Caused.{MayAnswer};
 ghost use Rattle.tx_world.specs.State.{may_enter};
 ghost use Rattle.dtx_model.specs.Steps.{pending};
