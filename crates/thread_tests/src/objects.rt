@@ -40,26 +40,26 @@ impl Resource for Recorder {
     }
 }
 
-/// The object of manager 1 that gives this answer, alone; and what it heard.
-fn one_object(
+/// An object that gives this answer, and what it will have heard.
+fn recording(
     alloc: Global,
     answer: Option<Reply>,
-) -> Result<(Vec<Box<dyn Resource + Send>>, Arc<AtomicU64, Global>), AllocError> {
+) -> Result<(Recorder, Arc<AtomicU64, Global>), AllocError> {
     let heard = Arc::new(alloc, AtomicU64::new(0))?;
     let recorder = Recorder {
         answer,
         heard: Arc::try_clone(&heard)?,
     };
-    let mut objects: Vec<Box<dyn Resource + Send>> = Vec::new(alloc);
-    objects.push(Box::new(alloc, recorder)?)?;
-    Ok((objects, heard))
+    Ok((recorder, heard))
 }
 
 /// Replays a script over an empty log, where manager 1 has an object that answers so: the trace, and what the object heard.
 fn replayed(alloc: Global, text: &str, answer: Option<Reply>) -> Result<(Trace, u64), Fail> {
     let script = threadable(alloc, text.as_bytes())?;
     let mut log = sure_log(alloc)?;
-    let (mut objects, heard) = one_object(alloc, answer)?;
+    let (recorder, heard) = recording(alloc, answer)?;
+    let mut objects: Vec<Box<dyn Resource + Send>> = Vec::new(alloc);
+    objects.push(Box::new(alloc, recorder)?)?;
     let trace = run_replay(alloc, &script, &mut log, objects.as_mut_slice())?;
     Ok((trace, heard.load(Ordering::SeqCst)))
 }
@@ -74,7 +74,9 @@ fn ran<R: Threads + Wait + Sync>(
 ) -> Result<(Trace, u64), Fail> {
     let script = threadable(alloc, text.as_bytes())?;
     let log = sure_log(alloc)?;
-    let (objects, heard) = one_object(alloc, Some(Reply::Vote(vote)))?;
+    let (recorder, heard) = recording(alloc, Some(Reply::Vote(vote)))?;
+    let mut objects: Vec<Box<dyn Resource + Send>> = Vec::new(alloc);
+    objects.push(Box::new(alloc, recorder)?)?;
     let (trace, _disk) = run_threads(rt, alloc, &script, helpers, log, &OpenGate, objects);
     let Ok(trace) = trace else {
         return Err("no trace".into());
