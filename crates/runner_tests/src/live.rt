@@ -4,7 +4,7 @@ use crate::printed::{
     TAKEN, TAKEN_TOO_LATE, history_of, output, prints, trace_of,
 };
 use dtx_model::{Verdict, judge};
-use dtx_values::{ActorNo, Answer, Entry, Outcome, Party};
+use dtx_values::{ActorNo, Answer, Entry, Outcome, Party, TxNo};
 use std::alloc::{AllocError, Global};
 use std::process::Abort;
 use std::sync::Wait;
@@ -343,7 +343,8 @@ fn history<R: Abort + Threads + Wait + Sync>(
 ) -> Result<Vec<Entry>, AllocError> {
     let (sink, _disk) = output(rt, alloc, script, &[])?;
     let trace = trace_of(rt, alloc, &sink);
-    let history = history_of(rt, alloc, &trace, 1)?;
+    let t = TxNo::new(1).expect(rt, "no such transaction");
+    let history = history_of(alloc, &trace, t)?;
     assert_eq!(rt; history.len(), trace.len(), "at {script}");
     Ok(history)
 }

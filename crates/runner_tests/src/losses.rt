@@ -4,7 +4,7 @@ use crate::printed::{
     prints, trace_of,
 };
 use dtx_model::{Verdict, judge};
-use dtx_values::{Entry, Outcome, Party};
+use dtx_values::{Entry, Outcome, Party, TxNo};
 use std::alloc::{AllocError, Global};
 use std::process::Abort;
 use std::sync::Wait;
@@ -217,7 +217,8 @@ fn told<R: Abort + Threads + Wait + Sync>(
     let trace = trace_of(rt, alloc, &sink);
     let mut came = String::from_str(alloc, "")?;
     for k in 1..=last {
-        let history = history_of(rt, alloc, &trace, k)?;
+        let t = TxNo::new(u32::from(k)).expect(rt, "no such transaction");
+        let history = history_of(alloc, &trace, t)?;
         let h = history.as_slice();
         assert_eq!(rt; judge(h), Verdict::Fine, "transaction {k} of {script}");
         came.push_str(letter(h))?;

@@ -163,14 +163,8 @@ pub fn trace_of(rt: &impl Abort, alloc: Global, printed: &SureSink) -> Trace {
     trace
 }
 
-/// The history of transaction k in a trace.
-pub fn history_of(
-    rt: &impl Abort,
-    alloc: Global,
-    trace: &Trace,
-    k: u16,
-) -> Result<Vec<Entry>, AllocError> {
-    let t = TxNo::new(u32::from(k)).expect(rt, "no such transaction");
+/// The history of a transaction in a trace.
+pub fn history_of(alloc: Global, trace: &Trace, t: TxNo) -> Result<Vec<Entry>, AllocError> {
     let mut history = Vec::new(alloc);
     for i in 0..trace.len() {
         let (place, entry) = trace.at(i);

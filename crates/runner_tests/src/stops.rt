@@ -6,7 +6,7 @@ use crate::printed::{
 };
 use crate::runs::found;
 use dtx_model::{Verdict, judge};
-use dtx_values::Entry;
+use dtx_values::{Entry, TxNo};
 use std::alloc::{AllocError, Global};
 use std::process::Abort;
 use std::sync::Wait;
@@ -234,11 +234,12 @@ fn a_fault_at_each_call_of_the_disk_stops_the_log(rt: HostRuntime) -> Result<(),
         (9, true),
         (10, false),
     ];
+    let t = TxNo::new(1).expect(&rt, "no such transaction");
     let script = format!(in rt.alloc(); "{BEFORE}{AFTER}")?;
     for (call, wanted) in cases {
         let (sink, disk) = output(&rt, rt.alloc(), script.as_str(), &[call])?;
         let trace = trace_of(&rt, rt.alloc(), &sink);
-        let history = history_of(&rt, rt.alloc(), &trace, 1)?;
+        let history = history_of(rt.alloc(), &trace, t)?;
         assert_eq!(rt; restarted(&history), Some(wanted), "at call {call}");
         assert_eq!(rt; judge(history.as_slice()), Verdict::Fine, "at call {call}");
         // Whoever acknowledged before the stop doesn't come back: such a record stays.
