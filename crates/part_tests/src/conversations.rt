@@ -19,8 +19,13 @@ fn manager(rt: &impl Abort, n: u32) -> RmNo {
     RmNo::new(n).expect(rt, "no such number")
 }
 
-fn core(rt: &impl Abort) -> Core {
-    Core::new(TxNo::new(1).expect(rt, "no such number"))
+/// What enlistment 1 of manager 1 tells of itself.
+fn info(rt: &impl Abort) -> Info {
+    Info {
+        id: ID,
+        rm: manager(rt, 1),
+        enl: enl(rt, 1),
+    }
 }
 
 /// Compares what is sent.
@@ -41,50 +46,66 @@ fn converse(rt: &impl Abort, core: &mut Core, out: &mut Outbox, exchanges: &[Exc
     }
 }
 
+/// A transaction that its client has begun.
+fn begun(rt: &impl Abort, out: &mut Outbox) -> Core {
+    let mut core = Core::new(TxNo::new(1).expect(rt, "no such number"));
+    assert_eq!(rt; core.act(), None);
+    let begun = [(Conn::Begin, Message::BeginBegun(ID))];
+    converse(
+        rt,
+        &mut core,
+        out,
+        &[(Conn::Begin, Message::BeginBegin, &begun)],
+    );
+    core
+}
+
+/// A transaction that its client has begun, and whose local side is a voter.
+fn voting(rt: &impl Abort, out: &mut Outbox) -> Core {
+    let mut core = begun(rt, out);
+    let created = [(Conn::Voter, Message::VoterCreated)];
+    converse(
+        rt,
+        &mut core,
+        out,
+        &[(Conn::Voter, Message::VoterVoter(ID), &created)],
+    );
+    core
+}
+
+/// The client asks for the commit, this is sent, and the local side votes yes.
+fn commit(rt: &impl Abort, core: &mut Core, out: &mut Outbox, asked: &[(Conn, Message)]) {
+    converse(
+        rt,
+        core,
+        out,
+        &[
+            (Conn::Begin, Message::BeginCommit, asked),
+            (Conn::Voter, Message::VoterYes, &[]),
+        ],
+    );
+}
+
 #[test]
 fn all_votes_are_appended_told_and_freed(rt: HostRuntime) -> Result<(), Fail> {
     let e1 = enl(&rt, 1);
     let r1 = manager(&rt, 1);
-    let info = Info {
-        id: ID,
-        rm: r1,
-        enl: e1,
-    };
+    let info = info(&rt);
     let x = Conn::Enl(e1);
-    let mut core = core(&rt);
     let mut out = Outbox::with_room(rt.alloc())?;
-    assert_eq!(rt; core.act(), None);
+    let mut core = voting(&rt, &mut out);
+    let enlisted = [(x, Message::EnlistEnlisted)];
     converse(
         &rt,
         &mut core,
         &mut out,
-        &[
-            (
-                Conn::Begin,
-                Message::BeginBegin,
-                &[(Conn::Begin, Message::BeginBegun(ID))],
-            ),
-            (
-                Conn::Voter,
-                Message::VoterVoter(ID),
-                &[(Conn::Voter, Message::VoterCreated)],
-            ),
-            (
-                x,
-                Message::EnlistEnlist(info),
-                &[(x, Message::EnlistEnlisted)],
-            ),
-            (
-                Conn::Begin,
-                Message::BeginCommit,
-                &[
-                    (Conn::Voter, Message::VoterAsk),
-                    (x, Message::EnlistPrepare),
-                ],
-            ),
-            (Conn::Voter, Message::VoterYes, &[]),
-        ],
+        &[(x, Message::EnlistEnlist(info), &enlisted)],
     );
+    let asked = [
+        (Conn::Voter, Message::VoterAsk),
+        (x, Message::EnlistPrepare),
+    ];
+    commit(&rt, &mut core, &mut out, &asked);
     assert_eq!(rt; core.act(), None);
     converse(
         &rt,
@@ -119,31 +140,10 @@ fn all_votes_are_appended_told_and_freed(rt: HostRuntime) -> Result<(), Fail> {
 
 #[test]
 fn a_full_log_aborts(rt: HostRuntime) -> Result<(), Fail> {
-    let mut core = core(&rt);
     let mut out = Outbox::with_room(rt.alloc())?;
-    converse(
-        &rt,
-        &mut core,
-        &mut out,
-        &[
-            (
-                Conn::Begin,
-                Message::BeginBegin,
-                &[(Conn::Begin, Message::BeginBegun(ID))],
-            ),
-            (
-                Conn::Voter,
-                Message::VoterVoter(ID),
-                &[(Conn::Voter, Message::VoterCreated)],
-            ),
-            (
-                Conn::Begin,
-                Message::BeginCommit,
-                &[(Conn::Voter, Message::VoterAsk)],
-            ),
-            (Conn::Voter, Message::VoterYes, &[]),
-        ],
-    );
+    let mut core = voting(&rt, &mut out);
+    let asked = [(Conn::Voter, Message::VoterAsk)];
+    commit(&rt, &mut core, &mut out, &asked);
     assert_eq!(rt; core.act(), Some(CoreAct::WriteRecord(LogRecord::new(ID))));
     out.clear();
     assert!(rt; core.may_log());
@@ -164,25 +164,8 @@ fn a_full_log_aborts(rt: HostRuntime) -> Result<(), Fail> {
 #[test]
 fn an_early_end_aborts(rt: HostRuntime) -> Result<(), Fail> {
     for is_message in [false, true] {
-        let mut core = core(&rt);
         let mut out = Outbox::with_room(rt.alloc())?;
-        converse(
-            &rt,
-            &mut core,
-            &mut out,
-            &[
-                (
-                    Conn::Begin,
-                    Message::BeginBegin,
-                    &[(Conn::Begin, Message::BeginBegun(ID))],
-                ),
-                (
-                    Conn::Voter,
-                    Message::VoterVoter(ID),
-                    &[(Conn::Voter, Message::VoterCreated)],
-                ),
-            ],
-        );
+        let mut core = voting(&rt, &mut out);
         out.clear();
         if is_message {
             assert!(rt; core.has_room(Conn::Voter, Message::BeginCommit));
@@ -198,24 +181,15 @@ fn an_early_end_aborts(rt: HostRuntime) -> Result<(), Fail> {
 #[test]
 fn a_vote_no_aborts(rt: HostRuntime) -> Result<(), Fail> {
     let [e1, e2] = [1, 2].map(|n| enl(&rt, n));
-    let info = Info {
-        id: ID,
-        rm: manager(&rt, 1),
-        enl: e1,
-    };
+    let info = info(&rt);
     let (x, y, again) = (Conn::Enl(e1), Conn::Enl(e2), Conn::Again(e1));
-    let mut core = core(&rt);
     let mut out = Outbox::with_room(rt.alloc())?;
+    let mut core = begun(&rt, &mut out);
     converse(
         &rt,
         &mut core,
         &mut out,
         &[
-            (
-                Conn::Begin,
-                Message::BeginBegin,
-                &[(Conn::Begin, Message::BeginBegun(ID))],
-            ),
             (
                 x,
                 Message::EnlistEnlist(info),

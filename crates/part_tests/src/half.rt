@@ -6,7 +6,7 @@ use dtx_values::{
     Timeout, TxNo, Vote,
 };
 use local_half::LocalHalf;
-use std::alloc::AllocError;
+use std::alloc::{AllocError, Global};
 use std::process::Abort;
 use std::test::Fail;
 
@@ -85,6 +85,14 @@ fn hand(rt: &impl Abort, half: &mut LocalHalf, out: &mut Outbox) {
     assert_eq!(rt; half.due(), Some((e1, Note::Hand)));
 }
 
+/// A half whose commit is handed to e1.
+fn handed(rt: &impl Abort, alloc: Global, out: &mut Outbox) -> Result<LocalHalf, AllocError> {
+    let mut half = LocalHalf::new(alloc, transaction(rt))?;
+    begin(rt, &mut half, out);
+    hand(rt, &mut half, out);
+    Ok(half)
+}
+
 #[test]
 fn no_reply_is_due_before_anything_was_asked(rt: HostRuntime) -> Result<(), Fail> {
     let e1 = enl(&rt, 1);
@@ -102,9 +110,7 @@ fn no_reply_is_due_before_anything_was_asked(rt: HostRuntime) -> Result<(), Fail
 fn the_owner_decides_and_the_volatile_is_told(rt: HostRuntime) -> Result<(), Fail> {
     let [e1, e2] = [1, 2].map(|n| enl(&rt, n));
     let mut out = Outbox::with_room(rt.alloc())?;
-    let mut half = LocalHalf::new(rt.alloc(), transaction(&rt))?;
-    begin(&rt, &mut half, &mut out);
-    hand(&rt, &mut half, &mut out);
+    let mut half = handed(&rt, rt.alloc(), &mut out)?;
     let due = half.due_of(e1);
     assert_eq!(rt; due, Some(Note::Hand));
     out.clear();
@@ -132,9 +138,7 @@ fn the_owner_decides_and_the_volatile_is_told(rt: HostRuntime) -> Result<(), Fai
 fn a_lost_owner_leaves_it_in_doubt(rt: HostRuntime) -> Result<(), Fail> {
     let [e1, e2] = [1, 2].map(|n| enl(&rt, n));
     let mut out = Outbox::with_room(rt.alloc())?;
-    let mut half = LocalHalf::new(rt.alloc(), transaction(&rt))?;
-    begin(&rt, &mut half, &mut out);
-    hand(&rt, &mut half, &mut out);
+    let mut half = handed(&rt, rt.alloc(), &mut out)?;
     let stands = half.stands(e1);
     let is_gone = half.is_gone(e1);
     assert!(rt; stands);
@@ -297,28 +301,53 @@ fn the_conditions_of_calls_can_be_tested(rt: HostRuntime) -> Result<(), Fail> {
 /// The identifier of t1: node 1, count 1.
 const ID: u128 = 18_446_744_073_709_551_617;
 
-/// Takes a message, after which the half writes these entries, and sends those messages that they send.
-fn got(
-    rt: &impl Abort,
-    half: &mut LocalHalf,
-    out: &mut Outbox,
-    c: Conn,
-    m: Message,
-    want: &[Entry],
-) {
-    out.clear();
-    let fits = half.got(c, m, out);
-    assert!(rt; fits);
-    assert_eq!(rt; out.entries(), want);
+/// A message, and the entries that the half writes when it takes it.
+type Taken<'a> = (Conn, Message, &'a [Entry]);
+
+/// Takes each message in turn, and compares what is written.
+fn takes(rt: &impl Abort, half: &mut LocalHalf, out: &mut Outbox, messages: &[Taken]) {
+    for (at, (c, m, want)) in messages.iter().enumerate() {
+        out.clear();
+        let fits = half.got(*c, *m, out);
+        assert!(rt; fits, "at {at}");
+        assert_eq!(rt; out.entries(), *want, "at {at}");
+    }
 }
 
-/// The information in the ENLIST of e1 or e2, whose manager is r1.
-fn info(rt: &impl Abort, n: u32) -> Info {
-    Info {
+/// The coordinator has begun it, and the half becomes its voter.
+fn begun(rt: &impl Abort, half: &mut LocalHalf, out: &mut Outbox) {
+    let voter = [Entry::Sent(Conn::Voter, Dir::Up, Message::VoterVoter(ID))];
+    takes(
+        rt,
+        half,
+        out,
+        &[(Conn::Begin, Message::BeginBegun(ID), &voter)],
+    );
+}
+
+/// A half of which these calls of line 1 were made, each where it may be, with these answers.
+fn called(
+    rt: &impl Abort,
+    alloc: Global,
+    out: &mut Outbox,
+    calls: &[(Call, Answer)],
+) -> Result<LocalHalf, AllocError> {
+    let mut half = LocalHalf::new(alloc, transaction(rt))?;
+    for (c, answer) in calls {
+        assert_eq!(rt; call(rt, &mut half, c, out), *answer);
+    }
+    Ok(half)
+}
+
+/// The message by which e1 or e2, whose manager is r1, is enlisted.
+fn enlist(rt: &impl Abort, n: u32) -> Entry {
+    let enl = enl(rt, n);
+    let info = Info {
         id: ID,
         rm: RmNo::new(1).expect(rt, "no such number"),
-        enl: enl(rt, n),
-    }
+        enl,
+    };
+    Entry::Sent(Conn::Enl(enl), Dir::Up, Message::EnlistEnlist(info))
 }
 
 #[test]
@@ -326,11 +355,11 @@ fn a_marshal_call_gets_the_identifier(rt: HostRuntime) -> Result<(), Fail> {
     let t = transaction(&rt);
     let a = actor(&rt);
     let mut out = Outbox::with_room(rt.alloc())?;
-    let mut half = LocalHalf::new(rt.alloc(), t)?;
-    let began = call(&rt, &mut half, &Call::Begin(t, Timeout::Default), &mut out);
-    assert_eq!(rt; began, Answer::Fine);
-    let waits = call(&rt, &mut half, &Call::Marshal(t), &mut out);
-    assert_eq!(rt; waits, Answer::Wait);
+    let calls = [
+        (Call::Begin(t, Timeout::Default), Answer::Fine),
+        (Call::Marshal(t), Answer::Wait),
+    ];
+    let mut half = called(&rt, rt.alloc(), &mut out, &calls)?;
     let want = [
         Entry::Called(1, a, Answer::Wait),
         Entry::Promoting(Cause::Marshal),
@@ -341,27 +370,13 @@ fn a_marshal_call_gets_the_identifier(rt: HostRuntime) -> Result<(), Fail> {
     assert_eq!(rt; out.sends(), sent.as_slice());
     assert!(rt; !half.is_unpromoted());
     assert!(rt; !half.is_free(1, &Call::Status(t)));
-    let voter = [Entry::Sent(Conn::Voter, Dir::Up, Message::VoterVoter(ID))];
-    got(
-        &rt,
-        &mut half,
-        &mut out,
-        Conn::Begin,
-        Message::BeginBegun(ID),
-        &voter,
-    );
     let over = [
         Entry::Promoted(ID, Cause::Marshal),
         Entry::Answered(1, Answer::Id(ID)),
     ];
-    got(
-        &rt,
-        &mut half,
-        &mut out,
-        Conn::Voter,
-        Message::VoterCreated,
-        &over,
-    );
+    begun(&rt, &mut half, &mut out);
+    let messages = [(Conn::Voter, Message::VoterCreated, over.as_slice())];
+    takes(&rt, &mut half, &mut out, &messages);
     let id = call(&rt, &mut half, &Call::Marshal(t), &mut out);
     assert_eq!(rt; id, Answer::Id(ID));
     out.clear();
@@ -381,69 +396,29 @@ fn a_second_durable_waits_for_its_place(rt: HostRuntime) -> Result<(), Fail> {
     let rm = RmNo::new(1).expect(&rt, "no such number");
     let single = Support::SinglePhase(None, None);
     let mut out = Outbox::with_room(rt.alloc())?;
-    let mut half = LocalHalf::new(rt.alloc(), t)?;
-    let began = call(&rt, &mut half, &Call::Begin(t, Timeout::Default), &mut out);
-    assert_eq!(rt; began, Answer::Fine);
-    for (e, answer) in [(e1, Answer::Fine), (e2, Answer::Wait)] {
-        let durable = Call::Durable(t, e, rm, single);
-        if half.is_free(1, &durable) {
-            let given = call(&rt, &mut half, &durable, &mut out);
-            assert_eq!(rt; given, answer);
-        }
-    }
-    let voter = [Entry::Sent(Conn::Voter, Dir::Up, Message::VoterVoter(ID))];
-    got(
-        &rt,
-        &mut half,
-        &mut out,
-        Conn::Begin,
-        Message::BeginBegun(ID),
-        &voter,
-    );
-    let [i1, i2] = [1, 2].map(|n| info(&rt, n));
-    let first = [Entry::Sent(Conn::Enl(e1), Dir::Up, Message::EnlistEnlist(i1))];
-    got(
-        &rt,
-        &mut half,
-        &mut out,
-        Conn::Voter,
-        Message::VoterCreated,
-        &first,
-    );
-    let over = [
-        Entry::Promoted(ID, Cause::Second),
-        Entry::Sent(Conn::Enl(e2), Dir::Up, Message::EnlistEnlist(i2)),
+    let calls = [
+        (Call::Begin(t, Timeout::Default), Answer::Fine),
+        (Call::Durable(t, e1, rm, single), Answer::Fine),
+        (Call::Durable(t, e2, rm, single), Answer::Wait),
     ];
-    got(
-        &rt,
-        &mut half,
-        &mut out,
-        Conn::Enl(e1),
-        Message::EnlistEnlisted,
-        &over,
-    );
+    let mut half = called(&rt, rt.alloc(), &mut out, &calls)?;
+    begun(&rt, &mut half, &mut out);
+    let first = [enlist(&rt, 1)];
+    let over = [Entry::Promoted(ID, Cause::Second), enlist(&rt, 2)];
     let placed = [
         Entry::Enlisted(e2, Class::DurableSingle),
         Entry::Answered(1, Answer::Fine),
     ];
-    got(
-        &rt,
-        &mut half,
-        &mut out,
-        Conn::Enl(e2),
-        Message::EnlistEnlisted,
-        &placed,
-    );
+    let messages = [
+        (Conn::Voter, Message::VoterCreated, first.as_slice()),
+        (Conn::Enl(e1), Message::EnlistEnlisted, over.as_slice()),
+        (Conn::Enl(e2), Message::EnlistEnlisted, placed.as_slice()),
+    ];
+    takes(&rt, &mut half, &mut out, &messages);
     assert!(rt; half.is_accepted(e2));
     let told = [Entry::Told(Party::Enl(e2), Outcome::Committed)];
-    got(
-        &rt,
-        &mut half,
-        &mut out,
-        Conn::Enl(e2),
-        Message::EnlistCommit,
-        &told,
-    );
+    let commit = [(Conn::Enl(e2), Message::EnlistCommit, told.as_slice())];
+    takes(&rt, &mut half, &mut out, &commit);
     assert!(rt; half.may_be_due());
     assert_eq!(rt; half.due(), Some((e2, Note::Commit)));
     Ok(())

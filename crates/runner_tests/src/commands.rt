@@ -1,5 +1,5 @@
 //! The words of the program, each with what it writes.
-use crate::runs::{disk, run_open, unwritten, words};
+use crate::runs::{disk, run_open, unwritten};
 use outside::{SureSink, SureSource};
 use script_runner::Exit;
 use std::alloc::{AllocError, Global};
@@ -15,10 +15,10 @@ fn written<R: Abort + Threads + Wait + Sync>(
     given: &[&str],
     script: &str,
 ) -> Result<SureSink, AllocError> {
-    let words = words(alloc, given)?;
     let mut source = SureSource::new(Vec::from_slice(alloc, script.as_bytes())?);
     let mut sink = SureSink::new(alloc);
-    let (exit, _disk) = run_open(rt, alloc, &words, &mut source, &mut sink, disk(alloc, &[])?);
+    let disk = disk(alloc, &[])?;
+    let (exit, _disk) = run_open(rt, alloc, given, &mut source, &mut sink, disk)?;
     assert_eq!(rt; exit, Exit::Fine, "with {given:?}");
     Ok(sink)
 }

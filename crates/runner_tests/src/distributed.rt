@@ -1,8 +1,8 @@
 //! Runs of the top call in which transaction 1 goes to the coordinator before it has a durable, and the disk of the log may fail: what they print, and what the log has
 //! after them.
 use crate::printed::{
-    ALL_ASKED, E1_ASKED, E1_HEARS, E1_YES, FREED, LOCAL_YES, LOGGED, MARSHALLED, Part, TAKEN,
-    prints,
+    ALL_ASKED, E1_ASKED, E1_HEARS, E1_YES, FREED, IN_DOUBT, LOCAL_YES, LOGGED, MARSHALLED, Part,
+    STOPPED, TAKEN, prints,
 };
 use coordinator_log::LogRefusal;
 use std::alloc::{AllocError, Global};
@@ -73,18 +73,6 @@ const VOTED_NO: [&str; 9] = [
     "decided aborted",
     "told client aborted",
     "got v down abort",
-];
-
-/// The log stops, or the coordinator of a transaction.
-const STOPPED: [&str; 1] = ["stopped"];
-
-/// The connections of a transaction end that had voted yes, and the outcome is in doubt.
-const IN_DOUBT: [&str; 5] = [
-    "down b down",
-    "down v down",
-    "decided indoubt",
-    "told client indoubt",
-    "down e1 down",
 ];
 
 /// Those of one that had its outcome.

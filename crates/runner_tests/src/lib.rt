@@ -11,8 +11,6 @@ mod live;
 #[cfg(test)]
 mod losses;
 #[cfg(test)]
-mod objects;
-#[cfg(test)]
 mod printed;
 #[cfg(test)]
 mod runs;

@@ -1,16 +1,15 @@
 //! Live promotion: a transaction goes to the coordinator while its clients enlist, commit, roll back and wait.
 use crate::printed::{
-    ALL_ASKED, E1_ASKED, E1_HEARS, E1_YES, FREED, LOCAL_YES, LOGGED, MARSHALLED, Part, TAKEN,
-    TAKEN_TOO_LATE, output, prints,
+    ALL_ASKED, E1_ASKED, E1_HEARS, E1_YES, FREED, LOCAL_YES, LOGGED, MARSHALLED, OWNED, Part,
+    TAKEN, TAKEN_TOO_LATE, history_of, output, prints, trace_of,
 };
 use dtx_model::{Verdict, judge};
-use dtx_values::{ActorNo, Answer, Entry, Outcome, Party};
+use dtx_values::{ActorNo, Answer, Entry, Outcome, Party, TxNo};
 use std::alloc::{AllocError, Global};
 use std::process::Abort;
 use std::sync::Wait;
 use std::test::Fail;
 use std::thread::Threads;
-use trace_text::read_trace;
 
 /// A durable is the owner; while phase zero is under way, a voter of it enlists a second one.
 const WAVE: &str = "a1 begin t1 default\na1 volatile t1 e1 during yes\n\
@@ -24,12 +23,16 @@ const SECOND: &str = "a1 begin t1 default\na1 durable t1 e1 r1 single yes commit
 
 const MEANWHILE: &str = "a3 commit t1\na4 durable t1 e3 r3 two yes\n";
 
-/// The calls of the first, with one step between them: the voter is asked.
-const WAVE_CALLS: [&str; 14] = [
+/// Enlistment 1 is a voter of phase zero.
+const ZERO_ENLISTED: [&str; 4] = [
     "call 1 a1 ok",
     "began 60000",
     "call 2 a1 ok",
     "enlisted e1 zero",
+];
+
+/// The calls of the first after that, with one step between them: the voter is asked.
+const WAVE_CALLS: [&str; 10] = [
     "call 3 a1 ok",
     "enlisted e2 single",
     "call 4 a1 ok",
@@ -109,12 +112,8 @@ const BOTH_HEAR: [&str; 10] = [
     "got e3 up ack",
 ];
 
-/// The calls of the second, with two steps between them.
-const SECOND_CALLS: [&str; 15] = [
-    "call 1 a1 ok",
-    "began 60000",
-    "call 2 a1 ok",
-    "enlisted e1 single",
+/// The calls of the second after it has its owner, with two steps between them.
+const SECOND_CALLS: [&str; 11] = [
     "call 3 a2 wait",
     "promoting second",
     "sent b up begin",
@@ -179,13 +178,17 @@ const ROLLED_BACK: [&str; 6] = [
     "told client aborted",
 ];
 
-/// A promotable is asked to promote; the client asks for the commit meanwhile.
-const PROMOTABLE_CALLS: [&str; 12] = [
+/// Enlistment 1 is a promotable.
+const PROMOTABLE_ENLISTED: [&str; 5] = [
     "call 1 a1 ok",
     "began 60000",
     "call 2 a1 true",
     "enlisted e1 promotable",
     "init e1",
+];
+
+/// It is asked to promote; the client asks for the commit meanwhile.
+const PROMOTABLE_CALLS: [&str; 7] = [
     "call 3 a1 wait",
     "promoting marshal",
     "call 4 a1 ok",
@@ -209,12 +212,7 @@ const PROMOTABLE_PROMOTED: [&str; 9] = [
 ];
 
 /// A promotable can't be promoted.
-const NOT_PROMOTED: [&str; 17] = [
-    "call 1 a1 ok",
-    "began 60000",
-    "call 2 a1 true",
-    "enlisted e1 promotable",
-    "init e1",
+const NOT_PROMOTED: [&str; 12] = [
     "call 3 a1 ok",
     "enlisted e2 one",
     "call 4 a1 wait",
@@ -230,11 +228,7 @@ const NOT_PROMOTED: [&str; 17] = [
 ];
 
 /// A volatile's vote ends the promotion that is under way.
-const VOTED_NO: [&str; 15] = [
-    "call 1 a1 ok",
-    "began 60000",
-    "call 2 a1 ok",
-    "enlisted e1 zero",
+const VOTED_NO: [&str; 11] = [
     "call 3 a1 ok",
     "commit",
     "call 4 a1 wait",
@@ -257,7 +251,8 @@ type Case = (
 );
 
 /// What the first prints, what the second does, and what a promoted promotable has.
-const WAVE_WHOLE: [&[&str]; 9] = [
+const WAVE_WHOLE: [&[&str]; 10] = [
+    &ZERO_ENLISTED,
     &WAVE_CALLS,
     &TAKEN,
     &WAVE_PROMOTED,
@@ -269,7 +264,8 @@ const WAVE_WHOLE: [&[&str]; 9] = [
     &FREED,
 ];
 
-const SECOND_WHOLE: [&[&str]; 12] = [
+const SECOND_WHOLE: [&[&str]; 13] = [
+    &OWNED,
     &SECOND_CALLS,
     &SECOND_PROMOTED,
     &ALL_ASKED,
@@ -284,7 +280,8 @@ const SECOND_WHOLE: [&[&str]; 12] = [
     &FREED,
 ];
 
-const PROMOTABLE_WHOLE: [&[&str]; 10] = [
+const PROMOTABLE_WHOLE: [&[&str]; 11] = [
+    &PROMOTABLE_ENLISTED,
     &PROMOTABLE_CALLS,
     &TAKEN,
     &PROMOTABLE_PROMOTED,
@@ -319,8 +316,13 @@ const CASES: [Case; 6] = [
         &[&MARSHALLED, &ROLLED_BACK, &TAKEN_TOO_LATE],
     ),
     (PROMOTES, "", "", &PROMOTABLE_WHOLE),
-    (FAILS, "", "", &[&NOT_PROMOTED]),
-    (VETOES, "", "", &[&VOTED_NO, &TAKEN_TOO_LATE]),
+    (FAILS, "", "", &[&PROMOTABLE_ENLISTED, &NOT_PROMOTED]),
+    (
+        VETOES,
+        "",
+        "",
+        &[&ZERO_ENLISTED, &VOTED_NO, &TAKEN_TOO_LATE],
+    ),
 ];
 
 #[test]
@@ -340,14 +342,10 @@ fn history<R: Abort + Threads + Wait + Sync>(
     script: &str,
 ) -> Result<Vec<Entry>, AllocError> {
     let (sink, _disk) = output(rt, alloc, script, &[])?;
-    let Ok(trace) = read_trace(alloc, sink.bytes()) else {
-        panic!(rt; "what was printed isn't a trace");
-    };
-    let mut history = Vec::new(alloc);
-    for i in 0..trace.len() {
-        let (_place, entry) = trace.at(i);
-        history.push(entry)?;
-    }
+    let trace = trace_of(rt, alloc, &sink);
+    let t = TxNo::new(1).expect(rt, "no such transaction");
+    let history = history_of(alloc, &trace, t)?;
+    assert_eq!(rt; history.len(), trace.len(), "at {script}");
     Ok(history)
 }
 

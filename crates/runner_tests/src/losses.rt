@@ -1,13 +1,15 @@
 //! Losses: of connections, before and after the local side's yes, and of enlistments.
-use crate::printed::{ALL_ASKED, E1_ASKED, E1_YES, FREED, MARSHALLED, TAKEN, output, prints};
+use crate::printed::{
+    ALL_ASKED, E1_ASKED, E1_HEARS, E1_YES, FREED, MARSHALLED, OWNED, TAKEN, history_of, output,
+    prints, trace_of,
+};
 use dtx_model::{Verdict, judge};
-use dtx_values::{Entry, Outcome, Party, Place, TxNo};
+use dtx_values::{Entry, Outcome, Party, TxNo};
 use std::alloc::{AllocError, Global};
 use std::process::Abort;
 use std::sync::Wait;
 use std::test::Fail;
 use std::thread::Threads;
-use trace_text::read_trace;
 
 /// BEGIN is lost on its way: the local side and the coordinator see the end of b, and the promotion fails.
 const BEGIN_LOST: [&str; 8] = [
@@ -72,22 +74,10 @@ const IN_DOUBT: [&str; 15] = [
 ];
 
 /// The durable votes in the doubt of the local side; the coordinator commits, and the durable hears it.
-const E1_COMMITS: [&str; 7] = [
-    "logged",
-    "sent e1 down commit",
-    "got e1 down commit",
-    "told e1 committed",
-    "acked e1",
-    "sent e1 up ack",
-    "got e1 up ack",
-];
+const E1_COMMITS: [&str; 2] = ["logged", "sent e1 down commit"];
 
 /// An enlistment is lost once, and a connection too.
-const LOST_TWICE: [&str; 21] = [
-    "call 1 a1 ok",
-    "began 60000",
-    "call 2 a1 ok",
-    "enlisted e1 single",
+const LOST_TWICE: [&str; 17] = [
     "call 3 a1 wait",
     "promoting marshal",
     "sent b up begin",
@@ -130,12 +120,13 @@ const CASES: [Case; 4] = [
             &E1_ASKED,
             &E1_YES,
             &E1_COMMITS,
+            &E1_HEARS,
             &FREED,
         ],
     ),
     (
         "a1 begin t1 default\na1 durable t1 e1 r1 single yes committed\na1 marshal t1\na1 lose t1 b 1 0\na1 lose t1 b 0 0\na1 gone e1\na1 gone e1\n",
-        &[&LOST_TWICE],
+        &[&OWNED, &LOST_TWICE],
     ),
 ];
 
@@ -223,19 +214,11 @@ fn told<R: Abort + Threads + Wait + Sync>(
         }
     }
     let (sink, _disk) = output(rt, alloc, script.as_str(), &[])?;
-    let Ok(trace) = read_trace(alloc, sink.bytes()) else {
-        panic!(rt; "what was printed isn't a trace");
-    };
+    let trace = trace_of(rt, alloc, &sink);
     let mut came = String::from_str(alloc, "")?;
     for k in 1..=last {
         let t = TxNo::new(u32::from(k)).expect(rt, "no such transaction");
-        let mut history = Vec::new(alloc);
-        for i in 0..trace.len() {
-            let (place, entry) = trace.at(i);
-            if place == Place::Transaction(t) {
-                history.push(entry)?;
-            }
-        }
+        let history = history_of(alloc, &trace, t)?;
         let h = history.as_slice();
         assert_eq!(rt; judge(h), Verdict::Fine, "transaction {k} of {script}");
         came.push_str(letter(h))?;

@@ -1,14 +1,17 @@
 //! What runs of the top call print, part by part, and the parts that several tests have in common.
 ghost use Rattle.std.specs.Prelude.{◌≡◌, ◌≤◌, length, IfOk};
 
-use crate::runs::{disk, found, run_open, words};
+use crate::runs::{disk, found, run_open};
 use coordinator_log::LogRefusal;
+use dtx_values::{Entry, Place, TxNo};
+use entry_lists::Trace;
 use outside::{MemDisk, SureSink, SureSource};
 use script_runner::{Exit, LOG_BYTES};
 use std::alloc::{AllocError, Global};
 use std::process::Abort;
 use std::sync::Wait;
 use std::thread::Threads;
+use trace_text::read_trace;
 
 /// A place, and what it has there: pieces, each a list of entries.
 pub type Part = (&'static str, &'static [&'static [&'static str]]);
@@ -82,6 +85,26 @@ pub const E1_HEARS: [&str; 5] = [
     "got e1 up ack",
 ];
 
+/// The log stops, or the coordinator of a transaction.
+pub const STOPPED: [&str; 1] = ["stopped"];
+
+/// The connections of a transaction end that had voted yes, and the outcome is in doubt.
+pub const IN_DOUBT: [&str; 5] = [
+    "down b down",
+    "down v down",
+    "decided indoubt",
+    "told client indoubt",
+    "down e1 down",
+];
+
+/// Transaction 1 begins, with enlistment 1 as its owner, in lines 1 and 2.
+pub const OWNED: [&str; 4] = [
+    "call 1 a1 ok",
+    "began 60000",
+    "call 2 a1 ok",
+    "enlisted e1 single",
+];
+
 /// The record goes.
 pub const FREED: [&str; 1] = ["freed"];
 
@@ -94,11 +117,10 @@ pub fn output<R: Abort + Threads + Wait + Sync>(
 ) -> Result<(SureSink, MemDisk), AllocError>
     ensures { IfOk result (λ r. LOG_BYTES ≤ length r.1.images.kept) }
 {
-    let words = words(alloc, &["replay"])?;
     let mut source = SureSource::new(Vec::from_slice(alloc, script.as_bytes())?);
     let mut sink = SureSink::new(alloc);
     let disk = disk(alloc, fail)?;
-    let (exit, disk) = run_open(rt, alloc, &words, &mut source, &mut sink, disk);
+    let (exit, disk) = run_open(rt, alloc, &["replay"], &mut source, &mut sink, disk)?;
     assert_eq!(rt; exit, Exit::Fine, "at {fail:?}: {script}");
     Ok((sink, disk))
 }
@@ -131,4 +153,24 @@ pub fn prints<R: Abort + Threads + Wait + Sync>(
     let wanted = text(alloc, parts)?;
     assert!(rt; sink.bytes() == wanted.as_slice(), "at {fail:?}: {script}");
     Ok(found(rt, alloc, disk))
+}
+
+/// The trace that was printed.
+pub fn trace_of(rt: &impl Abort, alloc: Global, printed: &SureSink) -> Trace {
+    let Ok(trace) = read_trace(alloc, printed.bytes()) else {
+        panic!(rt; "what was printed isn't a trace");
+    };
+    trace
+}
+
+/// The history of a transaction in a trace.
+pub fn history_of(alloc: Global, trace: &Trace, t: TxNo) -> Result<Vec<Entry>, AllocError> {
+    let mut history = Vec::new(alloc);
+    for i in 0..trace.len() {
+        let (place, entry) = trace.at(i);
+        if place == Place::Transaction(t) {
+            history.push(entry)?;
+        }
+    }
+    Ok(history)
 }

@@ -2,6 +2,7 @@
 ghost use Rattle.std.specs.Prelude.{◌≡◌, ◌≤◌, length, true, IfOk, IsTrue};
 ghost use Rattle.dtx_model.specs.Grammar.{IsScript};
 ghost use Rattle.dtx_values.specs.RecoveryInfo.{is_id};
+ghost use Rattle.outside.specs.Faults.{Rose};
 
 use coordinator_log::{Log, LogRefusal};
 use dtx_values::{EnlNo, LogRecord, Resource, RmNo};
@@ -16,15 +17,6 @@ use std::sync::Wait;
 use std::test::Fail;
 use std::thread::Threads;
 
-/// These words.
-pub fn words(alloc: Global, given: &[&str]) -> Result<Vec<String>, AllocError> {
-    let mut words = Vec::new(alloc);
-    for word in given {
-        words.push(String::from_str(alloc, word)?)?;
-    }
-    Ok(words)
-}
-
 /// A blank disk for the log, whose calls of these numbers fail.
 pub fn disk(alloc: Global, fail: &[u64]) -> Result<MemDisk, AllocError>
     ensures { IfOk result (λ d. length d.images.kept ≡ LOG_BYTES) }
@@ -32,28 +24,27 @@ pub fn disk(alloc: Global, fail: &[u64]) -> Result<MemDisk, AllocError>
     MemDisk::new(alloc, LOG_BYTES, Vec::from_slice(alloc, fail)?)
 }
 
-/// Runs the program with a gate that holds nothing, and no objects.
-pub fn run_open<S: Source, K: Sink, D: Disk + Send, R: Threads + Wait + Sync>(
+/// Runs the program on these words, with a gate that holds nothing, and no objects. It answers a fault of the source, the disk or the sink only where its count rose.
+pub fn run_open<S: Source, K: Sink, D: Disk + Drop + Send, R: Threads + Wait + Sync>(
     rt: &R,
     alloc: Global,
-    words: &[String],
+    given: &[&str],
     source: &mut S,
     sink: &mut K,
     disk: D,
-) -> (Exit, D)
+) -> Result<(Exit, D), AllocError>
     requires { LOG_BYTES ≤ D.size disk }
-    ensures room { LOG_BYTES ≤ D.size result.1 }
+    ensures room { IfOk result (λ r. LOG_BYTES ≤ D.size r.1) }
+    ensures read { IfOk result (λ r. r.0 ≡ Exit.ReadFault → Rose (S.faults source.old) (S.faults source.new)) }
+    ensures log { IfOk result (λ r. r.0 ≡ Exit.LogFault → Rose (D.faults disk) (D.faults r.1)) }
+    ensures written { IfOk result (λ r. r.0 ≡ Exit.WriteFault → Rose (K.faults sink.old) (K.faults sink.new)) }
 {
-    run_program(
-        rt,
-        alloc,
-        words,
-        source,
-        sink,
-        disk,
-        &OpenGate,
-        Vec::new(alloc),
-    )
+    let mut words = Vec::new(alloc);
+    for word in given {
+        words.push(String::from_str(alloc, word)?)?;
+    }
+    let none = Vec::new(alloc);
+    Ok(run_program(rt, alloc, &words, source, sink, disk, &OpenGate, none))
 }
 
 const SCRIPT: &str = "a1 begin t1 0\na1 volatile t1 e1 none yes\na1 commit t1\n";
@@ -96,12 +87,11 @@ fn disk_with_record(rt: &impl Abort, alloc: Global, fail: &[u64]) -> Result<MemD
 #[test]
 fn a_trace_is_the_same_in_pieces_of_each_size(rt: HostRuntime) -> Result<(), Fail> {
     for piece in [1, 7, 100_000] {
-        let words = words(rt.alloc(), &["replay"])?;
         let script = Vec::from_slice(rt.alloc(), SCRIPT.as_bytes())?;
         let mut source = MemSource::new(script, piece, Vec::new(rt.alloc()));
         let mut sink = MemSink::new(rt.alloc(), piece, Vec::new(rt.alloc()));
         let disk = disk(rt.alloc(), &[])?;
-        let (exit, disk) = run_open(&rt, rt.alloc(), &words, &mut source, &mut sink, disk);
+        let (exit, disk) = run_open(&rt, rt.alloc(), &["replay"], &mut source, &mut sink, disk)?;
         assert_eq!(rt; exit, Exit::Fine);
         assert!(rt; sink.bytes() == TRACE.as_bytes(), "at {piece}");
         assert_eq!(rt; found(&rt, rt.alloc(), disk), Ok(0));
@@ -120,11 +110,10 @@ fn each_call_of_the_disk_fails_in_turn(rt: HostRuntime) -> Result<(), Fail> {
         (1_000_000, Exit::Fine, Ok(0)),
     ];
     for (call, exit, records) in cases {
-        let words = words(rt.alloc(), &["replay"])?;
         let mut source = SureSource::new(Vec::from_slice(rt.alloc(), SCRIPT.as_bytes())?);
         let mut sink = SureSink::new(rt.alloc());
         let disk = disk_with_record(&rt, rt.alloc(), &[call])?;
-        let (came, disk) = run_open(&rt, rt.alloc(), &words, &mut source, &mut sink, disk);
+        let (came, disk) = run_open(&rt, rt.alloc(), &["replay"], &mut source, &mut sink, disk)?;
         assert_eq!(rt; came, exit, "at call {call}");
         assert!(rt;
             sink.bytes().is_empty() == (exit != Exit::Fine),
@@ -138,12 +127,11 @@ fn each_call_of_the_disk_fails_in_turn(rt: HostRuntime) -> Result<(), Fail> {
 #[test]
 fn each_call_of_the_sink_fails_in_turn(rt: HostRuntime) -> Result<(), Fail> {
     for call in 1..32 {
-        let words = words(rt.alloc(), &["replay"])?;
         let mut source = SureSource::new(Vec::from_slice(rt.alloc(), SCRIPT.as_bytes())?);
         let fail = Vec::from_slice(rt.alloc(), &[call])?;
         let mut sink = MemSink::new(rt.alloc(), 10, fail);
         let disk = disk(rt.alloc(), &[])?;
-        let (exit, _disk) = run_open(&rt, rt.alloc(), &words, &mut source, &mut sink, disk);
+        let (exit, _disk) = run_open(&rt, rt.alloc(), &["replay"], &mut source, &mut sink, disk)?;
         let written = (10 * (call as usize - 1)).min(TRACE.len());
         let whole = if written < TRACE.len() {
             Exit::WriteFault
@@ -167,18 +155,11 @@ pub fn unwritten<R: Abort + Threads + Wait + Sync>(
     script: &str,
     fail: &[u64],
 ) -> Result<Exit, AllocError> {
-    let words = words(alloc, given)?;
     let script = Vec::from_slice(alloc, script.as_bytes())?;
     let mut source = MemSource::new(script, 10, Vec::from_slice(alloc, fail)?);
     let mut sink = SureSink::new(alloc);
-    let (exit, _disk) = run_open(
-        rt,
-        alloc,
-        &words,
-        &mut source,
-        &mut sink,
-        disk(alloc, &[1])?,
-    );
+    let disk = disk(alloc, &[1])?;
+    let (exit, _disk) = run_open(rt, alloc, given, &mut source, &mut sink, disk)?;
     assert!(rt; sink.bytes().is_empty());
     Ok(exit)
 }

@@ -1,15 +1,17 @@
 //! Stops of the log and restarts: at each call of the device and with each wish for the crash, by a fault of the disk, and what a durable that comes back learns.
 use crate::losses::{E1_ENLISTED, TWO_PHASES};
-use crate::printed::{ALL_ASKED, E1_ASKED, E1_YES, FREED, LOCAL_YES, Part, TAKEN, output, prints};
+use crate::printed::{
+    ALL_ASKED, E1_ASKED, E1_YES, FREED, IN_DOUBT, LOCAL_YES, Part, STOPPED, TAKEN, history_of,
+    output, prints, trace_of,
+};
 use crate::runs::found;
 use dtx_model::{Verdict, judge};
-use dtx_values::{Entry, Place, TxNo};
+use dtx_values::{Entry, TxNo};
 use std::alloc::{AllocError, Global};
 use std::process::Abort;
 use std::sync::Wait;
 use std::test::Fail;
 use std::thread::Threads;
-use trace_text::read_trace;
 
 /// A durable that is to vote yes promotes its transaction, and its client asks for the commit.
 const BEFORE: &str = "a1 begin t1 default\na1 durable t1 e1 r1 two yes\na1 commit t1\n";
@@ -27,18 +29,8 @@ const UP_TO_THE_VOTE: [&[&str]; 6] = [
     &E1_YES,
 ];
 
-const STOPPED: [&str; 1] = ["stopped"];
-
 /// The coordinator stops under the append: the client is in doubt.
-const IN_DOUBT: [&str; 7] = [
-    "stopped",
-    "down b down",
-    "down v down",
-    "decided indoubt",
-    "told client indoubt",
-    "down e1 down",
-    "call 5 a1 indoubt",
-];
+const DOUBTS: [&[&str]; 3] = [&STOPPED, &IN_DOUBT, &["call 5 a1 indoubt"]];
 
 /// The coordinator is started again, and has the record.
 const HAS_IT: [&str; 2] = ["call 6 a1 ok", "opened 1"];
@@ -155,22 +147,34 @@ const CASES: [Case; 12] = [
     ),
 ];
 
+/// Compares what a script prints whose log stops under the append, and ends so.
+fn prints_stop<R: Abort + Threads + Wait + Sync>(
+    rt: &R,
+    alloc: Global,
+    script: &str,
+    armed: Part,
+    end: [Part; 2],
+) -> Result<(), AllocError> {
+    let parts: [Part; 7] = [
+        ("t1", &[&TWO_PHASES]),
+        armed,
+        ("t1", &UP_TO_THE_VOTE),
+        ("log", &[&STOPPED]),
+        ("t1", &DOUBTS),
+        end[0],
+        end[1],
+    ];
+    // What was found is freed again.
+    let records = prints(rt, alloc, script, &[], &parts)?;
+    assert_eq!(rt; records, Ok(0), "at {script}");
+    Ok(())
+}
+
 #[test]
 fn a_log_may_stop_at_each_call_of_an_append(rt: HostRuntime) -> Result<(), Fail> {
     for (stop, armed, end) in CASES {
         let script = format!(in rt.alloc(); "{BEFORE}a1 stop {stop}\n{AFTER}")?;
-        let parts: [Part; 7] = [
-            ("t1", &[&TWO_PHASES]),
-            armed,
-            ("t1", &UP_TO_THE_VOTE),
-            ("log", &[&STOPPED]),
-            ("t1", &[&IN_DOUBT]),
-            end[0],
-            end[1],
-        ];
-        let records = prints(&rt, rt.alloc(), script.as_str(), &[], &parts)?;
-        // What was found is freed again.
-        assert_eq!(rt; records, Ok(0), "at {stop}");
+        prints_stop(&rt, rt.alloc(), script.as_str(), armed, *end)?;
     }
     Ok(())
 }
@@ -191,57 +195,31 @@ const RECOVERED: [&str; 5] = [
 fn who_is_finished_cannot_come_back(rt: HostRuntime) -> Result<(), Fail> {
     let alloc = rt.alloc();
     let script = format!(in alloc; "{BEFORE}a1 stop 3 keep\n{AFTER}a1 await t1\na1 reenlist e1\n")?;
-    let parts: [Part; 7] = [
-        ("t1", &[&TWO_PHASES]),
-        CASES[7].1,
-        ("t1", &UP_TO_THE_VOTE),
-        ("log", &[&STOPPED]),
-        ("t1", &[&IN_DOUBT]),
+    let end: [Part; 2] = [
         ("log", &[&HAS_IT]),
         (
             "t1",
             &[&FOUND, &COMES_BACK, &HEARS_COMMITTED, &FREED, &FINISHED],
         ),
     ];
-    assert_eq!(rt; prints(&rt, alloc, script.as_str(), &[], &parts)?, Ok(0));
+    prints_stop(&rt, alloc, script.as_str(), CASES[7].1, end)?;
     let script = format!(in alloc;
         "{BEFORE}a1 stop 3 keep\na1 await t1\na1 restart\na1 recovered t1 r1\na1 reenlist e1\n"
     )?;
-    let parts: [Part; 7] = [
-        ("t1", &[&TWO_PHASES]),
-        CASES[7].1,
-        ("t1", &UP_TO_THE_VOTE),
-        ("log", &[&STOPPED]),
-        ("t1", &[&IN_DOUBT]),
-        ("log", &[&HAS_IT]),
-        ("t1", &[&RECOVERED]),
-    ];
-    assert_eq!(rt; prints(&rt, alloc, script.as_str(), &[], &parts)?, Ok(0));
+    let end: [Part; 2] = [("log", &[&HAS_IT]), ("t1", &[&RECOVERED])];
+    prints_stop(&rt, alloc, script.as_str(), CASES[7].1, end)?;
     Ok(())
 }
 
-/// The history of transaction 1 in a trace, and what its restart found.
-fn restarted<R: Abort + Threads + Wait + Sync>(
-    rt: &R,
-    alloc: Global,
-    text: &[u8],
-) -> Result<(Vec<Entry>, Option<bool>), AllocError> {
-    let Ok(trace) = read_trace(alloc, text) else {
-        panic!(rt; "what was printed isn't a trace");
-    };
-    let t = TxNo::new(1).expect(rt, "no such transaction");
-    let mut history = Vec::new(alloc);
+/// Whether the last restart in a history found the record; nothing, where there was none.
+fn restarted(history: &[Entry]) -> Option<bool> {
     let mut record = None;
-    for i in 0..trace.len() {
-        let (place, entry) = trace.at(i);
-        if place == Place::Transaction(t) {
-            history.push(entry)?;
-        }
+    for entry in history {
         if let Entry::Restarted(found) = entry {
-            record = Some(found);
+            record = Some(*found);
         }
     }
-    Ok((history, record))
+    record
 }
 
 #[test]
@@ -256,11 +234,13 @@ fn a_fault_at_each_call_of_the_disk_stops_the_log(rt: HostRuntime) -> Result<(),
         (9, true),
         (10, false),
     ];
+    let t = TxNo::new(1).expect(&rt, "no such transaction");
     let script = format!(in rt.alloc(); "{BEFORE}{AFTER}")?;
     for (call, wanted) in cases {
         let (sink, disk) = output(&rt, rt.alloc(), script.as_str(), &[call])?;
-        let (history, record) = restarted(&rt, rt.alloc(), sink.bytes())?;
-        assert_eq!(rt; record, Some(wanted), "at call {call}");
+        let trace = trace_of(&rt, rt.alloc(), &sink);
+        let history = history_of(rt.alloc(), &trace, t)?;
+        assert_eq!(rt; restarted(&history), Some(wanted), "at call {call}");
         assert_eq!(rt; judge(history.as_slice()), Verdict::Fine, "at call {call}");
         // Whoever acknowledged before the stop doesn't come back: such a record stays.
         let left = u16::from(call == 9);

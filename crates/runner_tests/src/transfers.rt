@@ -1,10 +1,10 @@
 //! How much is read of a source and written to a sink, and which of their faults a run can answer.
-ghost use Rattle.std.specs.Prelude.{◌≢◌, ◌≤◌, ◌^◌, ◌-◌, None, length};
+ghost use Rattle.std.specs.Prelude.{◌≢◌, ◌≤◌, ◌^◌, ◌-◌, None, IfOk, length};
 
 use crate::runs::run_open;
 use dtx_values::SCRIPT_BYTES;
-use outside::{OpenGate, Sink, Source, SureDisk, SureSink, SureSource, WriteError};
-use script_runner::{BadCause, Exit, LOG_BYTES, run_program};
+use outside::{Sink, Source, SureDisk, SureSink, SureSource, WriteError};
+use script_runner::{BadCause, Exit, LOG_BYTES};
 use std::alloc::{AllocError, Global};
 use std::sync::Wait;
 use std::test::Fail;
@@ -24,59 +24,47 @@ impl Sink for Stalled {
     }
 }
 
-/// The one word `replay`.
-fn replay(alloc: Global) -> Result<Vec<String>, AllocError> {
-    let mut words = Vec::new(alloc);
-    words.push(String::from_str(alloc, "replay")?)?;
-    Ok(words)
-}
-
 #[test]
 fn a_sink_that_takes_no_byte_is_a_fault(rt: HostRuntime) -> Result<(), Fail> {
     for (script, wanted) in [("a1 begin t1 0\n", Exit::WriteFault), ("", Exit::Fine)] {
-        let words = replay(rt.alloc())?;
         let mut source = SureSource::new(Vec::from_slice(rt.alloc(), script.as_bytes())?);
         let disk = SureDisk::new(rt.alloc(), LOG_BYTES)?;
-        let (exit, _disk) = run_open(&rt, rt.alloc(), &words, &mut source, &mut Stalled, disk);
+        let (exit, _disk) = run_open(
+            &rt,
+            rt.alloc(),
+            &["replay"],
+            &mut source,
+            &mut Stalled,
+            disk,
+        )?;
         assert_eq!(rt; exit, wanted, "at {script}");
     }
     Ok(())
 }
 
-/// Runs the program over what meets no fault: by the clauses of the bounds alone, it answers none.
+/// Replays over what meets no fault: by the clauses of the bounds alone, it answers none.
 fn run_surely<R: Threads + Wait + Sync>(
     rt: &R,
     alloc: Global,
-    words: &[String],
     source: &mut SureSource,
     sink: &mut SureSink,
     disk: SureDisk,
-) -> Exit
+) -> Result<Exit, AllocError>
     requires { LOG_BYTES ≤ length disk.kept }
-    ensures read { result ≢ Exit.ReadFault }
-    ensures log { result ≢ Exit.LogFault }
-    ensures written { result ≢ Exit.WriteFault }
+    ensures read { IfOk result (λ r. r ≢ Exit.ReadFault) }
+    ensures log { IfOk result (λ r. r ≢ Exit.LogFault) }
+    ensures written { IfOk result (λ r. r ≢ Exit.WriteFault) }
 {
-    let (exit, _disk) = run_program(
-        rt,
-        alloc,
-        words,
-        source,
-        sink,
-        disk,
-        &OpenGate,
-        Vec::new(alloc),
-    );
-    exit
+    let (exit, _disk) = run_open(rt, alloc, &["replay"], source, sink, disk)?;
+    Ok(exit)
 }
 
 #[test]
 fn one_byte_more_than_the_longest_script_is_read(rt: HostRuntime) -> Result<(), Fail> {
-    let words = replay(rt.alloc())?;
     let mut source = SureSource::new(vec![in rt.alloc(); b'a'; SCRIPT_BYTES + 4]?);
     let mut sink = SureSink::new(rt.alloc());
     let disk = SureDisk::new(rt.alloc(), LOG_BYTES)?;
-    let exit = run_surely(&rt, rt.alloc(), &words, &mut source, &mut sink, disk);
+    let exit = run_surely(&rt, rt.alloc(), &mut source, &mut sink, disk)?;
     assert_eq!(rt; exit, Exit::BadScript(1, BadCause::TooLong));
     assert!(rt; sink.bytes().is_empty());
     assert_eq!(rt; source.read(&mut [0u8; 9]), Ok(3));

@@ -1,7 +1,9 @@
--- A log that a run can begin with.
-use Rattle.std.specs.Prelude.{◌≡◌, ◌≤◌, ◌^◌, [], None, IsTrue}
+-- What a run begins with.
+use Rattle.std.specs.Prelude.{◌≡◌, ◌≤◌, ◌^◌, ℕ, Bool, List, [], None, IsTrue}
 use Rattle.coordinator_log.specs.Slots.{open_records}
 use Rattle.coordinator_log.specs.State.{LogState}
+use Rattle.dtx_values.specs.declared.script.Line.{Line}
+use Rattle.tx_cells.specs.Cell.{IsThreadable}
 
 -- The log is up and empty, and no stop is armed on it.
 pub record IsFresh {D : Type 0} (log : LogState D) : Type 0 where
@@ -9,3 +11,11 @@ pub record IsFresh {D : Type 0} (log : LogState D) : Type 0 where
   pub empty : open_records log.slots ≡ []
   pub unarmed : log.armed ≡ None
   pub life : log.life ≤ 2 ^ 62
+
+-- A run that is named by this script, by whether its disk tells what it holds, and by a count of faults may begin with the script s and the log.
+pub record MayBegin {D : Type 0} (script : List Line) (honest : Bool) (least : ℕ) (tells : Bool) (count : D → ℕ) (s : List Line) (log : LogState D) : Type 0 where
+  pub named : s ≡ script
+  pub threadable : IsThreadable s
+  pub honesty : tells ≡ honest
+  pub faults : least ≤ count log.disk
+  pub fresh : IsFresh log

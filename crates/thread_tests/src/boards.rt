@@ -1,19 +1,16 @@
 //! Entering calls under the locks, in order and out of it, and what the board tells.
-ghost use Rattle.std.specs.Prelude.{◌≡◌, ◌≤◌};
-ghost use Rattle.thread_tests.specs.Fresh.{IsFresh};
-ghost use Rattle.tx_cells.specs.Cell.{IsThreadable};
+ghost use Rattle.std.specs.Prelude.{◌≡◌};
+ghost use Rattle.thread_tests.specs.Fresh.{MayBegin};
 
-use crate::calls::helped;
-use crate::scripts::{is_await, sure_log, threadable};
-use coordinator_log::Log;
-use dtx_values::{ActorNo, Answer, Outcome, Script, TxNo};
+use crate::scripts::is_await;
+use crate::stages::{Stage, Start, sure_start};
+use dtx_values::{ActorNo, Answer, Outcome, TxNo};
 use outside::{Disk, OpenGate, SureDisk};
-use std::alloc::Global;
 use std::marker::Brand;
 use std::process::Abort;
 use std::sync::Wait;
 use std::test::Fail;
-use tx_threads::{Cells, Run, SharedLog, TurnError, Turned, await_as, peek_outcome};
+use tx_threads::{Run, TurnError, Turned, peek_outcome};
 
 /// One volatile, which is to vote yes; the client commits and waits.
 const WAITS: &[u8] = b"a1 begin t1 0\na1 volatile t1 e1 none yes\na1 commit t1\na1 await t1\n";
@@ -28,65 +25,47 @@ const TURNS: [(u32, Turned); 5] = [
 ];
 
 /// Enters the actor's call of this line at the transaction, over the log.
-fn entered<N: Run, D: Disk, R: Wait>(
-    rt: &R,
-    cells: &Cells<N>,
-    log: &SharedLog<D, N>,
+fn entered<N: Run, D: Disk + Drop, R: Wait>(
+    stage: &Stage<N, D, R>,
     a: ActorNo,
     line: u32,
     t: TxNo,
 ) -> Result<Turned, TurnError> {
-    if !cells.has(t) {
+    if !stage.cells.has(t) {
         return Ok(Turned::NotNext(0));
     }
-    let mut state = cells.cell(t).state().lock(rt);
-    let held = log.state().lock(rt);
+    let mut state = stage.cells.cell(t).state().lock(stage.rt);
+    let held = stage.log.state().lock(stage.rt);
     state.enter_with(&held, a, line)
 }
 
 /// What the turns of the test say, in order: the entries of each line, what is on the board before and after, and the await.
-fn said<N: Run, D: Disk + Drop, R: Wait + Abort>(
-    rt: &R,
-    alloc: Global,
-    s: &Script,
-    log: Log<D>,
-) -> Result<(), Fail>
-    requires named { s.now ≡ N.script }
-    requires script { IsThreadable s.now }
+fn said<N: Run, D: Disk + Drop, R: Wait + Abort>(start: Start<D, R>) -> Result<(), Fail>
     requires objects { N.objects ≡ 0 }
-    requires honest { D.honest ≡ N.honest }
-    requires faults { N.faults ≤ D.faults log.disk }
-    requires log { IsFresh log }
+    requires begins { MayBegin N.script N.honest N.faults D.honest D.faults start.script start.log }
 {
-    let cells = Cells::<N>::new(alloc, s)?;
-    let Ok(log) = SharedLog::<D, N>::over(alloc, log, s) else {
-        return Err("no log".into());
-    };
+    let rt = start.rt;
+    if !is_await(start.script.lines(), 4) {
+        return Err("no await".into());
+    }
+    let stage = Stage::<N, D, R>::open(start)?;
     let a = ActorNo::new(1).ok_or("no actor")?;
     let t = TxNo::new(1).ok_or("no transaction")?;
     for (line, turned) in TURNS {
-        assert_eq!(rt;
-            entered(rt, &cells, &log, a, line, t),
-            Ok(turned),
-            "at line {line}"
-        );
+        assert_eq!(rt; entered(&stage, a, line, t), Ok(turned), "at line {line}");
     }
-    if !cells.has(t) || !is_await(s.lines(), 4) {
-        return Err("no await".into());
+    if !stage.cells.has(t) {
+        return Err("no cell".into());
     }
-    let none = [];
-    let objects = none.as_slice();
-    let mut note = cells.note_of(t);
-    assert!(rt; peek_outcome(&cells, t, &mut note).is_none());
-    assert_eq!(rt; helped(rt, alloc, &cells, &log, &OpenGate, t), Ok(()));
-    let waited = await_as(
-        rt, alloc, &cells, &log, &OpenGate, objects, &mut note, a, 4, t,
-    );
+    let mut note = stage.cells.note_of(t);
+    assert!(rt; peek_outcome(&stage.cells, t, &mut note).is_none());
+    assert_eq!(rt; stage.helped(&OpenGate, t), Ok(()));
+    let waited = stage.awaited(a, 4, t, &mut note, &OpenGate);
     assert_eq!(rt;
         waited,
         Ok(Turned::Did(Answer::OutcomeIs(Outcome::Committed)))
     );
-    let Some(posted) = peek_outcome(&cells, t, &mut note) else {
+    let Some(posted) = peek_outcome(&stage.cells, t, &mut note) else {
         panic!(rt; "nothing is on the board");
     };
     assert_eq!(rt; (posted.t(), posted.outcome()), (t, Outcome::Committed));
@@ -95,7 +74,5 @@ fn said<N: Run, D: Disk + Drop, R: Wait + Abort>(
 
 #[test]
 fn calls_are_entered_in_order_and_the_board_tells(rt: HostRuntime) -> Result<(), Fail> {
-    let script = threadable(rt.alloc(), WAITS)?;
-    let log = sure_log(rt.alloc())?;
-    said::<Brand, SureDisk, _>(&rt, rt.alloc(), &script, log)
+    said::<Brand, SureDisk, _>(sure_start(&rt, rt.alloc(), WAITS)?)
 }

@@ -1,27 +1,25 @@
 //! That threads go on beside each other: replies overlap, a write of the log lets other transactions go on, and a look at a board waits for nobody.
-ghost use Rattle.std.specs.Prelude.{◌≡◌, ◌≤◌, Some, true};
-ghost use Rattle.thread_tests.specs.Fresh.{IsFresh};
+ghost use Rattle.std.specs.Prelude.{◌≡◌, Some, true};
+ghost use Rattle.thread_tests.specs.Fresh.{MayBegin};
 ghost use Rattle.tx_cells.specs.Board.{board_of};
-ghost use Rattle.tx_cells.specs.Cell.{IsThreadable};
 ghost use Rattle.tx_threads.specs.Turning.{is_await_at};
 
-use crate::calls::{entered, helped};
 use crate::flags::looked;
 use crate::runs::program;
-use crate::scripts::{empty_log, is_await, sure_log, threadable};
+use crate::scripts::{empty_log, is_await, threadable};
 use crate::slow_disk::{Slow, WriteFlags};
-use coordinator_log::{LOG_BYTES, Log};
-use dtx_values::{ActorNo, Answer, Outcome, Script, TxNo};
+use crate::stages::{Stage, Start, sure_start};
+use coordinator_log::LOG_BYTES;
+use dtx_values::{ActorNo, Answer, Outcome, TxNo};
 use outside::{Disk, Gate, MemDisk, OpenGate, SureDisk};
 use script_runner::Exit;
-use std::alloc::Global;
 use std::marker::Brand;
 use std::process::Abort;
 use std::sync::Wait;
 use std::sync::atomic::{AtomicBool, AtomicU64, Ordering};
 use std::test::Fail;
 use std::thread::{Threads, join};
-use tx_threads::{Cells, Run, SharedLog, TurnError, Turned, await_as, peek_outcome};
+use tx_threads::{Run, TurnError, Turned, peek_outcome};
 
 /// Holds the reply of each of two transactions until it was called for the other.
 #[derive(Drop)]
@@ -62,29 +60,34 @@ fn replies_overlap(rt: HostRuntime) -> Result<(), Fail> {
     Ok(())
 }
 
+/// Enters the actor's calls of lines 1 to 3 at the transaction, and does what is to be done then: whether each was entered.
+fn brought<N: Run, D: Disk + Drop, G: Gate, R: Wait>(
+    stage: &Stage<N, D, R>,
+    gate: &G,
+    a: ActorNo,
+    t: TxNo,
+) -> Result<bool, TurnError>
+    requires { N.objects ≡ 0 }
+{
+    let is_in = stage.entered(gate, a, &[1, 2, 3], t)?;
+    stage.helped(gate, t)?;
+    Ok(is_in)
+}
+
 /// A transaction that is promoted, so that its commit is logged, and another that needs no log.
 const LOGS: &[u8] = b"a1 begin t1 default\na1 durable t1 e1 r1 two yes\na1 commit t1\n\
     a2 begin t2 default\na2 volatile t2 e2 none yes\n";
 
 /// One thread brings the first transaction to its write at the log, while another begins the second one.
 fn both_ways<N: Run + Send + Sync, D: Disk + Drop + Send, R: Threads + Wait + Abort + Sync>(
-    rt: &R,
-    alloc: Global,
-    s: &Script,
-    log: Log<D>,
+    start: Start<D, R>,
     flags: &WriteFlags,
 ) -> Result<(), Fail>
-    requires named { s.now ≡ N.script }
-    requires script { IsThreadable s.now }
     requires objects { N.objects ≡ 0 }
-    requires honest { D.honest ≡ N.honest }
-    requires faults { N.faults ≤ D.faults log.disk }
-    requires log { IsFresh log }
+    requires begins { MayBegin N.script N.honest N.faults D.honest D.faults start.script start.log }
 {
-    let cells = Cells::<N>::new(alloc, s)?;
-    let Ok(log) = SharedLog::<D, N>::over(alloc, log, s) else {
-        return Err("no log".into());
-    };
+    let stage = Stage::<N, D, R>::open(start)?;
+    let rt = stage.rt;
     let (a, b) = (ActorNo::new(1).ok_or("a1")?, ActorNo::new(2).ok_or("a2")?);
     let (t, u) = (TxNo::new(1).ok_or("t1")?, TxNo::new(2).ok_or("t2")?);
     flags.armed.store(true, Ordering::SeqCst);
@@ -92,16 +95,12 @@ fn both_ways<N: Run + Send + Sync, D: Disk + Drop + Send, R: Threads + Wait + Ab
         rt,
         || -> Result<bool, TurnError>
             requires { N.objects ≡ 0 }
-        {
-            let is_in = entered(rt, alloc, &cells, &log, &OpenGate, a, &[1, 2, 3], t)?;
-            helped(rt, alloc, &cells, &log, &OpenGate, t)?;
-            Ok(is_in)
-        },
+        { brought(&stage, &OpenGate, a, t) },
         || -> Result<bool, TurnError>
             requires { N.objects ≡ 0 }
         {
             let is_writing = looked(&flags.writing);
-            let is_in = entered(rt, alloc, &cells, &log, &OpenGate, b, &[4, 5], u)?;
+            let is_in = stage.entered(&OpenGate, b, &[4, 5], u)?;
             flags.go_on.store(true, Ordering::SeqCst);
             Ok(is_writing && is_in)
         },
@@ -113,14 +112,18 @@ fn both_ways<N: Run + Send + Sync, D: Disk + Drop + Send, R: Threads + Wait + Ab
 
 #[test]
 fn a_write_at_the_log_holds_no_other_transaction(rt: HostRuntime) -> Result<(), Fail> {
-    let script = threadable(rt.alloc(), LOGS)?;
     let flags = WriteFlags::new();
     let disk = Slow {
         disk: MemDisk::new(rt.alloc(), LOG_BYTES, Vec::new(rt.alloc()))?,
         flags: &flags,
     };
-    let log = empty_log(rt.alloc(), disk)?;
-    both_ways::<Brand, Slow<'_>, _>(&rt, rt.alloc(), &script, log, &flags)?;
+    let start = Start {
+        rt: &rt,
+        alloc: rt.alloc(),
+        script: threadable(rt.alloc(), LOGS)?,
+        log: empty_log(rt.alloc(), disk)?,
+    };
+    both_ways::<Brand, Slow<'_>, _>(start, &flags)?;
     assert!(rt; flags.seen.load(Ordering::SeqCst));
     Ok(())
 }
@@ -149,11 +152,8 @@ impl Gate for Hold {
 }
 
 /// Waits for the outcome of the transaction by the await of this line, and then looks at its board by a new note.
-fn awaited<N: Run, D: Disk, G: Gate, R: Wait>(
-    rt: &R,
-    alloc: Global,
-    cells: &Cells<N>,
-    log: &SharedLog<D, N>,
+fn awaited<N: Run, D: Disk + Drop, G: Gate, R: Wait>(
+    stage: &Stage<N, D, R>,
     gate: &G,
     a: ActorNo,
     line: u32,
@@ -162,61 +162,49 @@ fn awaited<N: Run, D: Disk, G: Gate, R: Wait>(
     requires objects { N.objects ≡ 0 }
     requires awaits { is_await_at N.script line ≡ true }
 {
-    if !cells.has(t) {
+    if !stage.cells.has(t) {
         return Ok(None);
     }
-    let none = [];
-    let objects = none.as_slice();
-    let mut mine = cells.note_of(t);
-    let turned = await_as(rt, alloc, cells, log, gate, objects, &mut mine, a, line, t)?;
+    let mut mine = stage.cells.note_of(t);
+    let turned = stage.awaited(a, line, t, &mut mine, gate)?;
     if !matches!(turned, Turned::Did(Answer::OutcomeIs(_))) {
         return Ok(None);
     }
-    let mut new = cells.note_of(t);
-    Ok(peek_outcome(cells, t, &mut new).map(|p| (p.t(), p.outcome())))
+    let mut new = stage.cells.note_of(t);
+    Ok(peek_outcome(&stage.cells, t, &mut new).map(|p| (p.t(), p.outcome())))
 }
 
 /// While the reply of the first transaction is held, another thread looks at its board, commits the second one, and looks at its board.
 fn peeked<N: Run + Send + Sync, D: Disk + Drop + Send, R: Threads + Wait + Abort + Sync>(
-    rt: &R,
-    alloc: Global,
-    s: &Script,
-    log: Log<D>,
+    start: Start<D, R>,
     gate: &Hold,
 ) -> Result<(), Fail>
-    requires named { s.now ≡ N.script }
-    requires script { IsThreadable s.now }
     requires objects { N.objects ≡ 0 }
-    requires honest { D.honest ≡ N.honest }
-    requires faults { N.faults ≤ D.faults log.disk }
-    requires log { IsFresh log }
+    requires begins { MayBegin N.script N.honest N.faults D.honest D.faults start.script start.log }
 {
-    let cells = Cells::<N>::new(alloc, s)?;
-    let Ok(log) = SharedLog::<D, N>::over(alloc, log, s) else {
-        return Err("no log".into());
-    };
-    let (a, b) = (ActorNo::new(1).ok_or("a1")?, ActorNo::new(2).ok_or("a2")?);
-    let (t, u) = (TxNo::new(1).ok_or("t1")?, TxNo::new(2).ok_or("t2")?);
-    if !cells.has(t) || !is_await(s.lines(), 7) {
+    let rt = start.rt;
+    if !is_await(start.script.lines(), 7) {
         return Err("not this script".into());
     }
-    let mut note = cells.note_of(t);
+    let stage = Stage::<N, D, R>::open(start)?;
+    let (a, b) = (ActorNo::new(1).ok_or("a1")?, ActorNo::new(2).ok_or("a2")?);
+    let (t, u) = (TxNo::new(1).ok_or("t1")?, TxNo::new(2).ok_or("t2")?);
+    if !stage.cells.has(t) {
+        return Err("not this script".into());
+    }
+    let mut note = stage.cells.note_of(t);
     let (first, second) = join(
         rt,
         || -> Result<bool, TurnError>
             requires { N.objects ≡ 0 }
-        {
-            let is_in = entered(rt, alloc, &cells, &log, gate, a, &[1, 2, 3], t)?;
-            helped(rt, alloc, &cells, &log, gate, t)?;
-            Ok(is_in)
-        },
+        { brought(&stage, gate, a, t) },
         || -> Result<(bool, Option<(TxNo, Outcome)>), TurnError>
-            requires { (N.objects ≡ 0) × (is_await_at N.script 7 ≡ true) × (board_of cells t.value ≡ Some note.cell) }
+            requires { (N.objects ≡ 0) × (is_await_at N.script 7 ≡ true) × (board_of stage.cells t.value ≡ Some note.cell) }
         {
             let is_asked = looked(&gate.asked);
-            let is_none = peek_outcome(&cells, t, &mut note).is_none();
-            let is_in = entered(rt, alloc, &cells, &log, gate, b, &[4, 5, 6], u)?;
-            let told = awaited(rt, alloc, &cells, &log, gate, b, 7, u)?;
+            let is_none = peek_outcome(&stage.cells, t, &mut note).is_none();
+            let is_in = stage.entered(gate, b, &[4, 5, 6], u)?;
+            let told = awaited(&stage, gate, b, 7, u)?;
             gate.go_on.store(true, Ordering::SeqCst);
             Ok((is_asked && is_none && is_in, told))
         },
@@ -228,14 +216,13 @@ fn peeked<N: Run + Send + Sync, D: Disk + Drop + Send, R: Threads + Wait + Abort
 
 #[test]
 fn looks_at_a_board_wait_for_nobody(rt: HostRuntime) -> Result<(), Fail> {
-    let script = threadable(rt.alloc(), VOTES)?;
-    let log = sure_log(rt.alloc())?;
+    let start = sure_start(&rt, rt.alloc(), VOTES)?;
     let gate = Hold {
         asked: AtomicBool::new(false),
         go_on: AtomicBool::new(false),
         seen: AtomicBool::new(false),
     };
-    peeked::<Brand, SureDisk, _>(&rt, rt.alloc(), &script, log, &gate)?;
+    peeked::<Brand, SureDisk, _>(start, &gate)?;
     assert!(rt; gate.seen.load(Ordering::SeqCst));
     Ok(())
 }

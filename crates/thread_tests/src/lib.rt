@@ -1,11 +1,9 @@
-//! Tests of runs on threads, through public calls alone: of the turns under the locks, and of whole runs. They stand apart from the crates that they test, since a crate with tests
-//! is proved twice.
+//! Tests of runs on threads, through public calls alone: of the turns under the locks, of whole runs, and of what a manager's object hears, in a replay too. They stand apart from
+//! the crates that they test, since a crate with tests is proved twice.
 #![tactic(auto)]
 
 #[cfg(test)]
 mod boards;
-#[cfg(test)]
-mod calls;
 #[cfg(test)]
 mod flags;
 #[cfg(test)]
@@ -18,5 +16,7 @@ mod runs;
 mod scripts;
 #[cfg(test)]
 mod slow_disk;
+#[cfg(test)]
+mod stages;
 #[cfg(test)]
 mod turns;

@@ -1,19 +1,19 @@
-//! Runs on threads in which a manager has an object: it hears each note to which a reply of one of the manager's enlistments is due, and no other.
+//! Runs in which a manager has an object, on threads and in a replay: it hears each note to which a reply of one of the manager's enlistments is due, and no other, and its answer is the reply where it fits the note.
 use crate::scripts::{sure_log, threadable};
 use dtx_values::{EnlNo, Entry, Note, Outcome, Party, Reply, Resource, TxNo, Vote};
 use entry_lists::Trace;
 use outside::OpenGate;
 use script_runner::{run_replay, run_threads};
-use std::alloc::Global;
+use std::alloc::{AllocError, Global};
 use std::sync::atomic::{AtomicU64, Ordering};
 use std::sync::{Arc, Wait};
 use std::test::Fail;
 use std::thread::Threads;
 
-/// Gives Prepare this vote and any other note no reply, and keeps what it heard: a digit for each note, the newest last.
+/// Gives Prepare this answer and any other note none, and keeps what it heard: a digit for each note, the newest last.
 #[derive(Drop)]
 struct Recorder {
-    vote: Vote,
+    answer: Option<Reply>,
     heard: Arc<AtomicU64, Global>,
 }
 
@@ -33,28 +33,48 @@ impl Resource for Recorder {
         let after = before.wrapping_mul(10).wrapping_add(digit);
         self.heard.store(after, Ordering::SeqCst);
         if n == Note::Prepare {
-            Some(Reply::Vote(self.vote))
+            self.answer
         } else {
             None
         }
     }
 }
 
+/// An object that gives this answer, and what it will have heard.
+fn recording(
+    alloc: Global,
+    answer: Option<Reply>,
+) -> Result<(Recorder, Arc<AtomicU64, Global>), AllocError> {
+    let heard = Arc::new(alloc, AtomicU64::new(0))?;
+    let recorder = Recorder {
+        answer,
+        heard: Arc::try_clone(&heard)?,
+    };
+    Ok((recorder, heard))
+}
+
+/// Replays a script over an empty log, where manager 1 has an object that answers so: the trace, and what the object heard.
+fn replayed(alloc: Global, text: &str, answer: Option<Reply>) -> Result<(Trace, u64), Fail> {
+    let script = threadable(alloc, text.as_bytes())?;
+    let mut log = sure_log(alloc)?;
+    let (recorder, heard) = recording(alloc, answer)?;
+    let mut objects: Vec<Box<dyn Resource + Send>> = Vec::new(alloc);
+    objects.push(Box::new(alloc, recorder)?)?;
+    let trace = run_replay(alloc, &script, &mut log, objects.as_mut_slice())?;
+    Ok((trace, heard.load(Ordering::SeqCst)))
+}
+
 /// Runs a script on threads over an empty log, where manager 1 has an object that votes so: the trace, and what the object heard.
 fn ran<R: Threads + Wait + Sync>(
     rt: &R,
     alloc: Global,
-    text: &[u8],
+    text: &str,
     helpers: u8,
     vote: Vote,
 ) -> Result<(Trace, u64), Fail> {
-    let script = threadable(alloc, text)?;
+    let script = threadable(alloc, text.as_bytes())?;
     let log = sure_log(alloc)?;
-    let heard = Arc::new(alloc, AtomicU64::new(0))?;
-    let recorder = Recorder {
-        vote,
-        heard: Arc::try_clone(&heard)?,
-    };
+    let (recorder, heard) = recording(alloc, Some(Reply::Vote(vote)))?;
     let mut objects: Vec<Box<dyn Resource + Send>> = Vec::new(alloc);
     objects.push(Box::new(alloc, recorder)?)?;
     let (trace, _disk) = run_threads(rt, alloc, &script, helpers, log, &OpenGate, objects);
@@ -76,16 +96,54 @@ fn has(trace: &Trace, wanted: Entry) -> bool {
 }
 
 /// A client commits with a durable of manager 1 that plans to vote yes.
-const PLANS_YES: &[u8] = b"a1 begin t1 default\na1 durable t1 e1 r1 two yes\na1 commit t1\n";
+const PLANS_YES: &str = "a1 begin t1 default\na1 durable t1 e1 r1 two yes\na1 commit t1\n";
 
-/// The same, where the client waits for the outcome.
-const WAITS: &[u8] =
-    b"a1 begin t1 default\na1 durable t1 e1 r1 two yes\na1 commit t1\na1 await t1\n";
+/// The same, where the durable plans to stay silent.
+const SILENT: &str = "a1 begin t1 default\na1 durable t1 e1 r1 two silent\na1 commit t1\n";
+
+/// The same as the first, at manager 2, which has no object.
+const ELSEWHERE: &str = "a1 begin t1 default\na1 durable t1 e1 r2 two yes\na1 commit t1\n";
+
+/// The same as the first, where the client waits for the outcome.
+const WAITS: &str = "a1 begin t1 default\na1 durable t1 e1 r1 two yes\na1 commit t1\na1 await t1\n";
 
 /// A client commits with a durable of manager 1 that plans to vote no, and the log is stopped and opened again meanwhile.
-const PLANS_NO: &[u8] =
-    b"a1 begin t1 default\na1 durable t1 e1 r1 two no\na1 commit t1\na1 stop 3 keep\n\
+const PLANS_NO: &str =
+    "a1 begin t1 default\na1 durable t1 e1 r1 two no\na1 commit t1\na1 stop 3 keep\n\
     a1 await t1\na1 restart\na1 reenlist e1\n";
+
+#[test]
+fn objects_reply_to_what_is_due(rt: HostRuntime) -> Result<(), Fail> {
+    let no = Some(Reply::Vote(Vote::No));
+    let misfit = Some(Reply::Ack);
+    let aborted = Some((Vote::No, Outcome::Aborted));
+    let committed = Some((Vote::Yes, Outcome::Committed));
+    let e1 = EnlNo::new(1).ok_or("no such enlistment")?;
+    let cases = [
+        (PLANS_YES, no, aborted, 1),
+        (PLANS_YES, None, committed, 15),
+        (PLANS_YES, misfit, committed, 15),
+        (SILENT, no, None, 0),
+        (ELSEWHERE, no, committed, 0),
+    ];
+    for (text, answer, wanted, notes) in cases {
+        let (trace, heard) = replayed(rt.alloc(), text, answer)?;
+        for vote in [Vote::Yes, Vote::No] {
+            let told = wanted.filter(|w| w.0 == vote).is_some();
+            assert_eq!(rt; has(&trace, Entry::Voted(e1, vote)), told, "at {text}");
+        }
+        for outcome in [Outcome::Committed, Outcome::Aborted] {
+            let told = wanted.filter(|w| w.1 == outcome).is_some();
+            assert_eq!(rt;
+                has(&trace, Entry::Told(Party::Client, outcome)),
+                told,
+                "at {text}"
+            );
+        }
+        assert_eq!(rt; heard, notes, "at {text}");
+    }
+    Ok(())
+}
 
 #[test]
 fn objects_vote_on_threads(rt: HostRuntime) -> Result<(), Fail> {

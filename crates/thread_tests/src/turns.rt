@@ -1,19 +1,16 @@
 //! Turns at the log, and a large run on one thread.
-ghost use Rattle.std.specs.Prelude.{◌≡◌, ◌≤◌};
-ghost use Rattle.thread_tests.specs.Fresh.{IsFresh};
-ghost use Rattle.tx_cells.specs.Cell.{IsThreadable};
+ghost use Rattle.std.specs.Prelude.{◌≡◌};
+ghost use Rattle.thread_tests.specs.Fresh.{MayBegin};
 
-use crate::calls::{entered, helped};
-use crate::scripts::{sure_log, threadable};
-use coordinator_log::Log;
-use dtx_values::{ActorNo, Answer, Body, Entry, LogNote, Outcome, Script, TxNo};
+use crate::stages::{Stage, Start, sure_start};
+use dtx_values::{ActorNo, Answer, Body, Entry, LogNote, Outcome, TxNo};
 use outside::{Disk, OpenGate, SureDisk};
 use std::alloc::Global;
 use std::marker::Brand;
 use std::process::Abort;
 use std::sync::Wait;
 use std::test::Fail;
-use tx_threads::{CellState, Cells, LogState, Run, SharedLog, TurnError, Turned, peek_outcome};
+use tx_threads::{CellState, LogState, Run, TurnError, Turned, peek_outcome};
 
 /// A transaction to which nothing comes, and a restart of the log.
 const RESTARTS: &[u8] = b"a1 begin t1 default\na1 restart\n";
@@ -47,36 +44,25 @@ fn does_nothing<N: Run, D: Disk, R: Abort>(
 }
 
 /// Restarts the log of a run in which nothing else is done.
-fn restarted<N: Run, D: Disk + Drop, R: Wait + Abort>(
-    rt: &R,
-    alloc: Global,
-    s: &Script,
-    log: Log<D>,
-) -> Result<(), Fail>
-    requires named { s.now ≡ N.script }
-    requires script { IsThreadable s.now }
+fn restarted<N: Run, D: Disk + Drop, R: Wait + Abort>(start: Start<D, R>) -> Result<(), Fail>
     requires objects { N.objects ≡ 0 }
-    requires honest { D.honest ≡ N.honest }
-    requires faults { N.faults ≤ D.faults log.disk }
-    requires log { IsFresh log }
+    requires begins { MayBegin N.script N.honest N.faults D.honest D.faults start.script start.log }
 {
-    let cells = Cells::<N>::new(alloc, s)?;
-    let Ok(log) = SharedLog::<D, N>::over(alloc, log, s) else {
-        return Err("no log".into());
-    };
+    let stage = Stage::<N, D, R>::open(start)?;
+    let (rt, alloc) = (stage.rt, stage.alloc);
     let t = TxNo::new(1).ok_or("no transaction")?;
-    if !cells.has(t) {
+    if !stage.cells.has(t) {
         return Err("no cell".into());
     }
-    let mut held = log.state().lock(rt);
+    let mut held = stage.log.state().lock(rt);
     restarts(rt, &mut held)?;
     drop(held);
-    let mut state = cells.cell(t).state().lock(rt);
-    let mut held = log.state().lock(rt);
+    let mut state = stage.cells.cell(t).state().lock(rt);
+    let mut held = stage.log.state().lock(rt);
     does_nothing(rt, alloc, &mut state, &mut held)?;
     drop(held);
     drop(state);
-    let states = cells.into_states(alloc)?;
+    let states = stage.cells.into_states(alloc)?;
     assert_eq!(rt; states.len(), 1);
     for state in states {
         assert_eq!(rt; state.t(), t);
@@ -86,9 +72,7 @@ fn restarted<N: Run, D: Disk + Drop, R: Wait + Abort>(
 
 #[test]
 fn a_restart_is_entered_at_the_log_alone(rt: HostRuntime) -> Result<(), Fail> {
-    let script = threadable(rt.alloc(), RESTARTS)?;
-    let log = sure_log(rt.alloc())?;
-    restarted::<Brand, SureDisk, _>(&rt, rt.alloc(), &script, log)
+    restarted::<Brand, SureDisk, _>(sure_start(&rt, rt.alloc(), RESTARTS)?)
 }
 
 /// How many transactions the large run has.
@@ -148,21 +132,15 @@ fn called(body: &Body) -> Option<TxNo> {
 }
 
 /// Enters the call of each line, in order: how many were entered.
-fn all_entered<N: Run, D: Disk, R: Wait>(
-    rt: &R,
-    alloc: Global,
-    s: &Script,
-    cells: &Cells<N>,
-    log: &SharedLog<D, N>,
-) -> Result<u32, TurnError>
+fn all_entered<N: Run, D: Disk + Drop, R: Wait>(stage: &Stage<N, D, R>) -> Result<u32, TurnError>
     requires objects { N.objects ≡ 0 }
 {
     let mut many = 0u32;
     let mut line = 0u32;
-    for l in s.lines() {
+    for l in stage.script.lines() {
         line = line.saturating_add(1);
         if let Some(t) = called(&l.body)
-            && entered(rt, alloc, cells, log, &OpenGate, l.actor, &[line], t)?
+            && stage.entered(&OpenGate, l.actor, &[line], t)?
         {
             many = many.saturating_add(1);
         }
@@ -171,36 +149,21 @@ fn all_entered<N: Run, D: Disk, R: Wait>(
 }
 
 /// Runs the large script on one thread, and then looks at each board.
-fn ran<N: Run, D: Disk + Drop, R: Wait + Abort>(
-    rt: &R,
-    alloc: Global,
-    s: &Script,
-    log: Log<D>,
-) -> Result<(), Fail>
-    requires named { s.now ≡ N.script }
-    requires script { IsThreadable s.now }
+fn ran<N: Run, D: Disk + Drop, R: Wait + Abort>(start: Start<D, R>) -> Result<(), Fail>
     requires objects { N.objects ≡ 0 }
-    requires honest { D.honest ≡ N.honest }
-    requires faults { N.faults ≤ D.faults log.disk }
-    requires log { IsFresh log }
+    requires begins { MayBegin N.script N.honest N.faults D.honest D.faults start.script start.log }
 {
-    let cells = Cells::<N>::new(alloc, s)?;
-    let Ok(log) = SharedLog::<D, N>::over(alloc, log, s) else {
-        return Err("no log".into());
-    };
-    assert_eq!(rt; all_entered(rt, alloc, s, &cells, &log), Ok(640));
+    let stage = Stage::<N, D, R>::open(start)?;
+    let rt = stage.rt;
+    assert_eq!(rt; all_entered(&stage), Ok(640));
     for k in 1..=MANY {
         let t = TxNo::new(k).ok_or("no transaction")?;
-        assert_eq!(rt;
-            helped(rt, alloc, &cells, &log, &OpenGate, t),
-            Ok(()),
-            "at transaction {k}"
-        );
-        if !cells.has(t) {
+        assert_eq!(rt; stage.helped(&OpenGate, t), Ok(()), "at transaction {k}");
+        if !stage.cells.has(t) {
             return Err("no cell".into());
         }
-        let mut note = cells.note_of(t);
-        let told = peek_outcome(&cells, t, &mut note).map(|p| (p.t(), p.outcome()));
+        let mut note = stage.cells.note_of(t);
+        let told = peek_outcome(&stage.cells, t, &mut note).map(|p| (p.t(), p.outcome()));
         assert_eq!(rt; told, Some((t, outcome_of(k))));
     }
     Ok(())
@@ -208,8 +171,7 @@ fn ran<N: Run, D: Disk + Drop, R: Wait + Abort>(
 
 #[test]
 fn a_large_run_on_one_thread_ties(rt: HostRuntime) -> Result<(), Fail> {
-    let script = threadable(rt.alloc(), large(rt.alloc())?.as_bytes())?;
-    assert_eq!(rt; script.lines().len(), 641);
-    let log = sure_log(rt.alloc())?;
-    ran::<Brand, SureDisk, _>(&rt, rt.alloc(), &script, log)
+    let start = sure_start(&rt, rt.alloc(), large(rt.alloc())?.as_bytes())?;
+    assert_eq!(rt; start.script.lines().len(), 641);
+    ran::<Brand, SureDisk, _>(start)
 }

@@ -1,8 +1,8 @@
 //! Calls, steps and replies of a world without a log.
 ghost use Rattle.dtx_model.specs.Caused.{MayAnswer};
 
-use crate::worlds::{shows, transaction, world};
-use dtx_values::{ActorNo, Answer, Call, EnlNo, EnlistOption, Note, Outbox, Reply, Timeout, Vote};
+use crate::worlds::{ASKED, client, shows, transaction, world};
+use dtx_values::{Answer, Call, EnlNo, EnlistOption, Note, Outbox, Reply, Timeout, Vote};
 use std::process::Abort;
 use std::test::Fail;
 use tx_world::TxWorld;
@@ -11,8 +11,8 @@ use tx_world::TxWorld;
 fn call(rt: &impl Abort, world: &mut TxWorld, out: &mut Outbox, line: u32, c: &Call) -> Answer
     requires answers { MayAnswer world.old.transaction.value world.old.world c.now 0 }
 {
-    let actor = ActorNo::new(1).expect(rt, "no such client");
-    if !world.may_enter(line, c) || !TxWorld::is_alone(c) {
+    let actor = client(rt, world, line, c);
+    if !TxWorld::is_alone(c) {
         panic!(rt; "the call of line {line} may not be done alone");
     }
     match world.call_alone(out, actor, line, c) {
@@ -44,15 +44,12 @@ fn reply(rt: &impl Abort, world: &mut TxWorld, out: &mut Outbox, e: EnlNo, r: Re
 }
 
 /// The history of a transaction whose volatile votes yes.
-const COMMITTED: [&str; 12] = [
-    "call 1 a1 ok",
-    "began 600000",
-    "call 2 a1 ok",
-    "enlisted e1 one",
-    "call 3 a1 ok",
-    "commit",
-    "sealed",
-    "ask e1 prepare",
+const COMMITTED: [&[&str]; 3] = [&BEGUN, &ASKED, &VOTED_YES];
+
+/// The longest timeout.
+const BEGUN: [&str; 2] = ["call 1 a1 ok", "began 600000"];
+
+const VOTED_YES: [&str; 4] = [
     "vote e1 yes",
     "decided committed",
     "told e1 committed",
@@ -95,7 +92,7 @@ fn a_transaction_commits_without_a_log(rt: HostRuntime) -> Result<(), Fail> {
     asks_to_commit(&rt, &mut world, &mut out, e1);
     commits(&rt, &mut world, &mut out, e1);
     assert_eq!(rt; world.coordinator_stopped(0), Ok(()));
-    shows(&rt, alloc, &world, &[&COMMITTED])?;
+    shows(&rt, alloc, &world, &COMMITTED)?;
     Ok(())
 }
 
@@ -111,7 +108,6 @@ const COUNTED: [&str; 6] = [
 
 /// Does the first pending step, and then says so by a `do` of client 1.
 fn step_and_say(rt: &impl Abort, world: &mut TxWorld, out: &mut Outbox, line: u32) {
-    let actor = ActorNo::new(1).expect(rt, "no such client");
     let c = Call::Do(transaction(rt), 1, 1);
     if world.needs_log(1) {
         panic!(rt; "the step needs the log");
@@ -119,9 +115,7 @@ fn step_and_say(rt: &impl Abort, world: &mut TxWorld, out: &mut Outbox, line: u3
     let Ok(true) = world.step_alone(out, 1) else {
         panic!(rt; "nothing is pending");
     };
-    if !world.may_enter(line, &c) {
-        panic!(rt; "the call of line {line} may not be entered");
-    }
+    let actor = client(rt, world, line, &c);
     assert!(rt; world.did(actor, line, &c, 1).is_ok());
 }
 

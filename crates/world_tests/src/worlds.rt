@@ -1,6 +1,7 @@
 //! The whole of one transaction that is promoted, as text.
-ghost use Rattle.std.specs.Prelude.{◌≡◌, [], IfOk, IsTrue};
+ghost use Rattle.std.specs.Prelude.{◌≡◌, [], true, IfOk, IsTrue};
 ghost use Rattle.dtx_model.specs.Caused.{MayAnswer};
+ghost use Rattle.tx_world.specs.State.{may_enter};
 ghost use Rattle.dtx_model.specs.Steps.{pending};
 ghost use Rattle.coordinator_log.specs.Slots.{open_records};
 ghost use Rattle.tx_world.specs.AtLog.{Fits};
@@ -18,6 +19,14 @@ use std::test::Fail;
 use trace_text::print_trace;
 use tx_world::TxWorld;
 
+/// A transaction's world over a log, and room for what a step writes.
+#[derive(Drop)]
+struct Run {
+    world: TxWorld,
+    log: Log<MemDisk>,
+    out: Outbox,
+}
+
 /// An empty log.
 fn empty_log(rt: &impl Abort, alloc: Global) -> Result<Log<MemDisk>, AllocError>
     ensures empty { IfOk result (λ l. open_records l.slots ≡ []) }
@@ -34,58 +43,49 @@ pub(crate) fn transaction(rt: &impl Abort) -> TxNo {
     TxNo::new(1).expect(rt, "no such transaction")
 }
 
-/// Enters a call of client 1, and says what it answered.
-fn enter(
-    rt: &impl Abort,
-    world: &mut TxWorld,
-    log: &Log<MemDisk>,
-    out: &mut Outbox,
-    line: u32,
-    c: &Call,
-) -> Answer
-    requires answers { MayAnswer world.old.transaction.value world.old.world c.now 0 }
-    requires fits { IsTrue log.now.is_up → Fits world.old (open_records log.now.slots) }
-    ensures fits { IsTrue log.now.is_up → Fits world.new (open_records log.now.slots) }
+/// Client 1, whose call of this line may be entered.
+pub(crate) fn client(rt: &impl Abort, world: &TxWorld, line: u32, c: &Call) -> ActorNo
+    ensures { may_enter world.now.world line c.now ≡ true }
 {
-    let actor = ActorNo::new(1).expect(rt, "no such client");
     if !world.may_enter(line, c) {
         panic!(rt; "the call of line {line} may not be entered");
     }
-    match world.enter(log, out, actor, line, c, 0) {
+    ActorNo::new(1).expect(rt, "no such client")
+}
+
+/// Enters a call of client 1, and says what it answered.
+fn enter(rt: &impl Abort, run: &mut Run, line: u32, c: &Call) -> Answer
+    requires answers { MayAnswer run.old.world.transaction.value run.old.world.world c.now 0 }
+    requires fits { IsTrue run.old.log.is_up → Fits run.old.world (open_records run.old.log.slots) }
+    ensures fits { IsTrue run.new.log.is_up → Fits run.new.world (open_records run.new.log.slots) }
+{
+    let actor = client(rt, &run.world, line, c);
+    match run.world.enter(&run.log, &mut run.out, actor, line, c, 0) {
         Ok(answer) => answer,
         Err(error) => panic!(rt; "{error}"),
     }
 }
 
 /// Does the first pending step, and then says so by a `do` of client 1.
-fn step_and_say(
-    rt: &impl Abort,
-    world: &mut TxWorld,
-    log: &mut Log<MemDisk>,
-    out: &mut Outbox,
-    line: u32,
-)
-    requires fits { IsTrue log.old.is_up → Fits world.old (open_records log.old.slots) }
+fn step_and_say(rt: &impl Abort, run: &mut Run, line: u32)
+    requires fits { IsTrue run.old.log.is_up → Fits run.old.world (open_records run.old.log.slots) }
 {
-    let actor = ActorNo::new(1).expect(rt, "no such client");
     let c = Call::Do(transaction(rt), 1, 1);
-    let Ok(true) = world.step(log, out, 1) else {
+    let Ok(true) = run.world.step(&mut run.log, &mut run.out, 1) else {
         panic!(rt; "nothing is pending");
     };
-    if !world.may_enter(line, &c) {
-        panic!(rt; "the call of line {line} may not be entered");
-    }
-    assert!(rt; world.did(actor, line, &c, 1).is_ok());
+    let actor = client(rt, &run.world, line, &c);
+    assert!(rt; run.world.did(actor, line, &c, 1).is_ok());
 }
 
 /// Does what is pending, until nothing is.
-fn settle(rt: &impl Abort, world: &mut TxWorld, log: &mut Log<MemDisk>, out: &mut Outbox)
-    requires fits { IsTrue log.old.is_up → Fits world.old (open_records log.old.slots) }
-    ensures fits { IsTrue log.new.is_up → Fits world.new (open_records log.new.slots) }
-    ensures settled { pending world.new.world ≡ [] }
+fn settle(rt: &impl Abort, run: &mut Run)
+    requires fits { IsTrue run.old.log.is_up → Fits run.old.world (open_records run.old.log.slots) }
+    ensures fits { IsTrue run.new.log.is_up → Fits run.new.world (open_records run.new.log.slots) }
+    ensures settled { pending run.new.world.world ≡ [] }
 {
-    match world.settle(log, out) {
-        Ok(_count) => assert!(rt; world.pending() == 0),
+    match run.world.settle(&mut run.log, &mut run.out) {
+        Ok(_count) => assert!(rt; run.world.pending() == 0),
         Err(error) => panic!(rt; "{error}"),
     }
 }
@@ -100,32 +100,32 @@ pub(crate) fn world(rt: &impl Abort, alloc: Global) -> TxWorld
     }
 }
 
-/// Runs the transaction over an empty log.
-fn run(rt: &impl Abort, world: &mut TxWorld, log: &mut Log<MemDisk>, out: &mut Outbox)
-    requires new { Fits world.old [] }
-    requires empty { open_records log.old.slots ≡ [] }
+/// Such a world over an empty log.
+fn fresh(rt: &impl Abort, alloc: Global) -> Result<Run, AllocError>
+    ensures fits { IfOk result (λ run. IsTrue run.log.is_up → Fits run.world (open_records run.log.slots)) }
+{
+    let log = empty_log(rt, alloc)?;
+    let out = Outbox::with_room(alloc)?;
+    let world = world(rt, alloc);
+    Ok(Run { world, log, out })
+}
+
+/// Runs the transaction over the log, to which nothing was written yet.
+fn run_whole(rt: &impl Abort, run: &mut Run)
+    requires fits { IsTrue run.old.log.is_up → Fits run.old.world (open_records run.old.log.slots) }
 {
     let t = transaction(rt);
     let e1 = EnlNo::new(1).expect(rt, "no such enlistment");
     let r1 = RmNo::new(1).expect(rt, "no such manager");
     let begin = Call::Begin(t, Timeout::Default);
-    assert_eq!(rt; enter(rt, world, log, out, 1, &begin), Answer::Fine);
-    assert_eq!(rt;
-        enter(rt, world, log, out, 2, &Call::Marshal(t)),
-        Answer::Wait
-    );
-    settle(rt, world, log, out);
-    assert_eq!(rt;
-        enter(rt, world, log, out, 3, &Call::Await(t)),
-        Answer::StillOpen
-    );
+    assert_eq!(rt; enter(rt, run, 1, &begin), Answer::Fine);
+    assert_eq!(rt; enter(rt, run, 2, &Call::Marshal(t)), Answer::Wait);
+    settle(rt, run);
+    assert_eq!(rt; enter(rt, run, 3, &Call::Await(t)), Answer::StillOpen);
     let durable = Call::Durable(t, e1, r1, Support::TwoPhase(Some(Vote::Yes)));
-    assert_eq!(rt; enter(rt, world, log, out, 4, &durable), Answer::Wait);
-    assert_eq!(rt;
-        enter(rt, world, log, out, 5, &Call::Commit(t)),
-        Answer::Fine
-    );
-    settle(rt, world, log, out);
+    assert_eq!(rt; enter(rt, run, 4, &durable), Answer::Wait);
+    assert_eq!(rt; enter(rt, run, 5, &Call::Commit(t)), Answer::Fine);
+    settle(rt, run);
 }
 
 /// Compares the history, as text, with these entries.
@@ -154,10 +154,11 @@ pub(crate) fn shows(
     Ok(())
 }
 
-/// A transaction with one volatile was sealed, and asks it.
-const ASKED: [&str; 8] = [
-    "call 1 a1 ok",
-    "began 60000",
+/// A transaction is begun.
+const BEGUN: [&str; 2] = ["call 1 a1 ok", "began 60000"];
+
+/// One with one volatile was sealed, and asks it.
+pub(crate) const ASKED: [&str; 6] = [
     "call 2 a1 ok",
     "enlisted e1 one",
     "call 3 a1 ok",
@@ -187,186 +188,133 @@ const VOTED_NO: [&str; 5] = [
 ];
 
 /// Does a call of client 1, with the steps before it, and says what it answered.
-fn call(
-    rt: &impl Abort,
-    world: &mut TxWorld,
-    log: &mut Log<MemDisk>,
-    out: &mut Outbox,
-    line: u32,
-    c: &Call,
-) -> Answer
-    requires fits { IsTrue log.old.is_up → Fits world.old (open_records log.old.slots) }
-    ensures fits { IsTrue log.new.is_up → Fits world.new (open_records log.new.slots) }
+fn call(rt: &impl Abort, run: &mut Run, line: u32, c: &Call) -> Answer
+    requires fits { IsTrue run.old.log.is_up → Fits run.old.world (open_records run.old.log.slots) }
+    ensures fits { IsTrue run.new.log.is_up → Fits run.new.world (open_records run.new.log.slots) }
 {
-    let actor = ActorNo::new(1).expect(rt, "no such client");
-    if !world.may_enter(line, c) {
-        panic!(rt; "the call of line {line} may not be entered");
-    }
-    match world.call(log, out, actor, line, c) {
+    let actor = client(rt, &run.world, line, c);
+    match run.world.call(&mut run.log, &mut run.out, actor, line, c) {
         Ok(answer) => answer,
         Err(error) => panic!(rt; "{error}"),
     }
 }
 
-/// Enters a `do` of client 1 for which no step was done, since none is pending.
-fn did_none(
-    rt: &impl Abort,
-    world: &mut TxWorld,
-    log: &mut Log<MemDisk>,
-    out: &mut Outbox,
-    line: u32,
-)
-    requires fits { IsTrue log.old.is_up → Fits world.old (open_records log.old.slots) }
+/// Does these calls, of these lines, and compares what they answer.
+fn calls(rt: &impl Abort, run: &mut Run, cases: &[(u32, Call, Answer)])
+    requires fits { IsTrue run.old.log.is_up → Fits run.old.world (open_records run.old.log.slots) }
+    ensures fits { IsTrue run.new.log.is_up → Fits run.new.world (open_records run.new.log.slots) }
 {
-    let actor = ActorNo::new(1).expect(rt, "no such client");
-    let c = Call::Do(transaction(rt), 1, 1);
-    if world.step(log, out, 1) != Ok(false) || !world.may_enter(line, &c) {
-        panic!(rt; "a step is pending, or the call may not be entered");
+    for (line, c, answer) in cases {
+        assert_eq!(rt; call(rt, run, *line, c), *answer, "at line {line}");
     }
-    match world.did(actor, line, &c, 0) {
+}
+
+/// Enters a `do` of client 1 for which no step was done, since none is pending.
+fn did_none(rt: &impl Abort, run: &mut Run, line: u32)
+    requires fits { IsTrue run.old.log.is_up → Fits run.old.world (open_records run.old.log.slots) }
+{
+    let c = Call::Do(transaction(rt), 1, 1);
+    if run.world.step(&mut run.log, &mut run.out, 1) != Ok(false) {
+        panic!(rt; "a step is pending");
+    }
+    let actor = client(rt, &run.world, line, &c);
+    match run.world.did(actor, line, &c, 0) {
         Ok(()) => (),
         Err(error) => panic!(rt; "{error}"),
     }
 }
 
-/// Calls that do the steps before them.
-fn calls(rt: &impl Abort, world: &mut TxWorld, log: &mut Log<MemDisk>, out: &mut Outbox)
-    requires new { Fits world.old [] }
-    requires empty { open_records log.old.slots ≡ [] }
+/// A run of a transaction that was begun, has a volatile that plans to vote yes, and is to commit.
+fn asked(rt: &impl Abort, alloc: Global) -> Result<Run, AllocError>
+    ensures fits { IfOk result (λ run. IsTrue run.log.is_up → Fits run.world (open_records run.log.slots)) }
 {
+    let mut run = fresh(rt, alloc)?;
     let t = transaction(rt);
     let e1 = EnlNo::new(1).expect(rt, "no such enlistment");
-    let begin = Call::Begin(t, Timeout::Default);
     let volatile = Call::Volatile(t, e1, EnlistOption::Plain, Some(Vote::Yes));
-    let told = Answer::OutcomeIs(Outcome::Committed);
-    assert_eq!(rt; call(rt, world, log, out, 1, &begin), Answer::Fine);
-    assert_eq!(rt; call(rt, world, log, out, 2, &volatile), Answer::Fine);
-    assert_eq!(rt;
-        call(rt, world, log, out, 3, &Call::Commit(t)),
-        Answer::Fine
-    );
-    assert_eq!(rt;
-        call(rt, world, log, out, 4, &Call::Do(t, 1, 3)),
-        Answer::Did(3)
-    );
-    assert_eq!(rt; world.status(), Status::Active);
-    assert_eq!(rt; call(rt, world, log, out, 5, &Call::Await(t)), told);
-    assert_eq!(rt; world.status(), Status::Committed);
-    did_none(rt, world, log, out, 6);
+    let cases = [
+        (1, Call::Begin(t, Timeout::Default), Answer::Fine),
+        (2, volatile, Answer::Fine),
+        (3, Call::Commit(t), Answer::Fine),
+    ];
+    calls(rt, &mut run, &cases);
+    Ok(run)
 }
 
 #[test]
 fn a_call_does_the_steps_before_it(rt: HostRuntime) -> Result<(), Fail> {
-    let alloc = rt.alloc();
-    let mut log = empty_log(&rt, alloc)?;
-    let mut world = world(&rt, alloc);
-    let mut out = Outbox::with_room(alloc)?;
-    calls(&rt, &mut world, &mut log, &mut out);
-    shows(&rt, alloc, &world, &[&ASKED, &VOTED_YES])?;
+    let mut run = asked(&rt, rt.alloc())?;
+    let t = transaction(&rt);
+    let told = Answer::OutcomeIs(Outcome::Committed);
+    assert_eq!(rt; call(&rt, &mut run, 4, &Call::Do(t, 1, 3)), Answer::Did(3));
+    assert_eq!(rt; run.world.status(), Status::Active);
+    assert_eq!(rt; call(&rt, &mut run, 5, &Call::Await(t)), told);
+    assert_eq!(rt; run.world.status(), Status::Committed);
+    did_none(&rt, &mut run, 6);
+    shows(&rt, rt.alloc(), &run.world, &[&BEGUN, &ASKED, &VOTED_YES])?;
     Ok(())
 }
 
 #[test]
 fn nothing_is_pending_in_a_new_world(rt: HostRuntime) -> Result<(), Fail> {
-    let alloc = rt.alloc();
-    let mut log = empty_log(&rt, alloc)?;
-    let mut world = world(&rt, alloc);
-    let mut out = Outbox::with_room(alloc)?;
-    assert_eq!(rt; world.pending(), 0);
-    assert_eq!(rt; world.step(&mut log, &mut out, 1), Ok(false));
-    assert_eq!(rt; world.status(), Status::Active);
-    assert_eq!(rt; world.id(), 0);
+    let mut run = fresh(&rt, rt.alloc())?;
+    assert_eq!(rt; run.world.pending(), 0);
+    assert_eq!(rt; run.world.step(&mut run.log, &mut run.out, 1), Ok(false));
+    assert_eq!(rt; run.world.status(), Status::Active);
+    assert_eq!(rt; run.world.id(), 0);
     Ok(())
 }
 
 /// Replies so for the enlistment that is asked first, where one is asked to prepare; whether the reply was due.
-fn reply(
-    rt: &impl Abort,
-    world: &mut TxWorld,
-    log: &Log<MemDisk>,
-    out: &mut Outbox,
-    vote: Vote,
-) -> bool
-    requires fits { IsTrue log.now.is_up → Fits world.old (open_records log.now.slots) }
-    ensures fits { IsTrue log.now.is_up → Fits world.new (open_records log.now.slots) }
+fn reply(rt: &impl Abort, run: &mut Run, vote: Vote) -> bool
+    requires fits { IsTrue run.old.log.is_up → Fits run.old.world (open_records run.old.log.slots) }
+    ensures fits { IsTrue run.new.log.is_up → Fits run.new.world (open_records run.new.log.slots) }
 {
-    let Some((e, Note::Prepare)) = world.due_at(1) else {
+    let Some((e, Note::Prepare)) = run.world.due_at(1) else {
         return false;
     };
-    match world.reply(log, out, e, Reply::Vote(vote)) {
+    match run
+        .world
+        .reply(&run.log, &mut run.out, e, Reply::Vote(vote))
+    {
         Ok(was_due) => was_due,
         Err(error) => panic!(rt; "{error}"),
     }
 }
 
-/// The volatile of a transaction votes no, though its line plans yes.
-fn votes_by_hand(rt: &impl Abort, world: &mut TxWorld, log: &mut Log<MemDisk>, out: &mut Outbox)
-    requires new { Fits world.old [] }
-    requires empty { open_records log.old.slots ≡ [] }
-{
-    let t = transaction(rt);
-    let e1 = EnlNo::new(1).expect(rt, "no such enlistment");
-    let begin = Call::Begin(t, Timeout::Default);
-    let volatile = Call::Volatile(t, e1, EnlistOption::Plain, Some(Vote::Yes));
-    let told = Answer::OutcomeIs(Outcome::Aborted);
-    assert_eq!(rt; call(rt, world, log, out, 1, &begin), Answer::Fine);
-    assert_eq!(rt; call(rt, world, log, out, 2, &volatile), Answer::Fine);
-    assert_eq!(rt;
-        call(rt, world, log, out, 3, &Call::Commit(t)),
-        Answer::Fine
-    );
-    assert!(rt; !reply(rt, world, log, out, Vote::No));
-    assert_eq!(rt;
-        call(rt, world, log, out, 4, &Call::Do(t, 1, 2)),
-        Answer::Did(2)
-    );
-    assert!(rt; reply(rt, world, log, out, Vote::No));
-    assert!(rt; !reply(rt, world, log, out, Vote::No));
-    assert_eq!(rt; call(rt, world, log, out, 5, &Call::Await(t)), told);
-}
-
+/// The volatile of the transaction votes no, though its line plans yes.
 #[test]
 fn a_reply_need_not_be_the_planned_one(rt: HostRuntime) -> Result<(), Fail> {
-    let alloc = rt.alloc();
-    let mut log = empty_log(&rt, alloc)?;
-    let mut world = world(&rt, alloc);
-    let mut out = Outbox::with_room(alloc)?;
-    votes_by_hand(&rt, &mut world, &mut log, &mut out);
-    shows(&rt, alloc, &world, &[&ASKED, &VOTED_NO])?;
+    let mut run = asked(&rt, rt.alloc())?;
+    let t = transaction(&rt);
+    let told = Answer::OutcomeIs(Outcome::Aborted);
+    assert!(rt; !reply(&rt, &mut run, Vote::No));
+    assert_eq!(rt; call(&rt, &mut run, 4, &Call::Do(t, 1, 2)), Answer::Did(2));
+    assert!(rt; reply(&rt, &mut run, Vote::No));
+    assert!(rt; !reply(&rt, &mut run, Vote::No));
+    assert_eq!(rt; call(&rt, &mut run, 5, &Call::Await(t)), told);
+    shows(&rt, rt.alloc(), &run.world, &[&BEGUN, &ASKED, &VOTED_NO])?;
     Ok(())
 }
 
-/// Begins the transaction, asks for its identifier at the coordinator, and then the coordinator stops. The log wasn't opened since, so nothing is found yet.
-fn stopped_at_once(rt: &impl Abort, world: &mut TxWorld, log: &mut Log<MemDisk>, out: &mut Outbox)
-    requires new { Fits world.old [] }
-    requires empty { open_records log.old.slots ≡ [] }
-{
-    let t = transaction(rt);
-    let begin = Call::Begin(t, Timeout::Default);
-    assert_eq!(rt; call(rt, world, log, out, 1, &begin), Answer::Fine);
-    assert_eq!(rt; world.coordinator_stopped(0), Ok(()));
-    assert!(rt; !world.is_stopped());
-    assert_eq!(rt;
-        call(rt, world, log, out, 2, &Call::Marshal(t)),
-        Answer::Wait
-    );
-    assert_eq!(rt; world.coordinator_stopped(0), Ok(()));
-    assert!(rt; world.is_stopped());
-    if !log.is_up() {
-        panic!(rt; "the log is stopped");
-    }
-    assert_eq!(rt; world.coordinator_restarted(log), Ok(()));
-    assert!(rt; world.is_stopped());
-}
-
+/// The transaction begins, asks for its identifier at the coordinator, and then the coordinator stops. The log wasn't opened since, so nothing is found yet.
 #[test]
 fn a_stop_reaches_who_is_at_the_coordinator(rt: HostRuntime) -> Result<(), Fail> {
-    let alloc = rt.alloc();
-    let mut log = empty_log(&rt, alloc)?;
-    let mut world = world(&rt, alloc);
-    let mut out = Outbox::with_room(alloc)?;
-    stopped_at_once(&rt, &mut world, &mut log, &mut out);
-    let h = world.history();
+    let mut run = fresh(&rt, rt.alloc())?;
+    let t = transaction(&rt);
+    let begin = Call::Begin(t, Timeout::Default);
+    assert_eq!(rt; call(&rt, &mut run, 1, &begin), Answer::Fine);
+    assert_eq!(rt; run.world.coordinator_stopped(0), Ok(()));
+    assert!(rt; !run.world.is_stopped());
+    assert_eq!(rt; call(&rt, &mut run, 2, &Call::Marshal(t)), Answer::Wait);
+    assert_eq!(rt; run.world.coordinator_stopped(0), Ok(()));
+    assert!(rt; run.world.is_stopped());
+    if !run.log.is_up() {
+        panic!(rt; "the log is stopped");
+    }
+    assert_eq!(rt; run.world.coordinator_restarted(&run.log), Ok(()));
+    assert!(rt; run.world.is_stopped());
+    let h = run.world.history();
     assert_eq!(rt; h.len(), 6);
     assert_eq!(rt; h.at(5), Entry::Stopped);
     Ok(())
@@ -374,50 +322,38 @@ fn a_stop_reaches_who_is_at_the_coordinator(rt: HostRuntime) -> Result<(), Fail>
 
 #[test]
 fn a_log_that_stops_under_the_record_stops_the_coordinator(rt: HostRuntime) -> Result<(), Fail> {
-    let alloc = rt.alloc();
     for image in [Image::Lose, Image::Keep, Image::Torn] {
-        let mut log = empty_log(&rt, alloc)?;
-        log.arm(1, image);
-        let mut world = world(&rt, alloc);
-        let mut out = Outbox::with_room(alloc)?;
-        run(&rt, &mut world, &mut log, &mut out);
-        assert_eq!(rt; world.status(), Status::InDoubt);
-        assert!(rt; world.is_stopped());
-        assert!(rt; !log.is_up());
-        assert!(rt; world.ties(&log).is_ok());
+        let mut run = fresh(&rt, rt.alloc())?;
+        run.log.arm(1, image);
+        run_whole(&rt, &mut run);
+        assert_eq!(rt; run.world.status(), Status::InDoubt);
+        assert!(rt; run.world.is_stopped());
+        assert!(rt; !run.log.is_up());
+        assert!(rt; run.world.ties(&run.log).is_ok());
     }
     Ok(())
 }
 
 #[test]
 fn the_steps_of_the_caller_are_said(rt: HostRuntime) -> Result<(), Fail> {
-    let alloc = rt.alloc();
-    let mut log = empty_log(&rt, alloc)?;
-    let mut world = world(&rt, alloc);
-    let mut out = Outbox::with_room(alloc)?;
+    let mut run = fresh(&rt, rt.alloc())?;
     let t = transaction(&rt);
-    let begin = Call::Begin(t, Timeout::Default);
-    assert_eq!(rt;
-        call(&rt, &mut world, &mut log, &mut out, 1, &begin),
-        Answer::Fine
-    );
-    assert_eq!(rt;
-        call(&rt, &mut world, &mut log, &mut out, 2, &Call::Marshal(t)),
-        Answer::Wait
-    );
-    step_and_say(&rt, &mut world, &mut log, &mut out, 3);
+    let cases = [
+        (1, Call::Begin(t, Timeout::Default), Answer::Fine),
+        (2, Call::Marshal(t), Answer::Wait),
+    ];
+    calls(&rt, &mut run, &cases);
+    step_and_say(&rt, &mut run, 3);
     let a1 = ActorNo::new(1).unwrap();
     let did = Entry::Called(3, a1, Answer::Did(1));
-    let h = world.history();
+    let h = run.world.history();
     assert_eq!(rt; h.len(), 8);
     assert_eq!(rt; h.at(7), did);
     Ok(())
 }
 
 /// A promotion begins; its connection is lost with BEGIN on it, and then the manager of the owner.
-const LOST: [&str; 21] = [
-    "call 1 a1 ok",
-    "began 60000",
+const LOST: [&str; 19] = [
     "call 2 a1 ok",
     "enlisted e1 single",
     "call 3 a1 wait",
@@ -439,45 +375,27 @@ const LOST: [&str; 21] = [
     "call 9 a1 aborted",
 ];
 
-/// Calls that lose connections, which were opened or not, and an enlistment, twice.
-fn loses(rt: &impl Abort, world: &mut TxWorld, log: &mut Log<MemDisk>, out: &mut Outbox)
-    requires new { Fits world.old [] }
-    requires empty { open_records log.old.slots ≡ [] }
-{
-    let t = transaction(rt);
-    let e1 = EnlNo::new(1).expect(rt, "no such enlistment");
-    let r1 = RmNo::new(1).expect(rt, "no such manager");
-    let owner = Support::SinglePhase(Some(Vote::Yes), Some(Outcome::Committed));
-    let told = Answer::OutcomeIs(Outcome::Aborted);
-    let begin = Call::Begin(t, Timeout::Default);
-    let durable = Call::Durable(t, e1, r1, owner);
-    let lose_v = Call::Lose(t, Conn::Voter, 0, 0);
-    let lose_b = Call::Lose(t, Conn::Begin, 0, 0);
-    let lose_again = Call::Lose(t, Conn::Begin, 1, 1);
-    assert_eq!(rt; call(rt, world, log, out, 1, &begin), Answer::Fine);
-    assert_eq!(rt; call(rt, world, log, out, 2, &durable), Answer::Fine);
-    assert_eq!(rt;
-        call(rt, world, log, out, 3, &Call::Marshal(t)),
-        Answer::Wait
-    );
-    assert_eq!(rt; call(rt, world, log, out, 4, &lose_v), Answer::NoSuch);
-    assert_eq!(rt; call(rt, world, log, out, 5, &lose_b), Answer::Fine);
-    assert_eq!(rt; call(rt, world, log, out, 6, &lose_again), Answer::NoSuch);
-    assert_eq!(rt; call(rt, world, log, out, 7, &Call::Gone(e1)), Answer::Fine);
-    assert_eq!(rt;
-        call(rt, world, log, out, 8, &Call::Gone(e1)),
-        Answer::Already
-    );
-    assert_eq!(rt; call(rt, world, log, out, 9, &Call::Await(t)), told);
-}
-
+/// Connections are lost, which were opened or not, and an enlistment, twice.
 #[test]
 fn a_loss_ends_the_promotion_that_is_under_way(rt: HostRuntime) -> Result<(), Fail> {
-    let alloc = rt.alloc();
-    let mut log = empty_log(&rt, alloc)?;
-    let mut world = world(&rt, alloc);
-    let mut out = Outbox::with_room(alloc)?;
-    loses(&rt, &mut world, &mut log, &mut out);
-    shows(&rt, alloc, &world, &[&LOST])?;
+    let mut run = fresh(&rt, rt.alloc())?;
+    let t = transaction(&rt);
+    let e1 = EnlNo::new(1).expect(&rt, "no such enlistment");
+    let r1 = RmNo::new(1).expect(&rt, "no such manager");
+    let owner = Support::SinglePhase(Some(Vote::Yes), Some(Outcome::Committed));
+    let told = Answer::OutcomeIs(Outcome::Aborted);
+    let cases = [
+        (1, Call::Begin(t, Timeout::Default), Answer::Fine),
+        (2, Call::Durable(t, e1, r1, owner), Answer::Fine),
+        (3, Call::Marshal(t), Answer::Wait),
+        (4, Call::Lose(t, Conn::Voter, 0, 0), Answer::NoSuch),
+        (5, Call::Lose(t, Conn::Begin, 0, 0), Answer::Fine),
+        (6, Call::Lose(t, Conn::Begin, 1, 1), Answer::NoSuch),
+        (7, Call::Gone(e1), Answer::Fine),
+        (8, Call::Gone(e1), Answer::Already),
+        (9, Call::Await(t), told),
+    ];
+    calls(&rt, &mut run, &cases);
+    shows(&rt, rt.alloc(), &run.world, &[&BEGUN, &LOST])?;
     Ok(())
 }

@@ -3,4 +3,4 @@ use Rattle.thread_tests.proofs.boards.calls_are_entered_in_order_and_the_board_t
 
 -- the run is named by what the test has
 abbrev pub ghosts-said : goal.ghosts-said
-ghosts-said g a = record { script = a.s.now; objects = 0; honest = true; faults = 0 }
+ghosts-said g a = record { script = a.start.script; objects = 0; honest = true; faults = 0 }

@@ -3,4 +3,4 @@ use Rattle.thread_tests.proofs.gates.a_write_at_the_log_holds_no_other_transacti
 
 -- the run is named by what the test has
 abbrev pub ghosts-both_ways : goal.ghosts-both_ways
-ghosts-both_ways g a = record { script = a.s.now; objects = 0; honest = false; faults = 0 }
+ghosts-both_ways g a = record { script = a.start.script; objects = 0; honest = false; faults = 0 }

@@ -3,4 +3,4 @@ use Rattle.thread_tests.proofs.gates.looks_at_a_board_wait_for_nobody.Given as g
 
 -- the run is named by what the test has
 abbrev pub ghosts-peeked : goal.ghosts-peeked
-ghosts-peeked g a = record { script = a.s.now; objects = 0; honest = true; faults = 0 }
+ghosts-peeked g a = record { script = a.start.script; objects = 0; honest = true; faults = 0 }

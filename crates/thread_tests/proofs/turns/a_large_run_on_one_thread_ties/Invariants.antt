@@ -3,4 +3,4 @@ use Rattle.thread_tests.proofs.turns.a_large_run_on_one_thread_ties.Given as goa
 
 -- the run is named by what the test has
 abbrev pub ghosts-ran : goal.ghosts-ran
-ghosts-ran g a = record { script = a.s.now; objects = 0; honest = true; faults = 0 }
+ghosts-ran g a = record { script = a.start.script; objects = 0; honest = true; faults = 0 }

@@ -3,4 +3,4 @@ use Rattle.thread_tests.proofs.turns.a_restart_is_entered_at_the_log_alone.Given
 
 -- the run is named by what the test has
 abbrev pub ghosts-restarted : goal.ghosts-restarted
-ghosts-restarted g a = record { script = a.s.now; objects = 0; honest = true; faults = 0 }
+ghosts-restarted g a = record { script = a.start.script; objects = 0; honest = true; faults = 0 }

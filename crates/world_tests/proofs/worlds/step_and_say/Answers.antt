@@ -6,8 +6,8 @@ pub did-requires-clause-answers : goal.did-requires-clause-answers
 did-requires-clause-answers g c =
     let done : c.step.result ≡ Ok true = cc in
     record {
-      before = c.args.world.now.world;
-      stepped = kth_more _ 1 0 c.args.world.now.world c.args.world.now c.args.log.now c.step.new.self c.step.new.log refl (c.step.ensures.some done);
+      before = c.args.run.now.world.world;
+      stepped = kth_more _ 1 0 c.args.run.now.world.world c.args.run.now.world c.args.run.now.log c.step.new.self c.step.new.log refl (c.step.ensures.some done);
       most = omega arith;
       fewer = λ less. absurd (omega (arith, less));
     }
