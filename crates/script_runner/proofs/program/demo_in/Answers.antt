@@ -16,4 +16,4 @@ returns-clause-answers g c =
 pub returns-clause-given_up_whole : goal.returns-clause-given_up_whole
 returns-clause-given_up_whole g c honest memory calm =
     let made = c.new-source.ensures ∙ c.in-Ok.ensures.text in
-    c.run_in.ensures.given_up_whole refl honest memory calm (λ s is reads. c.make_script.ensures.no_log_line s (subst (λ (b : List ℕ). Reads b s) made reads))
+    c.run_in.ensures.given_up_whole refl honest memory calm (λ s is reads. c.make_script.ensures.no_log_line s (subst (λ (b : List ℕ). Reads b s) made (reads _ refl)))
