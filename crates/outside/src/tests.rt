@@ -151,19 +151,23 @@ fn first_four<D: Disk>(disk: &mut D) -> Result<[u8; 4], Failed> {
     Ok(into)
 }
 
+// Does a step.
+fn take<D: Disk>(disk: &mut D, step: &Step) -> Result<(), Failed> {
+    match step {
+        Step::Write(at, from) => put(disk, *at, from.as_slice()),
+        Step::Sync => disk.sync(),
+        Step::Crash(wish) => {
+            disk.crash(*wish);
+            Ok(())
+        }
+    }
+}
+
 // Does the steps, and says how many of them failed.
 fn failures<D: Disk>(disk: &mut D, steps: &[Step]) -> usize {
     let mut failed = 0usize;
     for step in steps {
-        let done = match step {
-            Step::Write(at, from) => put(disk, *at, from.as_slice()),
-            Step::Sync => disk.sync(),
-            Step::Crash(wish) => {
-                disk.crash(*wish);
-                Ok(())
-            }
-        };
-        if done.is_err() {
+        if take(disk, step).is_err() {
             failed = failed.saturating_add(1);
         }
     }
