@@ -4,12 +4,12 @@ use Rattle.std.proofs.Common.{List, Some, [], refl, true, ◌++◌, ◌∷◌}
 use Rattle.dtx_values.specs.declared.entry.Answer.TheVariants.{Fine, Id, Wait}
 use Rattle.dtx_values.specs.declared.entry.Ask.TheVariants.{Prepare}
 use Rattle.dtx_values.specs.declared.entry.Entry.{Entry}
-use Rattle.dtx_values.specs.declared.entry.Entry.TheVariants.{Acked, Answered, Asked, Began, Called, Clock, CommitAsked, Decided, Enlisted, Got, LocalYes, Logged, Promoted, Promoting, Reenlisted, Restarted, Sealed, Sent, TimedOut, Told, Voted}
+use Rattle.dtx_values.specs.declared.entry.Entry.TheVariants.{Acked, Answered, Asked, Began, Called, Clock, CommitAsked, Decided, Enlisted, Got, Logged, Promoted, Promoting, Restarted, Sealed, Sent, TimedOut, Told, Voted}
 use Rattle.dtx_values.specs.declared.entry.Party.TheVariants.{Client, Enl as Member}
-use Rattle.dtx_values.specs.declared.message.Conn.TheVariants.{Again, Begin, Enl, Voter}
+use Rattle.dtx_values.specs.declared.message.Conn.TheVariants.{Begin, Enl, Voter}
 use Rattle.dtx_values.specs.declared.message.Dir.TheVariants.{Down, Up}
 use Rattle.dtx_values.specs.declared.message.Message.{Message}
-use Rattle.dtx_values.specs.declared.message.Message.TheVariants.{BeginAborted, BeginBegin, BeginBegun, BeginCommit, BeginCommitted, EnlistAbort, EnlistAck, EnlistCommit, EnlistEnlist, EnlistEnlisted, EnlistPrepare, EnlistPrepared, ReenlistAborted, ReenlistCommitted, ReenlistReenlist, VoterAsk, VoterCommit, VoterCreated, VoterNo, VoterVoter, VoterYes}
+use Rattle.dtx_values.specs.declared.message.Message.TheVariants.{BeginAborted, BeginBegin, BeginBegun, BeginCommit, BeginCommitted, EnlistAbort, EnlistAck, EnlistCommit, EnlistEnlist, EnlistEnlisted, EnlistPrepare, ReenlistAborted, ReenlistCommitted, VoterAsk, VoterCommit, VoterCreated, VoterNo, VoterYes}
 use Rattle.dtx_values.specs.declared.script.Body.TheVariants.{Begin as BeginLine, Commit as CommitLine, Durable as DurableLine, Marshal as MarshalLine, Tick as TickLine, Volatile as VolatileLine}
 use Rattle.dtx_values.specs.declared.script.EnlistOption.TheVariants.{Plain}
 use Rattle.dtx_values.specs.declared.script.Line.{Line}
@@ -25,7 +25,8 @@ use Rattle.dtx_model.specs.Half.{info}
 use Rattle.dtx_model.proofs.Cast.{a1, e1, id1, r1, says, t1}
 use Rattle.dtx_model.proofs.Computing.{model}
 use Rattle.dtx_model.proofs.Judging.{Agreement, Breaks, Notes, Justice, Learning, Order, Plans, Telling, Wires}
-use Rattle.dtx_model.proofs.WorkedRecoveries.{asked, finds_the_record_lines, prepared, stopped}
+use Rattle.dtx_model.proofs.WorkedParts.{asked, begun_there, enlisted_there, prepared_there, says_yes, voter_created}
+use Rattle.dtx_model.proofs.WorkedRecoveries.{comes_back, finds_the_record_lines, prepared, stopped}
 
 -- The script of most of them. No history has the calls of all its lines.
 abbrev lines : List Line
@@ -46,9 +47,8 @@ under_way = begun (Promoting MarshalCause ∷ [])
 
 abbrev promoted : List Entry
 promoted =
-    Got Begin Up BeginBegin ∷ Sent Begin Down (BeginBegun id1) ∷
-    Got Begin Down (BeginBegun id1) ∷ Sent Voter Up (VoterVoter id1) ∷
-    Got Voter Up (VoterVoter id1) ∷ Sent Voter Down VoterCreated ∷
+    begun_there ++
+    voter_created ++
     Got Voter Down VoterCreated ∷ Promoted id1 MarshalCause ∷ Answered 2 (Id id1) ∷ []
 
 -- It was promoted, a durable enlisted at the coordinator and voted yes, and the local side is asked for its vote.
@@ -56,18 +56,13 @@ abbrev asked_to_vote : List Entry
 asked_to_vote =
     under_way ++ promoted ++
     Called 4 a1 Wait ∷ Sent (Enl e1) Up (EnlistEnlist (info 1 e1 r1)) ∷
-    Got (Enl e1) Up (EnlistEnlist (info 1 e1 r1)) ∷ Sent (Enl e1) Down EnlistEnlisted ∷
+    enlisted_there e1 r1 ++
     Got (Enl e1) Down EnlistEnlisted ∷ Enlisted e1 DurableTwo ∷ Answered 4 Fine ∷
     Called 5 a1 Fine ∷ CommitAsked ∷
     Sealed ∷ Sent Begin Up BeginCommit ∷
     Got Begin Up BeginCommit ∷ Sent Voter Down VoterAsk ∷ Sent (Enl e1) Down EnlistPrepare ∷
-    Got (Enl e1) Down EnlistPrepare ∷ Asked e1 Prepare ∷
-    Voted e1 Yes ∷ Sent (Enl e1) Up EnlistPrepared ∷
-    Got (Enl e1) Up EnlistPrepared ∷
+    prepared_there e1 ++
     Got Voter Down VoterAsk ∷ []
-
-abbrev says_yes : List Entry
-says_yes = LocalYes ∷ Sent Voter Up VoterYes ∷ []
 
 -- the coordinator has all votes: it logs the commit, and tells it
 abbrev tells_commit : List Entry → List Entry
@@ -129,15 +124,10 @@ unfolding model
 committed_unlogged = (refl, refl)
 
 -- 8. After a stop the record of the commit was found, and the durable that came back is told that it aborted.
-abbrev comes_back : Message → Outcome → List Entry
-comes_back m x =
-    asked ++ prepared ++ stopped ++
-    Restarted true ∷
-    Called 7 a1 Fine ∷ Reenlisted e1 ∷ Sent (Again e1) Up (ReenlistReenlist (info 1 e1 r1)) ∷
-    Got (Again e1) Up (ReenlistReenlist (info 1 e1 r1)) ∷ Sent (Again e1) Down m ∷
-    Got (Again e1) Down m ∷ Told (Member e1) x ∷ []
+abbrev comes_back_after_stop : Message → Outcome → List Entry
+comes_back_after_stop m x = asked ++ prepared ++ stopped ++ Restarted true ∷ comes_back m x
 
-learns_the_opposite : Breaks finds_the_record_lines (comes_back ReenlistCommitted Committed) (comes_back ReenlistAborted Aborted) (Justice ∷ Learning ∷ [])
+learns_the_opposite : Breaks finds_the_record_lines (comes_back_after_stop ReenlistCommitted Committed) (comes_back_after_stop ReenlistAborted Aborted) (Justice ∷ Learning ∷ [])
 unfolding model
 learns_the_opposite = (refl, refl)
 

@@ -9,6 +9,7 @@ pub mod Pasts
 pub mod SameNumbers
 pub mod Connections
 pub mod Counts
+pub mod Passing
 pub mod Unowned
 pub mod Unpromoted
 pub mod Classes
@@ -26,6 +27,7 @@ pub mod Cast
 pub mod Crossing
 pub mod Playing
 pub mod Working
+pub mod WorkedParts
 pub mod WorkedOutcomes
 pub mod WorkedPromotions
 pub mod Replaying

@@ -1,13 +1,13 @@
 -- Worked histories: how one transaction that is promoted for a marshal call ends. One line is one step: what it brings, and what follows from that.
-use Rattle.std.proofs.Common.{List, Some, [], false, refl, ◌∷◌}
+use Rattle.std.proofs.Common.{List, Some, [], false, refl, ◌++◌, ◌∷◌}
 use Rattle.dtx_values.specs.declared.entry.Answer.TheVariants.{Ended as EndedBy, Fine, Id, NoSuch, StillOpen, True, Wait}
-use Rattle.dtx_values.specs.declared.entry.Ask.TheVariants.{Prepare, Promote}
+use Rattle.dtx_values.specs.declared.entry.Ask.TheVariants.{Promote}
 use Rattle.dtx_values.specs.declared.entry.Entry.{Entry}
-use Rattle.dtx_values.specs.declared.entry.Entry.TheVariants.{Acked, Answered, Asked, Began, Called, CommitAsked, Cut, Decided, Down as Ended, Enlisted, Freed, Got, Init, LocalYes, Logged, PromoteReply, Promoted, Promoting, PromotionFailed, RollbackAsked, Sealed, Sent, Told, Voted}
+use Rattle.dtx_values.specs.declared.entry.Entry.TheVariants.{Answered, Asked, Began, Called, CommitAsked, Cut, Decided, Down as Ended, Enlisted, Got, Init, PromoteReply, Promoted, Promoting, PromotionFailed, RollbackAsked, Sealed, Sent, Told, Voted}
 use Rattle.dtx_values.specs.declared.entry.Party.TheVariants.{Client, Enl as Member}
 use Rattle.dtx_values.specs.declared.message.Conn.TheVariants.{Begin, Enl, Voter}
 use Rattle.dtx_values.specs.declared.message.Dir.TheVariants.{Down, Up}
-use Rattle.dtx_values.specs.declared.message.Message.TheVariants.{BeginAbort, BeginAborted, BeginBegin, BeginBegun, BeginCommit, BeginCommitted, EnlistAck, EnlistCommit, EnlistEnlist, EnlistEnlisted, EnlistNo, EnlistPrepare, EnlistPrepared, VoterAbort, VoterAsk, VoterCommit, VoterCreated, VoterVoter, VoterYes}
+use Rattle.dtx_values.specs.declared.message.Message.TheVariants.{BeginAbort, BeginAborted, BeginBegin, BeginBegun, BeginCommit, EnlistEnlist, EnlistEnlisted, EnlistNo, EnlistPrepared, VoterAbort, VoterCreated, VoterYes}
 use Rattle.dtx_values.specs.declared.script.Body.TheVariants.{Await as AwaitLine, Begin as BeginLine, Commit as CommitLine, Durable as DurableLine, Lose as LoseLine, Marshal as MarshalLine, Promotable as PromotableLine, Rollback as RollbackLine, Volatile as VolatileLine}
 use Rattle.dtx_values.specs.declared.script.EnlistOption.TheVariants.{Plain}
 use Rattle.dtx_values.specs.declared.script.Line.{Line}
@@ -16,6 +16,7 @@ use Rattle.dtx_values.specs.declared.words.Cause.TheVariants.{Marshal as Marshal
 use Rattle.dtx_values.specs.declared.words.Class.TheVariants.{DurableTwo, One, Promotable as PromotableClass}
 use Rattle.dtx_values.specs.declared.words.Outcome.TheVariants.{Aborted, Committed}
 use Rattle.dtx_values.specs.declared.words.Timeout.TheVariants.{Default}
+use Rattle.dtx_values.specs.declared.words.Vote.{Vote}
 use Rattle.dtx_values.specs.declared.words.Vote.TheVariants.{No, Yes}
 use Rattle.dtx_model.specs.Half.{info}
 use Rattle.dtx_model.specs.Words.{past_of}
@@ -23,78 +24,57 @@ use Rattle.dtx_model.proofs.Cast.{a1, e1, e2, id1, r1, says, t1}
 use Rattle.dtx_model.proofs.Computing.{model}
 use Rattle.dtx_model.proofs.Crossing.{wired}
 use Rattle.dtx_model.proofs.Working.{IsWorked}
+use Rattle.dtx_model.proofs.WorkedParts.{asked_there, begun_there, commit_told, enlisted_there, voter_created, votes_asked}
 
--- The transaction is marshaled, so it goes to the coordinator. A durable enlists there, everyone says yes, the coordinator logs the commit and tells it.
-abbrev pub commits_lines : List Line
-commits_lines =
+-- The transaction is marshaled, so it goes to the coordinator. A durable enlists there, and is to vote so.
+abbrev votes : Vote → List Line
+votes v =
     says a1 (BeginLine t1 Default) ∷
     says a1 (MarshalLine t1) ∷
     says a1 (AwaitLine t1) ∷
-    says a1 (DurableLine t1 e1 r1 (TwoPhase (Some Yes))) ∷
+    says a1 (DurableLine t1 e1 r1 (TwoPhase (Some v))) ∷
     says a1 (CommitLine t1) ∷ []
 
-abbrev pub commits_history : List Entry
-commits_history =
+-- the local side says yes, and the durable is asked for its vote
+abbrev votes_wanted : List Entry
+votes_wanted =
     Called 1 a1 Fine ∷ Began 60000 ∷
     Called 2 a1 Wait ∷ Promoting MarshalCause ∷ Sent Begin Up BeginBegin ∷
-    Got Begin Up BeginBegin ∷ Sent Begin Down (BeginBegun id1) ∷
-    Got Begin Down (BeginBegun id1) ∷ Sent Voter Up (VoterVoter id1) ∷
-    Got Voter Up (VoterVoter id1) ∷ Sent Voter Down VoterCreated ∷
+    begun_there ++
+    voter_created ++
     Got Voter Down VoterCreated ∷ Promoted id1 MarshalCause ∷ Answered 2 (Id id1) ∷
     Called 3 a1 StillOpen ∷
     Called 4 a1 Wait ∷ Sent (Enl e1) Up (EnlistEnlist (info 1 e1 r1)) ∷
     Called 5 a1 Fine ∷ CommitAsked ∷
-    Got (Enl e1) Up (EnlistEnlist (info 1 e1 r1)) ∷ Sent (Enl e1) Down EnlistEnlisted ∷
+    enlisted_there e1 r1 ++
     Got (Enl e1) Down EnlistEnlisted ∷ Enlisted e1 DurableTwo ∷ Answered 4 Fine ∷
     Sealed ∷ Sent Begin Up BeginCommit ∷
-    Got Begin Up BeginCommit ∷ Sent Voter Down VoterAsk ∷ Sent (Enl e1) Down EnlistPrepare ∷
-    Got Voter Down VoterAsk ∷
-    LocalYes ∷ Sent Voter Up VoterYes ∷
+    votes_asked ++
     Got Voter Up VoterYes ∷
-    Got (Enl e1) Down EnlistPrepare ∷ Asked e1 Prepare ∷
+    asked_there e1
+
+-- The durable says yes, and the coordinator logs the commit and tells it.
+abbrev pub commits_lines : List Line
+commits_lines = votes Yes
+
+abbrev pub commits_history : List Entry
+commits_history =
+    votes_wanted ++
     Voted e1 Yes ∷ Sent (Enl e1) Up EnlistPrepared ∷
     Got (Enl e1) Up EnlistPrepared ∷
-    Logged ∷ Sent Begin Down BeginCommitted ∷ Sent Voter Down VoterCommit ∷ Sent (Enl e1) Down EnlistCommit ∷
-    Got Begin Down BeginCommitted ∷ Decided Committed ∷
-    Told Client Committed ∷
-    Got Voter Down VoterCommit ∷
-    Got (Enl e1) Down EnlistCommit ∷ Told (Member e1) Committed ∷
-    Acked e1 ∷ Sent (Enl e1) Up EnlistAck ∷
-    Got (Enl e1) Up EnlistAck ∷
-    Freed ∷ []
+    commit_told
 
 commits : IsWorked commits_lines [] [] commits_history
 unfolding model
 commits = (refl, refl, refl, refl, refl, wired (past_of commits_history) refl, refl, refl, refl, refl)
 
--- The same, but the durable votes no. The coordinator aborts, and who voted no hears nothing more.
+-- The durable votes no: the coordinator aborts, and who voted no hears nothing more.
 abbrev pub votes_no_lines : List Line
-votes_no_lines =
-    says a1 (BeginLine t1 Default) ∷
-    says a1 (MarshalLine t1) ∷
-    says a1 (AwaitLine t1) ∷
-    says a1 (DurableLine t1 e1 r1 (TwoPhase (Some No))) ∷
-    says a1 (CommitLine t1) ∷ []
+votes_no_lines = votes No
 
 abbrev pub votes_no_history : List Entry
 votes_no_history =
-    Called 1 a1 Fine ∷ Began 60000 ∷
-    Called 2 a1 Wait ∷ Promoting MarshalCause ∷ Sent Begin Up BeginBegin ∷
-    Got Begin Up BeginBegin ∷ Sent Begin Down (BeginBegun id1) ∷
-    Got Begin Down (BeginBegun id1) ∷ Sent Voter Up (VoterVoter id1) ∷
-    Got Voter Up (VoterVoter id1) ∷ Sent Voter Down VoterCreated ∷
-    Got Voter Down VoterCreated ∷ Promoted id1 MarshalCause ∷ Answered 2 (Id id1) ∷
-    Called 3 a1 StillOpen ∷
-    Called 4 a1 Wait ∷ Sent (Enl e1) Up (EnlistEnlist (info 1 e1 r1)) ∷
-    Called 5 a1 Fine ∷ CommitAsked ∷
-    Got (Enl e1) Up (EnlistEnlist (info 1 e1 r1)) ∷ Sent (Enl e1) Down EnlistEnlisted ∷
-    Got (Enl e1) Down EnlistEnlisted ∷ Enlisted e1 DurableTwo ∷ Answered 4 Fine ∷
-    Sealed ∷ Sent Begin Up BeginCommit ∷
-    Got Begin Up BeginCommit ∷ Sent Voter Down VoterAsk ∷ Sent (Enl e1) Down EnlistPrepare ∷
-    Got Voter Down VoterAsk ∷
-    LocalYes ∷ Sent Voter Up VoterYes ∷
-    Got Voter Up VoterYes ∷
-    Got (Enl e1) Down EnlistPrepare ∷ Asked e1 Prepare ∷
+    votes_wanted ++
     Voted e1 No ∷ Sent (Enl e1) Up EnlistNo ∷
     Got (Enl e1) Up EnlistNo ∷ Sent Begin Down BeginAborted ∷ Sent Voter Down VoterAbort ∷
     Got Begin Down BeginAborted ∷ Decided Aborted ∷
@@ -183,9 +163,8 @@ loses_none_history =
     Called 1 a1 Fine ∷ Began 60000 ∷
     Called 2 a1 Wait ∷ Promoting MarshalCause ∷ Sent Begin Up BeginBegin ∷
     Called 3 a1 NoSuch ∷
-    Got Begin Up BeginBegin ∷ Sent Begin Down (BeginBegun id1) ∷
-    Got Begin Down (BeginBegun id1) ∷ Sent Voter Up (VoterVoter id1) ∷
-    Got Voter Up (VoterVoter id1) ∷ Sent Voter Down VoterCreated ∷
+    begun_there ++
+    voter_created ++
     Got Voter Down VoterCreated ∷ Promoted id1 MarshalCause ∷ Answered 2 (Id id1) ∷ []
 
 loses_none : IsWorked loses_none_lines [] [] loses_none_history

@@ -1,14 +1,14 @@
 -- Worked histories: promotions that a second durable, a promotable or a two-phase durable brings.
-use Rattle.std.proofs.Common.{List, Some, [], refl, true, ◌∷◌}
+use Rattle.std.proofs.Common.{List, Some, [], refl, true, ◌++◌, ◌∷◌}
 use Rattle.dtx_values.specs.declared.entry.Answer.TheVariants.{Did, Fine, Id, True, Wait}
 use Rattle.dtx_values.specs.declared.entry.Ask.TheVariants.{Prepare, Promote, Single}
 use Rattle.dtx_values.specs.declared.entry.Entry.{Entry}
-use Rattle.dtx_values.specs.declared.entry.Entry.TheVariants.{Acked, Answered, Asked, Began, Called, CommitAsked, Cut, Decided, Down as Ended, Enlisted, Freed, Got, Init, LocalYes, Logged, PromoteReply, Promoted, Promoting, Requested, Sealed, Sent, Told, Voted}
+use Rattle.dtx_values.specs.declared.entry.Entry.TheVariants.{Answered, Asked, Began, Called, CommitAsked, Cut, Decided, Down as Ended, Enlisted, Freed, Got, Init, Logged, PromoteReply, Promoted, Promoting, Requested, Sealed, Sent, Told, Voted}
 use Rattle.dtx_values.specs.declared.entry.Party.TheVariants.{Client, Enl as Member}
 use Rattle.dtx_values.specs.declared.entry.Request.TheVariants.{Commit as RequestCommit}
 use Rattle.dtx_values.specs.declared.message.Conn.TheVariants.{Begin, Enl, Voter}
 use Rattle.dtx_values.specs.declared.message.Dir.TheVariants.{Down, Up}
-use Rattle.dtx_values.specs.declared.message.Message.TheVariants.{BeginBegin, BeginBegun, BeginCommit, BeginCommitted, EnlistAck, EnlistCommit, EnlistEnlist, EnlistEnlisted, EnlistPrepare, EnlistPrepared, VoterAsk, VoterCommit, VoterCreated, VoterVoter, VoterYes}
+use Rattle.dtx_values.specs.declared.message.Message.TheVariants.{BeginBegin, BeginCommit, BeginCommitted, EnlistCommit, EnlistEnlist, EnlistEnlisted, EnlistPrepare, VoterAsk, VoterCommit, VoterCreated, VoterYes}
 use Rattle.dtx_values.specs.declared.script.Body.TheVariants.{Begin as BeginLine, Commit as CommitLine, Do as DoLine, Durable as DurableLine, Lose as LoseLine, Marshal as MarshalLine, Promotable as PromotableLine, Volatile as VolatileLine}
 use Rattle.dtx_values.specs.declared.script.EnlistOption.TheVariants.{DuringPrepare}
 use Rattle.dtx_values.specs.declared.script.Line.{Line}
@@ -24,6 +24,7 @@ use Rattle.dtx_model.proofs.Cast.{a1, a2, a3, a4, e1, e2, e3, id1, r1, r2, r3, s
 use Rattle.dtx_model.proofs.Computing.{model}
 use Rattle.dtx_model.proofs.Crossing.{wired}
 use Rattle.dtx_model.proofs.Working.{IsWorked}
+use Rattle.dtx_model.proofs.WorkedParts.{asked, begun_there, commit_sent, commit_told, committed_there, enlisted_there, prepared_there, says_yes, voter_created, votes_asked}
 
 -- Phase zero: while a volatile prepares, a second durable enlists. The first is handed over to the coordinator, the second enlists there, and both prepare.
 abbrev pub second_durable_lines : List Line
@@ -45,36 +46,27 @@ second_durable_history =
     Called 5 a1 (Did 1) ∷
     Called 6 a1 Wait ∷ Promoting Second ∷ Sent Begin Up BeginBegin ∷
     Voted e1 Yes ∷
-    Got Begin Up BeginBegin ∷ Sent Begin Down (BeginBegun id1) ∷
-    Got Begin Down (BeginBegun id1) ∷ Sent Voter Up (VoterVoter id1) ∷
-    Got Voter Up (VoterVoter id1) ∷ Sent Voter Down VoterCreated ∷
+    begun_there ++
+    voter_created ++
     Got Voter Down VoterCreated ∷ Sent (Enl e2) Up (EnlistEnlist (info 1 e2 r1)) ∷
-    Got (Enl e2) Up (EnlistEnlist (info 1 e2 r1)) ∷ Sent (Enl e2) Down EnlistEnlisted ∷
+    enlisted_there e2 r1 ++
     Got (Enl e2) Down EnlistEnlisted ∷ Promoted id1 Second ∷ Sent (Enl e3) Up (EnlistEnlist (info 1 e3 r2)) ∷
-    Got (Enl e3) Up (EnlistEnlist (info 1 e3 r2)) ∷ Sent (Enl e3) Down EnlistEnlisted ∷
+    enlisted_there e3 r2 ++
     Got (Enl e3) Down EnlistEnlisted ∷ Enlisted e3 DurableSingle ∷ Answered 6 Fine ∷
     Sealed ∷ Sent Begin Up BeginCommit ∷
     Got Begin Up BeginCommit ∷ Sent Voter Down VoterAsk ∷ Sent (Enl e2) Down EnlistPrepare ∷ Sent (Enl e3) Down EnlistPrepare ∷
     Got Voter Down VoterAsk ∷
-    LocalYes ∷ Sent Voter Up VoterYes ∷
+    says_yes ++
     Got Voter Up VoterYes ∷
-    Got (Enl e2) Down EnlistPrepare ∷ Asked e2 Prepare ∷
-    Voted e2 Yes ∷ Sent (Enl e2) Up EnlistPrepared ∷
-    Got (Enl e2) Up EnlistPrepared ∷
-    Got (Enl e3) Down EnlistPrepare ∷ Asked e3 Prepare ∷
-    Voted e3 Yes ∷ Sent (Enl e3) Up EnlistPrepared ∷
-    Got (Enl e3) Up EnlistPrepared ∷
+    prepared_there e2 ++
+    prepared_there e3 ++
     Logged ∷ Sent Begin Down BeginCommitted ∷ Sent Voter Down VoterCommit ∷ Sent (Enl e2) Down EnlistCommit ∷ Sent (Enl e3) Down EnlistCommit ∷
     Got Begin Down BeginCommitted ∷ Decided Committed ∷
     Told (Member e1) Committed ∷
     Told Client Committed ∷
     Got Voter Down VoterCommit ∷
-    Got (Enl e2) Down EnlistCommit ∷ Told (Member e2) Committed ∷
-    Acked e2 ∷ Sent (Enl e2) Up EnlistAck ∷
-    Got (Enl e2) Up EnlistAck ∷
-    Got (Enl e3) Down EnlistCommit ∷ Told (Member e3) Committed ∷
-    Acked e3 ∷ Sent (Enl e3) Up EnlistAck ∷
-    Got (Enl e3) Up EnlistAck ∷
+    committed_there e2 ++
+    committed_there e3 ++
     Freed ∷ []
 
 second_durable : IsWorked second_durable_lines [] [] second_durable_history
@@ -96,46 +88,33 @@ waits_for_handover_history =
     Called 1 a1 Fine ∷ Began 60000 ∷
     Called 2 a1 Fine ∷ Enlisted e1 DurableSingle ∷
     Called 3 a2 Wait ∷ Promoting Second ∷ Sent Begin Up BeginBegin ∷
-    Got Begin Up BeginBegin ∷ Sent Begin Down (BeginBegun id1) ∷
-    Got Begin Down (BeginBegun id1) ∷ Sent Voter Up (VoterVoter id1) ∷
+    begun_there ++
     Called 4 a1 (Did 2) ∷
     Called 5 a3 Fine ∷ CommitAsked ∷
     Called 6 a4 Wait ∷
-    Got Voter Up (VoterVoter id1) ∷ Sent Voter Down VoterCreated ∷
+    voter_created ++
     Got Voter Down VoterCreated ∷ Sent (Enl e1) Up (EnlistEnlist (info 1 e1 r1)) ∷
-    Got (Enl e1) Up (EnlistEnlist (info 1 e1 r1)) ∷ Sent (Enl e1) Down EnlistEnlisted ∷
+    enlisted_there e1 r1 ++
     Got (Enl e1) Down EnlistEnlisted ∷ Promoted id1 Second ∷ Sent (Enl e2) Up (EnlistEnlist (info 1 e2 r2)) ∷ Sent (Enl e3) Up (EnlistEnlist (info 1 e3 r3)) ∷
-    Got (Enl e2) Up (EnlistEnlist (info 1 e2 r2)) ∷ Sent (Enl e2) Down EnlistEnlisted ∷
+    enlisted_there e2 r2 ++
     Got (Enl e2) Down EnlistEnlisted ∷ Enlisted e2 DurableSingle ∷ Answered 3 Fine ∷
-    Got (Enl e3) Up (EnlistEnlist (info 1 e3 r3)) ∷ Sent (Enl e3) Down EnlistEnlisted ∷
+    enlisted_there e3 r3 ++
     Got (Enl e3) Down EnlistEnlisted ∷ Enlisted e3 DurableTwo ∷ Answered 6 Fine ∷
     Sealed ∷ Sent Begin Up BeginCommit ∷
     Got Begin Up BeginCommit ∷ Sent Voter Down VoterAsk ∷ Sent (Enl e1) Down EnlistPrepare ∷ Sent (Enl e2) Down EnlistPrepare ∷ Sent (Enl e3) Down EnlistPrepare ∷
     Got Voter Down VoterAsk ∷
-    LocalYes ∷ Sent Voter Up VoterYes ∷
+    says_yes ++
     Got Voter Up VoterYes ∷
-    Got (Enl e1) Down EnlistPrepare ∷ Asked e1 Prepare ∷
-    Voted e1 Yes ∷ Sent (Enl e1) Up EnlistPrepared ∷
-    Got (Enl e1) Up EnlistPrepared ∷
-    Got (Enl e2) Down EnlistPrepare ∷ Asked e2 Prepare ∷
-    Voted e2 Yes ∷ Sent (Enl e2) Up EnlistPrepared ∷
-    Got (Enl e2) Up EnlistPrepared ∷
-    Got (Enl e3) Down EnlistPrepare ∷ Asked e3 Prepare ∷
-    Voted e3 Yes ∷ Sent (Enl e3) Up EnlistPrepared ∷
-    Got (Enl e3) Up EnlistPrepared ∷
+    prepared_there e1 ++
+    prepared_there e2 ++
+    prepared_there e3 ++
     Logged ∷ Sent Begin Down BeginCommitted ∷ Sent Voter Down VoterCommit ∷ Sent (Enl e1) Down EnlistCommit ∷ Sent (Enl e2) Down EnlistCommit ∷ Sent (Enl e3) Down EnlistCommit ∷
     Got Begin Down BeginCommitted ∷ Decided Committed ∷
     Told Client Committed ∷
     Got Voter Down VoterCommit ∷
-    Got (Enl e1) Down EnlistCommit ∷ Told (Member e1) Committed ∷
-    Acked e1 ∷ Sent (Enl e1) Up EnlistAck ∷
-    Got (Enl e1) Up EnlistAck ∷
-    Got (Enl e2) Down EnlistCommit ∷ Told (Member e2) Committed ∷
-    Acked e2 ∷ Sent (Enl e2) Up EnlistAck ∷
-    Got (Enl e2) Up EnlistAck ∷
-    Got (Enl e3) Down EnlistCommit ∷ Told (Member e3) Committed ∷
-    Acked e3 ∷ Sent (Enl e3) Up EnlistAck ∷
-    Got (Enl e3) Up EnlistAck ∷
+    committed_there e1 ++
+    committed_there e2 ++
+    committed_there e3 ++
     Freed ∷ []
 
 waits_for_handover : IsWorked waits_for_handover_lines [] [] waits_for_handover_history
@@ -158,30 +137,18 @@ promotable_commits_history =
     Called 4 a1 Fine ∷ CommitAsked ∷
     Asked e1 Promote ∷
     PromoteReply e1 true ∷ Sent Begin Up BeginBegin ∷
-    Got Begin Up BeginBegin ∷ Sent Begin Down (BeginBegun id1) ∷
-    Got Begin Down (BeginBegun id1) ∷ Sent Voter Up (VoterVoter id1) ∷
-    Got Voter Up (VoterVoter id1) ∷ Sent Voter Down VoterCreated ∷
+    begun_there ++
+    voter_created ++
     Got Voter Down VoterCreated ∷ Sent (Enl e1) Up (EnlistEnlist (info 1 e1 r1)) ∷
-    Got (Enl e1) Up (EnlistEnlist (info 1 e1 r1)) ∷ Sent (Enl e1) Down EnlistEnlisted ∷
+    enlisted_there e1 r1 ++
     Got (Enl e1) Down EnlistEnlisted ∷ Promoted id1 MarshalCause ∷ Answered 3 (Id id1) ∷
     Sealed ∷
     Asked e1 Single ∷
     Requested e1 RequestCommit ∷ Sent Begin Up BeginCommit ∷
-    Got Begin Up BeginCommit ∷ Sent Voter Down VoterAsk ∷ Sent (Enl e1) Down EnlistPrepare ∷
-    Got Voter Down VoterAsk ∷
-    LocalYes ∷ Sent Voter Up VoterYes ∷
+    votes_asked ++
     Got Voter Up VoterYes ∷
-    Got (Enl e1) Down EnlistPrepare ∷ Asked e1 Prepare ∷
-    Voted e1 Yes ∷ Sent (Enl e1) Up EnlistPrepared ∷
-    Got (Enl e1) Up EnlistPrepared ∷
-    Logged ∷ Sent Begin Down BeginCommitted ∷ Sent Voter Down VoterCommit ∷ Sent (Enl e1) Down EnlistCommit ∷
-    Got Begin Down BeginCommitted ∷ Decided Committed ∷
-    Told Client Committed ∷
-    Got Voter Down VoterCommit ∷
-    Got (Enl e1) Down EnlistCommit ∷ Told (Member e1) Committed ∷
-    Acked e1 ∷ Sent (Enl e1) Up EnlistAck ∷
-    Got (Enl e1) Up EnlistAck ∷
-    Freed ∷ []
+    prepared_there e1 ++
+    commit_told
 
 promotable_commits : IsWorked promotable_commits_lines [] [] promotable_commits_history
 unfolding model
@@ -199,19 +166,8 @@ loses_both_lines =
 
 abbrev pub loses_both_history : List Entry
 loses_both_history =
-    Called 1 a1 Fine ∷ Began 60000 ∷
-    Called 2 a1 Wait ∷ Promoting Two ∷ Sent Begin Up BeginBegin ∷
-    Called 3 a1 Fine ∷ CommitAsked ∷
-    Got Begin Up BeginBegin ∷ Sent Begin Down (BeginBegun id1) ∷
-    Got Begin Down (BeginBegun id1) ∷ Sent Voter Up (VoterVoter id1) ∷
-    Got Voter Up (VoterVoter id1) ∷ Sent Voter Down VoterCreated ∷
-    Got Voter Down VoterCreated ∷ Promoted id1 Two ∷ Sent (Enl e1) Up (EnlistEnlist (info 1 e1 r1)) ∷
-    Got (Enl e1) Up (EnlistEnlist (info 1 e1 r1)) ∷ Sent (Enl e1) Down EnlistEnlisted ∷
-    Got (Enl e1) Down EnlistEnlisted ∷ Enlisted e1 DurableTwo ∷ Answered 2 Fine ∷
-    Sealed ∷ Sent Begin Up BeginCommit ∷
-    Got Begin Up BeginCommit ∷ Sent Voter Down VoterAsk ∷ Sent (Enl e1) Down EnlistPrepare ∷
-    Got Voter Down VoterAsk ∷
-    LocalYes ∷ Sent Voter Up VoterYes ∷
+    asked ++
+    commit_sent ++
     Called 4 a1 (Did 10) ∷
     Called 5 a1 Fine ∷ Cut Begin 0 0 ∷
     Called 6 a1 Fine ∷ Cut Voter 1 0 ∷
@@ -221,13 +177,9 @@ loses_both_history =
     Ended Voter Up ∷
     Ended Voter Down ∷ Decided InDoubt ∷
     Told Client InDoubt ∷
-    Got (Enl e1) Down EnlistPrepare ∷ Asked e1 Prepare ∷
-    Voted e1 Yes ∷ Sent (Enl e1) Up EnlistPrepared ∷
-    Got (Enl e1) Up EnlistPrepared ∷
+    prepared_there e1 ++
     Logged ∷ Sent (Enl e1) Down EnlistCommit ∷
-    Got (Enl e1) Down EnlistCommit ∷ Told (Member e1) Committed ∷
-    Acked e1 ∷ Sent (Enl e1) Up EnlistAck ∷
-    Got (Enl e1) Up EnlistAck ∷
+    committed_there e1 ++
     Freed ∷ []
 
 loses_both : IsWorked loses_both_lines [] [] loses_both_history

@@ -1,22 +1,22 @@
 -- Worked histories and traces: the log stops while it appends, is opened again, and the durable comes back.
 use Rattle.std.proofs.Common.{Bool, List, Some, [], false, refl, true, ℕ, ◌++◌, ◌==◌, ◌∷◌}
-use Rattle.dtx_values.specs.declared.entry.Answer.TheVariants.{Fine, Finished, OutcomeIs, Over, Wait}
-use Rattle.dtx_values.specs.declared.entry.Ask.TheVariants.{Prepare}
+use Rattle.dtx_values.specs.declared.entry.Answer.TheVariants.{Fine, Finished, OutcomeIs, Over}
 use Rattle.dtx_values.specs.declared.entry.Entry.{Entry}
-use Rattle.dtx_values.specs.declared.entry.Entry.TheVariants.{Acked, Answered, Asked, Began, Called, CommitAsked, Decided, Down as Ended, Enlisted, Freed, Got, LocalYes, LogWord, Promoted, Promoting, Recovered as RecoveredEntry, Reenlisted, Restarted, Sealed, Sent, Stopped, Told, Voted}
+use Rattle.dtx_values.specs.declared.entry.Entry.TheVariants.{Acked, Began, Called, Decided, Down as Ended, Freed, Got, LogWord, Recovered as RecoveredEntry, Reenlisted, Restarted, Sent, Stopped, Told}
 use Rattle.dtx_values.specs.declared.entry.LogNote.{LogNote}
 use Rattle.dtx_values.specs.declared.entry.LogNote.TheVariants.{Armed, Opened}
 use Rattle.dtx_values.specs.declared.entry.Party.TheVariants.{Client, Enl as Member}
 use Rattle.dtx_values.specs.declared.message.Conn.TheVariants.{Again, Begin, Enl, Voter}
 use Rattle.dtx_values.specs.declared.message.Dir.TheVariants.{Down, Up}
-use Rattle.dtx_values.specs.declared.message.Message.TheVariants.{BeginBegin, BeginBegun, BeginCommit, EnlistEnlist, EnlistEnlisted, EnlistPrepare, EnlistPrepared, ReenlistAborted, ReenlistAck, ReenlistCommitted, ReenlistReenlist, VoterAsk, VoterCreated, VoterVoter, VoterYes}
+use Rattle.dtx_values.specs.declared.message.Message.{Message}
+use Rattle.dtx_values.specs.declared.message.Message.TheVariants.{ReenlistAborted, ReenlistAck, ReenlistCommitted, ReenlistReenlist, VoterYes}
 use Rattle.dtx_values.specs.declared.script.Body.TheVariants.{Await as AwaitLine, Begin as BeginLine, Commit as CommitLine, Durable as DurableLine, Recovered as RecoveredLine, Reenlist as ReenlistLine, Restart as RestartLine, Stop as StopLine}
 use Rattle.dtx_values.specs.declared.script.Line.{Line}
 use Rattle.dtx_values.specs.declared.script.Support.TheVariants.{TwoPhase}
 use Rattle.dtx_values.specs.declared.trace.Place.TheVariants.{Log}
-use Rattle.dtx_values.specs.declared.words.Cause.TheVariants.{Two}
-use Rattle.dtx_values.specs.declared.words.Class.TheVariants.{DurableTwo}
+use Rattle.dtx_values.specs.declared.words.Image.{Image}
 use Rattle.dtx_values.specs.declared.words.Image.TheVariants.{Keep, Torn}
+use Rattle.dtx_values.specs.declared.words.Outcome.{Outcome}
 use Rattle.dtx_values.specs.declared.words.Outcome.TheVariants.{Aborted, Committed, InDoubt}
 use Rattle.dtx_values.specs.declared.words.Timeout.TheVariants.{Default}
 use Rattle.dtx_values.specs.declared.words.Vote.TheVariants.{Yes}
@@ -24,36 +24,16 @@ use Rattle.dtx_model.specs.Half.{info}
 use Rattle.dtx_model.specs.Traces.{Placed, placed}
 use Rattle.dtx_model.specs.Steps.{StoppedNow}
 use Rattle.dtx_model.specs.Words.{past_of}
-use Rattle.dtx_model.proofs.Cast.{a1, e1, id1, r1, says, t1}
+use Rattle.dtx_model.proofs.Cast.{a1, e1, r1, says, t1}
 use Rattle.dtx_model.proofs.Computing.{model}
 use Rattle.dtx_model.proofs.Crossing.{wired}
 use Rattle.dtx_model.proofs.Replaying.{IsWorkedTrace}
 use Rattle.dtx_model.proofs.Working.{IsWorked}
-
--- begin, a two-phase durable, and commit: the durable promotes
-abbrev pub asked : List Entry
-asked =
-    Called 1 a1 Fine ∷ Began 60000 ∷
-    Called 2 a1 Wait ∷ Promoting Two ∷ Sent Begin Up BeginBegin ∷
-    Called 3 a1 Fine ∷ CommitAsked ∷ []
+use Rattle.dtx_model.proofs.WorkedParts.{asked, commit_sent, prepared_there}
 
 -- the coordinator has all votes: it is about to append the record of the commit
 abbrev pub prepared : List Entry
-prepared =
-    Got Begin Up BeginBegin ∷ Sent Begin Down (BeginBegun id1) ∷
-    Got Begin Down (BeginBegun id1) ∷ Sent Voter Up (VoterVoter id1) ∷
-    Got Voter Up (VoterVoter id1) ∷ Sent Voter Down VoterCreated ∷
-    Got Voter Down VoterCreated ∷ Promoted id1 Two ∷ Sent (Enl e1) Up (EnlistEnlist (info 1 e1 r1)) ∷
-    Got (Enl e1) Up (EnlistEnlist (info 1 e1 r1)) ∷ Sent (Enl e1) Down EnlistEnlisted ∷
-    Got (Enl e1) Down EnlistEnlisted ∷ Enlisted e1 DurableTwo ∷ Answered 2 Fine ∷
-    Sealed ∷ Sent Begin Up BeginCommit ∷
-    Got Begin Up BeginCommit ∷ Sent Voter Down VoterAsk ∷ Sent (Enl e1) Down EnlistPrepare ∷
-    Got Voter Down VoterAsk ∷
-    LocalYes ∷ Sent Voter Up VoterYes ∷
-    Got Voter Up VoterYes ∷
-    Got (Enl e1) Down EnlistPrepare ∷ Asked e1 Prepare ∷
-    Voted e1 Yes ∷ Sent (Enl e1) Up EnlistPrepared ∷
-    Got (Enl e1) Up EnlistPrepared ∷ []
+prepared = commit_sent ++ Got Voter Up VoterYes ∷ prepared_there e1
 
 -- the log stops under that append, and the coordinator with it. All connections are lost, and here the outcome is in doubt.
 abbrev pub stopped : List Entry
@@ -64,6 +44,23 @@ stopped =
     Told Client InDoubt ∷
     Ended (Enl e1) Down ∷
     Called 5 a1 (OutcomeIs InDoubt) ∷ []
+
+-- the lines up to the restart: the stop with this wish comes at the n-th device call from the commit on
+abbrev stops_in_commit : ℕ → Image → List Line
+stops_in_commit n i =
+    says a1 (BeginLine t1 Default) ∷
+    says a1 (DurableLine t1 e1 r1 (TwoPhase (Some Yes))) ∷
+    says a1 (CommitLine t1) ∷
+    says a1 (StopLine n i) ∷
+    says a1 (AwaitLine t1) ∷
+    says a1 RestartLine ∷ []
+
+-- the durable comes back, and hears this outcome in this message
+abbrev pub comes_back : Message → Outcome → List Entry
+comes_back m x =
+    Called 7 a1 Fine ∷ Reenlisted e1 ∷ Sent (Again e1) Up (ReenlistReenlist (info 1 e1 r1)) ∷
+    Got (Again e1) Up (ReenlistReenlist (info 1 e1 r1)) ∷ Sent (Again e1) Down m ∷
+    Got (Again e1) Down m ∷ Told (Member e1) x ∷ []
 
 -- The whole trace has what stands at the log too: lines 4 and 6 have their calls there. A stop comes to the log first, and then to the transaction.
 abbrev with_log : LogNote → ℕ → List Entry → List Placed
@@ -80,24 +77,10 @@ none n = false
 
 -- The stop comes at the third of the four device calls, so the record is durable. The restart finds it; the durable comes back, hears the commit, and acknowledges it.
 abbrev pub finds_the_record_lines : List Line
-finds_the_record_lines =
-    says a1 (BeginLine t1 Default) ∷
-    says a1 (DurableLine t1 e1 r1 (TwoPhase (Some Yes))) ∷
-    says a1 (CommitLine t1) ∷
-    says a1 (StopLine 3 Keep) ∷
-    says a1 (AwaitLine t1) ∷
-    says a1 RestartLine ∷
-    says a1 (ReenlistLine e1) ∷ []
+finds_the_record_lines = stops_in_commit 3 Keep ++ says a1 (ReenlistLine e1) ∷ []
 
 abbrev pub finds_the_record_rest : List Entry
-finds_the_record_rest =
-    Restarted true ∷
-    Called 7 a1 Fine ∷ Reenlisted e1 ∷ Sent (Again e1) Up (ReenlistReenlist (info 1 e1 r1)) ∷
-    Got (Again e1) Up (ReenlistReenlist (info 1 e1 r1)) ∷ Sent (Again e1) Down ReenlistCommitted ∷
-    Got (Again e1) Down ReenlistCommitted ∷ Told (Member e1) Committed ∷
-    Acked e1 ∷ Sent (Again e1) Up ReenlistAck ∷
-    Got (Again e1) Up ReenlistAck ∷
-    Freed ∷ []
+finds_the_record_rest = Restarted true ∷ comes_back ReenlistCommitted Committed ++ Acked e1 ∷ Sent (Again e1) Up ReenlistAck ∷ Got (Again e1) Up ReenlistAck ∷ Freed ∷ []
 
 abbrev pub finds_the_record_history : List Entry
 finds_the_record_history = asked ++ prepared ++ stopped ++ finds_the_record_rest
@@ -112,21 +95,10 @@ finds_the_record_trace = (refl, refl, refl, refl)
 
 -- The stop comes at the first device call. The restart finds no record, so the transaction is aborted there, and the durable that comes back hears that.
 abbrev finds_none_lines : List Line
-finds_none_lines =
-    says a1 (BeginLine t1 Default) ∷
-    says a1 (DurableLine t1 e1 r1 (TwoPhase (Some Yes))) ∷
-    says a1 (CommitLine t1) ∷
-    says a1 (StopLine 1 Torn) ∷
-    says a1 (AwaitLine t1) ∷
-    says a1 RestartLine ∷
-    says a1 (ReenlistLine e1) ∷ []
+finds_none_lines = stops_in_commit 1 Torn ++ says a1 (ReenlistLine e1) ∷ []
 
 abbrev pub finds_none_rest : List Entry
-finds_none_rest =
-    Restarted false ∷
-    Called 7 a1 Fine ∷ Reenlisted e1 ∷ Sent (Again e1) Up (ReenlistReenlist (info 1 e1 r1)) ∷
-    Got (Again e1) Up (ReenlistReenlist (info 1 e1 r1)) ∷ Sent (Again e1) Down ReenlistAborted ∷
-    Got (Again e1) Down ReenlistAborted ∷ Told (Member e1) Aborted ∷ []
+finds_none_rest = Restarted false ∷ comes_back ReenlistAborted Aborted
 
 abbrev pub finds_none_history : List Entry
 finds_none_history = asked ++ prepared ++ stopped ++ finds_none_rest
@@ -141,28 +113,10 @@ finds_none_trace = (refl, refl, refl, refl)
 
 -- Who acknowledged has finished: it can't come back a second time.
 abbrev comes_back_twice_lines : List Line
-comes_back_twice_lines =
-    says a1 (BeginLine t1 Default) ∷
-    says a1 (DurableLine t1 e1 r1 (TwoPhase (Some Yes))) ∷
-    says a1 (CommitLine t1) ∷
-    says a1 (StopLine 3 Keep) ∷
-    says a1 (AwaitLine t1) ∷
-    says a1 RestartLine ∷
-    says a1 (ReenlistLine e1) ∷
-    says a1 (AwaitLine t1) ∷
-    says a1 (ReenlistLine e1) ∷ []
+comes_back_twice_lines = finds_the_record_lines ++ says a1 (AwaitLine t1) ∷ says a1 (ReenlistLine e1) ∷ []
 
 abbrev pub comes_back_twice_rest : List Entry
-comes_back_twice_rest =
-    Restarted true ∷
-    Called 7 a1 Fine ∷ Reenlisted e1 ∷ Sent (Again e1) Up (ReenlistReenlist (info 1 e1 r1)) ∷
-    Got (Again e1) Up (ReenlistReenlist (info 1 e1 r1)) ∷ Sent (Again e1) Down ReenlistCommitted ∷
-    Got (Again e1) Down ReenlistCommitted ∷ Told (Member e1) Committed ∷
-    Acked e1 ∷ Sent (Again e1) Up ReenlistAck ∷
-    Got (Again e1) Up ReenlistAck ∷
-    Freed ∷
-    Called 8 a1 (OutcomeIs InDoubt) ∷
-    Called 9 a1 Finished ∷ []
+comes_back_twice_rest = finds_the_record_rest ++ Called 8 a1 (OutcomeIs InDoubt) ∷ Called 9 a1 Finished ∷ []
 
 abbrev pub comes_back_twice_history : List Entry
 comes_back_twice_history = asked ++ prepared ++ stopped ++ comes_back_twice_rest
@@ -177,15 +131,7 @@ comes_back_twice_trace = (refl, refl, refl, refl)
 
 -- A manager that says that its recovery is complete needs nothing more: the record is freed, and its durable can't come back.
 abbrev is_recovered_lines : List Line
-is_recovered_lines =
-    says a1 (BeginLine t1 Default) ∷
-    says a1 (DurableLine t1 e1 r1 (TwoPhase (Some Yes))) ∷
-    says a1 (CommitLine t1) ∷
-    says a1 (StopLine 3 Keep) ∷
-    says a1 (AwaitLine t1) ∷
-    says a1 RestartLine ∷
-    says a1 (RecoveredLine t1 r1) ∷
-    says a1 (ReenlistLine e1) ∷ []
+is_recovered_lines = stops_in_commit 3 Keep ++ says a1 (RecoveredLine t1 r1) ∷ says a1 (ReenlistLine e1) ∷ []
 
 abbrev pub is_recovered_rest : List Entry
 is_recovered_rest =

@@ -1,4 +1,5 @@
 mod Only
 mod Places
+mod Refused
 mod Rising
 mod Waiting

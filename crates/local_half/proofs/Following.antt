@@ -1,5 +1,5 @@
 -- What the local side of a transaction knows after a step, where it followed the world before: its block, and of the calls only that of the step.
-use Rattle.std.proofs.Common.{◌≡◌, ℕ, zero, suc, ◌==◌, Bool, true, false, not, List, [], ◌∷◌, Option, Some, None, is_some, refl, ap, arith, sym, ◌∙◌}
+use Rattle.std.proofs.Common.{◌≡◌, ℕ, ◌==◌, Bool, true, false, not, List, [], ◌∷◌, Option, Some, None, is_some, refl, ap, arith, sym, ◌∙◌}
 use Rattle.std.proofs.lemmas.Bool.Decides.{nat_tests}
 use Rattle.dtx_values.specs.declared.call.Call.{Call}
 use Rattle.dtx_values.specs.declared.call.Call.TheVariants.{Durable, Await, Do, Lose, Gone, Reenlist, Recovered}
@@ -13,7 +13,7 @@ use Rattle.dtx_values.specs.declared.number.ActorNo.{ActorNo}
 use Rattle.dtx_values.specs.declared.number.EnlNo.{EnlNo}
 use Rattle.dtx_values.specs.declared.number.RmNo.{RmNo}
 use Rattle.dtx_values.specs.Support.{is_single}
-use Rattle.dtx_model.specs.Words.{has, kth, latest, or_else}
+use Rattle.dtx_model.specs.Words.{has, latest, or_else}
 use Rattle.dtx_model.specs.Entries.{is_call}
 use Rattle.dtx_model.specs.Outcome.{is_empty}
 use Rattle.dtx_model.specs.Observed.{cause_of_promotion, observe, track}
@@ -30,7 +30,7 @@ use Rattle.dtx_model.specs.Steps.{Step, Calls, Replies, Acts, after, block_at, e
 use Rattle.dtx_model.specs.Caused.{IsIn, MayAnswer, MayCome, is_unpromoted}
 use Rattle.dtx_values.specs.declared.words.Cause.{Cause}
 use Rattle.dtx_model.proofs.Heeding.{half_behind, heeds_all_same}
-use Rattle.dtx_model.proofs.Lifting.{lift_ran}
+use Rattle.dtx_model.proofs.Lifting.{lift_ran, still_in}
 use Rattle.dtx_model.proofs.Quiet.{q_cons, q_facts, q_gone_decides}
 use Rattle.local_half.specs.Half.{Follows, Known, after as known_after, is_done, is_its_own, is_waiting_answer}
 use Rattle.local_half.specs.Taken.{with_call, with_waiter}
@@ -38,14 +38,6 @@ use Rattle.dtx_model.specs.Promotes.{is_promoting}
 
 n_is : (n : ℕ) → (n == n) ≡ true
 n_is n = grind (arith, nat_tests)
-
--- a call that was entered stays so
-still_in : (k : EnteredCall) (ks : List EnteredCall) (n : ℕ) (a : ActorNo) (c : Call) → IsIn ks n a c → IsIn (k ∷ ks) n a c
-still_in k ks n a c i = by i.place i.stands
-  where
-    by : (p : ℕ) → kth ks p ≡ Some (record { line = n; actor = a; call = c }) → IsIn (k ∷ ks) n a c
-    by zero s = absurd (cc)
-    by (suc p) s = record { place = suc (suc p); stands = s }
 
 -- the world goes on by a step that may come, whose block is this
 goes_on : (t : ℕ) (w : World) (h g : Half) (m : Step) (es : List Entry) → Follows t w h → MayCome (IsIn (entered m w.calls)) t w m

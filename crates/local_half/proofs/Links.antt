@@ -26,6 +26,7 @@ use Rattle.dtx_model.specs.declared.waiting.Wanted.TheVariants.{Identifier, Plac
 use Rattle.dtx_model.specs.Waiting.{Waiter, is_place, is_place_of, waiter_line}
 use Rattle.dtx_model.proofs.Bools.{and_both, and_never, not_true, or_case, or_first, or_right, or_second}
 use Rattle.dtx_model.proofs.Counts.{how_many-insert_by, how_many-map, length-insert_by}
+use Rattle.dtx_model.proofs.Passing.{has-insert_by, has-map}
 use Rattle.local_half.specs.declared.branches.BranchChange.{BranchChange}
 use Rattle.local_half.specs.declared.branches.BranchChange.TheVariants.{Enlisted, Aborted, Acked, Due}
 use Rattle.local_half.specs.Branches.{changed}
@@ -34,7 +35,7 @@ use Rattle.local_half.specs.Taken.{MaySend}
 use Rattle.local_half.specs.Waits.{without}
 use Rattle.local_half.proofs.Rows.{lasts-more, lasts-new}
 use Rattle.local_half.proofs.Waiters.{IsPlaceFound}
-use Rattle.local_half.proofs.Lists.{each-filter, each-insert_by, each-map, each-more, has-insert_by, has-map, how_many-all, how_many-filter-le, how_many-filter-none, how_many-same, none_left, picked, spread}
+use Rattle.local_half.proofs.Lists.{each-filter, each-insert_by, each-map, each-more, how_many-all, how_many-filter-le, how_many-filter-none, how_many-same, none_left, picked, spread}
 
 -- The decision, the table and the calls that wait change: until something is decided each enlistment there is held still.
 pub links-held : (d f : Bool) (xs ys : List Row) (ws vs : List Waiter) (bs : List Branch) (ns : List End) → (f ≡ false → d ≡ false)

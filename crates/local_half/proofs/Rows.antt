@@ -16,10 +16,10 @@ use Rattle.dtx_model.specs.Acts.{lasts}
 use Rattle.dtx_model.specs.Waiting.{Waiter, is_place}
 use Rattle.dtx_model.proofs.Bools.{and_never, or_first, or_right, or_second}
 use Rattle.dtx_model.proofs.Counts.{how_many-insert_by, how_many-map, length-insert_by}
+use Rattle.dtx_model.proofs.Passing.{has-insert_by, has-map}
 use Rattle.enlist_table.specs.Refusals.{add_refusal}
 use Rattle.local_half.specs.Linked.{AreRows, is_managed}
 use Rattle.local_half.specs.Waits.{without}
-use Rattle.local_half.proofs.Lists.{has-insert_by, has-map}
 use Rattle.local_half.proofs.Waiters.{IsPlaceFound, without_fewer}
 
 -- neither a mark nor a vote changes which enlistments stand and last

@@ -17,9 +17,10 @@ use Rattle.dtx_model.specs.declared.waiting.Wanted.TheVariants.{Identifier, Plac
 use Rattle.dtx_model.specs.Waiting.{Waiter, is_place, is_place_of, waiter_line}
 use Rattle.dtx_model.proofs.Bools.{and_both, and_left, and_never, and_right, not_true, or_false, or_first, or_right, or_second}
 use Rattle.dtx_model.proofs.Counts.{how_many-insert_by, length-insert_by}
+use Rattle.dtx_model.proofs.Passing.{has-insert_by}
 use Rattle.local_half.specs.Half.{is_awaited, waits_at}
 use Rattle.local_half.specs.Waits.{AreWaiting, IsAt, IsFirst, is_to_come, lines_from, without}
-use Rattle.local_half.proofs.Lists.{each-filter, each-insert_by, has-insert_by, how_many-filter-le, length-filter-le, none_counted, not_counted}
+use Rattle.local_half.proofs.Lists.{each-filter, each-insert_by, how_many-filter-le, length-filter-le, none_counted, not_counted}
 
 -- lines that rise from n on rise from below it on
 lines_lower : (m n : ℕ) (ws : List Waiter) → m ≤ n → lines_from n ws ≡ true → lines_from m ws ≡ true

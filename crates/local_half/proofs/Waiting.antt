@@ -27,10 +27,10 @@ use Rattle.local_half.specs.Waits.{AreWaiting, is_to_come}
 use Rattle.local_half.proofs.Links.{links-wait}
 use Rattle.local_half.proofs.Notes.{waits_for}
 use Rattle.local_half.proofs.Rows.{rows-awaited, rows-waits}
-use Rattle.local_half.proofs.Lists.{has-insert_by}
 use Rattle.local_half.proofs.Waiters.{add_waiter}
 use Rattle.local_half.specs.Taken.{is_place_awaited, place_sent}
 use Rattle.dtx_model.specs.Facts.{begin_promotion, local_facts}
+use Rattle.dtx_model.proofs.Passing.{has-insert_by}
 use Rattle.dtx_values.specs.Owners.{cause_of}
 use Rattle.dtx_values.specs.Support.{is_single}
 use Rattle.dtx_values.specs.declared.words.Cause.TheVariants.{Marshal as MarshalCause}

@@ -2,3 +2,4 @@ pub mod Traffic
 pub mod Carries
 pub mod Framed
 pub mod Queues
+pub mod Calls

@@ -12,6 +12,7 @@ ghost use Rattle.oletx_frames.specs.declared.refusal.FrameRefusal.{FrameRefusal}
 ghost use Rattle.oletx_session.specs.Traffic.{Becomes, Delivers, Ends, IsCut, Spells, fresh, has_left, is_open, is_taken, lane, lost_at_once, may_send, opposite, sent_on, stopped_wire, wire_of};
 ghost use Rattle.oletx_session.specs.Queues.{frame_in};
 ghost use Rattle.oletx_session.specs.Carries.{Carries, IsStarted, IsStartedLost};
+ghost use Rattle.oletx_session.specs.Calls.{AnswersStart, KeepsRoom};
 
 use crate::link::{Link, link_of, put, replace, stop_all};
 use crate::packet::Packet;
@@ -98,8 +99,7 @@ impl Session {
     pub fn reserve(&mut self) -> Result<(), AllocError>
         ensures same { self.new.wires ≡ self.old.wires }
         ensures room { OnOk result ((64 ≤ self.new.start_room) × (64 ≤ self.new.send_room)) }
-        ensures start_room { self.old.start_room ≤ self.new.start_room }
-        ensures send_room { self.old.send_room ≤ self.new.send_room }
+        ensures keeps { KeepsRoom self.old self.new }
     {
         self.links.reserve(ROOM)?;
         self.packets.reserve(ROOM)
@@ -113,12 +113,7 @@ impl Session {
     /// - [`SessionRefusal::Memory`], only where no room is left.
     pub fn start(&mut self, c: Conn) -> Result<(), SessionRefusal>
         ensures started { OnOk result (Becomes c (fresh c) self.old.wires self.new.wires) }
-        ensures taken { IsErrOf result (SessionRefusal.Taken c) ↔ (is_taken (wire_of c self.old.wires) ≡ true) }
-        ensures memory { IsErrOf result SessionRefusal.Memory → self.old.start_room ≡ 0 }
-        ensures only { IfErr result (λ e. (e ≡ SessionRefusal.Taken c) ⊎ (e ≡ SessionRefusal.Memory)) }
-        ensures unchanged { OnErr result (self.new.wires ≡ self.old.wires) }
-        ensures start_room { self.old.start_room ≤ self.new.start_room + 1 }
-        ensures send_room { self.old.send_room ≤ self.new.send_room }
+        ensures answers { AnswersStart c self.old self.new result }
         ensures carries { OnOk result ((h : List Entry) → Carries self.old.wires h → IsStarted c self.new.wires h) }
     {
         if self.is_taken(c) {
@@ -137,12 +132,7 @@ impl Session {
     /// As [`start`](Session::start) has them.
     pub fn start_lost(&mut self, c: Conn) -> Result<(), SessionRefusal>
         ensures started { OnOk result (Becomes c (lost_at_once c) self.old.wires self.new.wires) }
-        ensures taken { IsErrOf result (SessionRefusal.Taken c) ↔ (is_taken (wire_of c self.old.wires) ≡ true) }
-        ensures memory { IsErrOf result SessionRefusal.Memory → self.old.start_room ≡ 0 }
-        ensures only { IfErr result (λ e. (e ≡ SessionRefusal.Taken c) ⊎ (e ≡ SessionRefusal.Memory)) }
-        ensures unchanged { OnErr result (self.new.wires ≡ self.old.wires) }
-        ensures start_room { self.old.start_room ≤ self.new.start_room + 1 }
-        ensures send_room { self.old.send_room ≤ self.new.send_room }
+        ensures answers { AnswersStart c self.old self.new result }
         ensures carries { OnOk result ((h : List Entry) → Carries self.old.wires h → IsStartedLost c self.new.wires h) }
     {
         if self.is_taken(c) {
@@ -197,8 +187,7 @@ impl Session {
         ensures message { (m : Message) → result ≡ Some (Delivered.Msg m) → IfSome (wire_of c self.old.wires) (λ w. Delivers c d m w self.old.wires self.new.wires) }
         ensures end { result ≡ Some Delivered.End → IfSome (wire_of c self.old.wires) (λ w. Ends c d w self.old.wires self.new.wires) }
         ensures never { (e : FrameRefusal) → result ≢ Some (Delivered.BadFrame e) }
-        ensures start_room { self.old.start_room ≤ self.new.start_room }
-        ensures send_room { self.old.send_room ≤ self.new.send_room }
+        ensures keeps { KeepsRoom self.old self.new }
         // over histories: what is got was the next on the way, and an end comes where it may
         ensures got { (m : Message) (h : List Entry) → result ≡ Some (Delivered.Msg m) → Carries self.old.wires h
             → MayCross h (Got c d m) × (has_line c d m ≡ true → Carries self.new.wires (Got c d m ∷ h)) }
@@ -245,8 +234,7 @@ impl Session {
         ensures unchanged { result ≡ None → self.new.wires ≡ self.old.wires }
         ensures lost { IfSome result (λ k. IfSome (wire_of c self.old.wires) (λ w. (us ds : List Message) → Spells w.up.bytes us → Spells w.down.bytes ds
             → IsCut c w us ds up down k self.old.wires self.new.wires)) }
-        ensures start_room { self.old.start_room ≤ self.new.start_room }
-        ensures send_room { self.old.send_room ≤ self.new.send_room }
+        ensures keeps { KeepsRoom self.old self.new }
         ensures cut { (h : List Entry) → IfSome result (λ k. Carries self.old.wires h → Carries self.new.wires (Cut c k.0 k.1 ∷ h)) }
     {
         let link = link_of(&self.links, c)?;
@@ -263,8 +251,7 @@ impl Session {
     /// Loses every connection as a stop of the coordinator does: nothing upward is kept, everything downward is, and the coordinator sees no ends. It takes no memory.
     pub fn stop(&mut self)
         ensures stopped { self.new.wires ≡ map stopped_wire self.old.wires }
-        ensures start_room { self.old.start_room ≤ self.new.start_room }
-        ensures send_room { self.old.send_room ≤ self.new.send_room }
+        ensures keeps { KeepsRoom self.old self.new }
         ensures carries { (h : List Entry) → Carries self.old.wires h → Carries self.new.wires (Stopped ∷ h) }
     {
         stop_all(&mut self.links);

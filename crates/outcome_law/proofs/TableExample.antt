@@ -18,7 +18,8 @@ use Rattle.dtx_model.specs.Tied.{tied}
 use Rattle.dtx_model.proofs.Computing.{model}
 use Rattle.dtx_model.proofs.WorkedOutcomes.{cannot_promote_history, commits_history, loses_begin_history, loses_none_history, rolls_back_history, votes_no_history}
 use Rattle.dtx_model.proofs.WorkedPromotions.{loses_both_history, promotable_commits_history, second_durable_history, waits_for_handover_history}
-use Rattle.dtx_model.proofs.WorkedRecoveries.{comes_back_twice_history, finds_none_history, finds_the_record_history, is_recovered_history, asked, prepared, stopped}
+use Rattle.dtx_model.proofs.WorkedParts.{asked}
+use Rattle.dtx_model.proofs.WorkedRecoveries.{comes_back_twice_history, finds_none_history, finds_the_record_history, is_recovered_history, prepared, stopped}
 use Rattle.outcome_law.proofs.Table.{rule, ruled}
 
 -- the history keeps the table, and is tied

@@ -12,8 +12,9 @@ use Rattle.dtx_model.specs.Observed.{rows_after}
 use Rattle.dtx_model.specs.Words.{has}
 use Rattle.dtx_model.proofs.Bools.{and_never}
 use Rattle.reenlist_recovery.specs.Enlisted.{ballot_after, ballot_of, is_unvoted, still_hears_by}
-use Rattle.reenlist_recovery.proofs.Found.{has-insert_by, has-map, has-more, has-only, other_number, same_number}
+use Rattle.reenlist_recovery.proofs.Found.{has-more, has-only, other_number, same_number}
 use Rattle.dtx_model.specs.World.{is_out_row}
+use Rattle.dtx_model.proofs.Passing.{has-insert_by, has-map}
 
 and_always : (a : Bool) → (a && true) ≡ a
 and_always true = refl

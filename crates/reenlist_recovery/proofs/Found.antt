@@ -4,7 +4,6 @@ use Rattle.std.specs.Option.{option_map}
 use Rattle.std.proofs.lemmas.Bool.Decides.{nat_tests}
 use Rattle.dtx_values.specs.Table.{insert_by}
 use Rattle.dtx_model.specs.Words.{has}
-use Rattle.dtx_model.proofs.Bools.{or_swap}
 
 -- numbers by their tests
 pub other_number : (e f n : ℕ) → (e == f) ≡ false → (f == n) ≡ true → (e == n) ≡ false
@@ -17,10 +16,6 @@ pub third_number : (e f n : ℕ) → (e == n) ≡ true → (f == n) ≡ (e == f)
 third_number e f n p = grind (arith, nat_tests)
 
 -- a change that the test doesn't see
-pub has-map : {A : Type 0} (p : A → Bool) (f : A → A) → ((x : A) → p (f x) ≡ p x) → (xs : List A) → has p (map f xs) ≡ has p xs
-has-map p f same [] = refl
-has-map p f same (x ∷ xs) = rw (same x, has-map p f same xs) refl
-
 pub find-map : {A : Type 0} (p : A → Bool) (f : A → A) → ((x : A) → p (f x) ≡ p x) → (xs : List A) → find p (map f xs) ≡ option_map f (find p xs)
 find-map p f same [] = refl
 find-map p f same (x ∷ xs) = (λ k. if same x k then Some (f x) else find-map p f same xs k) ∙ by (p x)
@@ -51,15 +46,6 @@ has-only p q f c only (x ∷ xs) = (λ k. only x k || has-only p q f c only xs k
     by : (c : Bool) → ((c && q x) || (c && has q xs)) ≡ (c && (q x || has q xs))
     by true = refl
     by false = refl
-
--- one more item
-pub has-insert_by : {A : Type 0} (p : A → Bool) (key : A → ℕ) (x : A) (ys : List A) → has p (insert_by key x ys) ≡ (p x || has p ys)
-has-insert_by p key x [] = refl
-has-insert_by p key x (y ∷ ys) = step (nat_lt (key y) (key x)) (has-insert_by p key x ys)
-  where
-    step : (b : Bool) → has p (insert_by key x ys) ≡ (p x || has p ys) → has p (if b then y ∷ insert_by key x ys else x ∷ y ∷ ys) ≡ (p x || (p y || has p ys))
-    step true ih = ap (λ b. p y || b) ih ∙ or_swap (p y) (p x) (has p ys)
-    step false ih = refl
 
 -- one that the test passes over
 pub find-other : {A : Type 0} (p : A → Bool) (key : A → ℕ) (x : A) (ys : List A) → p x ≡ false → find p (insert_by key x ys) ≡ find p ys

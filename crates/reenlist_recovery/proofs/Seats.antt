@@ -15,8 +15,9 @@ use Rattle.dtx_model.specs.declared.branch.Branch.{Branch}
 use Rattle.dtx_model.specs.Observed.{branch_aborted, branch_acked, branch_due, branch_enlisted, branch_number, branches_after, is_branch, is_done_branch, with_branch}
 use Rattle.dtx_model.specs.Words.{has}
 use Rattle.dtx_model.proofs.Bools.{and_left, and_never, not_true}
+use Rattle.dtx_model.proofs.Passing.{has-insert_by, has-map}
 use Rattle.reenlist_recovery.specs.Enlisted.{accepted_if, is_accepted, seat_after, seat_of, sent_if, told_if}
-use Rattle.reenlist_recovery.proofs.Found.{find-left, find-map, find-none, find-other, find-own, found, has-found, has-insert_by, has-left, has-map, has-more, has-none, same_number, third_number}
+use Rattle.reenlist_recovery.proofs.Found.{find-left, find-map, find-none, find-other, find-own, found, has-found, has-left, has-more, has-none, same_number, third_number}
 
 -- a branch that was just made
 abbrev pub made : EnlNo → RmNo → Branch

@@ -4,7 +4,8 @@ use Rattle.std.specs.List.{list_any, position}
 use Rattle.dtx_values.specs.declared.row.Row.{Row}
 use Rattle.dtx_values.specs.Table.{has_row, marks, rises_above, with_mark}
 use Rattle.dtx_values.specs.Row.{is_marked, is_of, mark_in}
-use Rattle.enlist_table.proofs.Places.{IsPlace, has_row_at, marked_at, no_place, passes_at, place_found}
+use Rattle.enlist_table.proofs.Places.{IsPlace, marked_at, place_found}
+use Rattle.enlist_table.proofs.Refused.{allowed_at, no_row, passes_there, refused_there}
 use Rattle.enlist_table.proofs.Rising.{map-absent, map-there, mark-kept, mark-other, number-mark, rises-map}
 use Rattle.dtx_values.proofs.Counts.{how_many-le-length}
 use Rattle.enlist_table.specs.Waiting.{is_waiting, one_if}
@@ -12,9 +13,7 @@ use Rattle.enlist_table.proofs.Waiting.{counted_mark, one_at_most, one_more_mark
 use Rattle.enlist_table.proofs.table.EnlistTable.set_asked.Goals as goal
 
 none_stands : (c : goal.In_default) → has_row c.args.e.value c.args.self.now ≡ false
-none_stands c =
-    let e = c.args.e.value in
-    subst (λ ys. has_row e ys ≡ false) c.self.view_is (no_place e c.self.inside.rows.items (sym c.in_default.is ∙ c.place_of.ensures ∙ ap (position (is_of e)) c.deref.ensures.value))
+none_stands c = no_row c.args.e.value c.self.inside.rows.items c.args.self.now c.self.view_is (sym c.in_default.is ∙ c.place_of.ensures ∙ ap (position (is_of c.args.e.value)) c.deref.ensures.value)
 
 pub returns-in_default-clause-refused : goal.returns-in_default-clause-refused
 returns-in_default-clause-refused c = rw (none_stands c) refl
@@ -33,16 +32,11 @@ place_then c =
 
 there_already : (c : goal.Then-is_marked) → list_any (λ x. is_of c.args.e.value x && is_marked x) c.args.self.now ≡ true
 there_already c =
-    let e = c.args.e.value in
-    let xs = c.self.inside.rows.items in
-    subst (λ ys. list_any (λ x. is_of e x && is_marked x) ys ≡ true) c.self.view_is
-    (passes_at e is_marked 0 xs c.in-Some.at c.index.result.now true c.self.invariant.2 (place_then c) (ap is_marked (sym c.index.ensures) ∙ sym c.is_marked.ensures ∙ c.if-is_marked.true))
+    passes_there c.args.e.value is_marked c.self.inside.rows.items c.args.self.now c.in-Some.at c.index.result.now true c.self.view_is c.self.invariant.2 (place_then c) c.index.ensures (sym c.is_marked.ensures ∙ c.if-is_marked.true)
 
 pub returns-then-is_marked-clause-refused : goal.returns-then-is_marked-clause-refused
 returns-then-is_marked-clause-refused c =
-    let e = c.args.e.value in
-    let here : has_row e c.args.self.now ≡ true = subst (λ ys. has_row e ys ≡ true) c.self.view_is (has_row_at e c.self.inside.rows.items c.in-Some.at (place_then c)) in
-    rw (here, there_already c) refl
+    refused_there c.args.e is_marked c.self.inside.rows.items c.args.self.now c.in-Some.at c.index.result.now c.self.view_is c.self.invariant.2 (place_then c) c.index.ensures (sym c.is_marked.ensures ∙ c.if-is_marked.true)
 
 pub returns-then-is_marked-clause-marked : goal.returns-then-is_marked-clause-marked
 returns-then-is_marked-clause-marked c =
@@ -79,12 +73,7 @@ invariant_of-self c =
 
 pub returns-clause-allowed : goal.returns-clause-allowed
 returns-clause-allowed c =
-    let e = c.args.e.value in
-    let xs = c.self.inside.rows.items in
-    let here : has_row e c.args.self.now ≡ true = subst (λ ys. has_row e ys ≡ true) c.self.view_is (has_row_at e xs c.in-Some.at (place_after c)) in
-    let new : list_any (λ x. is_of e x && is_marked x) c.args.self.now ≡ false = subst (λ ys. list_any (λ x. is_of e x && is_marked x) ys ≡ false) c.self.view_is
-    (passes_at e is_marked 0 xs c.in-Some.at c.index.result.now false c.self.invariant.2 (place_after c) (ap is_marked (sym c.index.ensures) ∙ sym c.is_marked.ensures ∙ c.if-is_marked.false)) in
-    rw (here, new) refl
+    allowed_at c.args.e is_marked c.self.inside.rows.items c.args.self.now c.in-Some.at c.index.result.now c.self.view_is c.self.invariant.2 (place_after c) c.index.ensures (sym c.is_marked.ensures ∙ c.if-is_marked.false)
 
 pub returns-clause-marked : goal.returns-clause-marked
 returns-clause-marked c = written c ∙ ap (λ ys. with_mark c.args.e.value (ys)) c.self.view_is

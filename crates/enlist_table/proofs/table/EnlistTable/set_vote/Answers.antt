@@ -4,16 +4,15 @@ use Rattle.std.specs.List.{list_any, position}
 use Rattle.dtx_values.specs.declared.row.Row.{Row}
 use Rattle.dtx_values.specs.Table.{has_row, how_many, rises_above, with_vote}
 use Rattle.dtx_values.specs.Row.{has_voted, is_of, vote_in}
-use Rattle.enlist_table.proofs.Places.{IsPlace, has_row_at, voted_at, no_place, passes_at, place_found}
+use Rattle.enlist_table.proofs.Places.{IsPlace, voted_at, place_found}
+use Rattle.enlist_table.proofs.Refused.{allowed_at, no_row, passes_there, refused_there}
 use Rattle.enlist_table.proofs.Rising.{map-absent, map-there, vote-kept, vote-other, number-vote, rises-map}
 use Rattle.enlist_table.specs.Waiting.{is_waiting, one_if}
 use Rattle.enlist_table.proofs.Waiting.{counted_vote, same_marks}
 use Rattle.enlist_table.proofs.table.EnlistTable.set_vote.Goals as goal
 
 none_stands : (c : goal.In_default) → has_row c.args.e.value c.args.self.now ≡ false
-none_stands c =
-    let e = c.args.e.value in
-    subst (λ ys. has_row e ys ≡ false) c.self.view_is (no_place e c.self.inside.rows.items (sym c.in_default.is ∙ c.place_of.ensures ∙ ap (position (is_of e)) c.deref.ensures.value))
+none_stands c = no_row c.args.e.value c.self.inside.rows.items c.args.self.now c.self.view_is (sym c.in_default.is ∙ c.place_of.ensures ∙ ap (position (is_of c.args.e.value)) c.deref.ensures.value)
 
 pub returns-in_default-clause-refused : goal.returns-in_default-clause-refused
 returns-in_default-clause-refused c = rw (none_stands c) refl
@@ -32,16 +31,11 @@ place_then c =
 
 there_already : (c : goal.Then-has_voted) → list_any (λ x. is_of c.args.e.value x && has_voted x) c.args.self.now ≡ true
 there_already c =
-    let e = c.args.e.value in
-    let xs = c.self.inside.rows.items in
-    subst (λ ys. list_any (λ x. is_of e x && has_voted x) ys ≡ true) c.self.view_is
-    (passes_at e has_voted 0 xs c.in-Some.at c.index.result.now true c.self.invariant.2 (place_then c) (ap has_voted (sym c.index.ensures) ∙ sym c.has_voted.ensures ∙ c.if-has_voted.true))
+    passes_there c.args.e.value has_voted c.self.inside.rows.items c.args.self.now c.in-Some.at c.index.result.now true c.self.view_is c.self.invariant.2 (place_then c) c.index.ensures (sym c.has_voted.ensures ∙ c.if-has_voted.true)
 
 pub returns-then-has_voted-clause-refused : goal.returns-then-has_voted-clause-refused
 returns-then-has_voted-clause-refused c =
-    let e = c.args.e.value in
-    let here : has_row e c.args.self.now ≡ true = subst (λ ys. has_row e ys ≡ true) c.self.view_is (has_row_at e c.self.inside.rows.items c.in-Some.at (place_then c)) in
-    rw (here, there_already c) refl
+    refused_there c.args.e has_voted c.self.inside.rows.items c.args.self.now c.in-Some.at c.index.result.now c.self.view_is c.self.invariant.2 (place_then c) c.index.ensures (sym c.has_voted.ensures ∙ c.if-has_voted.true)
 
 pub returns-then-has_voted-clause-voted : goal.returns-then-has_voted-clause-voted
 returns-then-has_voted-clause-voted c =
@@ -80,12 +74,7 @@ invariant_of-self c =
 
 pub returns-clause-allowed : goal.returns-clause-allowed
 returns-clause-allowed c =
-    let e = c.args.e.value in
-    let xs = c.self.inside.rows.items in
-    let here : has_row e c.args.self.now ≡ true = subst (λ ys. has_row e ys ≡ true) c.self.view_is (has_row_at e xs c.in-Some.at (place_after c)) in
-    let new : list_any (λ x. is_of e x && has_voted x) c.args.self.now ≡ false = subst (λ ys. list_any (λ x. is_of e x && has_voted x) ys ≡ false) c.self.view_is
-    (passes_at e has_voted 0 xs c.in-Some.at c.index.result.now false c.self.invariant.2 (place_after c) (ap has_voted (sym c.index.ensures) ∙ sym c.has_voted.ensures ∙ c.if-has_voted.false)) in
-    rw (here, new) refl
+    allowed_at c.args.e has_voted c.self.inside.rows.items c.args.self.now c.in-Some.at c.index.result.now c.self.view_is c.self.invariant.2 (place_after c) c.index.ensures (sym c.has_voted.ensures ∙ c.if-has_voted.false)
 
 pub returns-clause-voted : goal.returns-clause-voted
 returns-clause-voted c = written c ∙ ap (λ ys. with_vote c.args.e.value c.args.v (ys)) c.self.view_is
