@@ -106,3 +106,9 @@ call_done faults line actor c m old from mid new to (Err e) p same answer done =
 pub entered_there : {D A E : Type 0} (faults : D → ℕ) (step : Step) (mid new : TxState) (to : LogState D) (r : Result A E) → OnOk r (Does faults step mid to new to) → OnErr r (new ≡ mid) → new.transaction ≡ mid.transaction
 entered_there faults step mid new to (Ok a) done same = done.transaction
 entered_there faults step mid new to (Err e) done same = ap (λ (x : TxState). x.transaction) same
+
+-- and keeps the record that is kept
+pub entered_kept : {D A E : Type 0} (faults : D → ℕ) (n : ℕ) (a : ActorNo) (c : Call) (m : ℕ) (mid new : TxState) (to : LogState D) (r : Result A E) → OnOk r (Does faults (Calls n a c m) mid to new to) → OnErr r (new ≡ mid)
+    → (new.ours ≡ mid.ours) × (new.unsure ≡ mid.unsure)
+entered_kept faults n a c m mid new to (Ok x) done same = done.kept
+entered_kept faults n a c m mid new to (Err e) done same = (ap (λ (x : TxState). x.ours) same, ap (λ (x : TxState). x.unsure) same)

@@ -55,7 +55,6 @@ impl TxWorld {
         requires answers { MayAnswer self.old.transaction.value self.old.world c.now m }
         ensures done { OnOk result (DoesAlone (Calls line actor c.now m) self.old self.new) }
         ensures wrote { is_some (half self.old.world).seen.limit ≡ true → OnOk result (self.new.world.past ≡ Called line actor (Did m) ∷ self.old.world.past) }
-        ensures ours { (self.new.ours ≡ self.old.ours) × (self.new.unsure ≡ self.old.unsure) }
         ensures named { NamesPrepared self.old → NamesPrepared self.new }
         ensures memory { OnErr result (self.new ≡ self.old) }
     {

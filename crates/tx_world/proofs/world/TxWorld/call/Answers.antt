@@ -1,7 +1,7 @@
 use Rattle.std.proofs.Common.{◌∙◌}
 use Rattle.dtx_model.specs.Steps.{Calls}
 use Rattle.tx_world.proofs.Leaves.{leaves_beside, leaves_on}
-use Rattle.tx_world.proofs.Prepared.{call_done, call_fails, entered_there, prepared_enters, prepared_may}
+use Rattle.tx_world.proofs.Prepared.{call_done, call_fails, entered_kept, entered_there, prepared_enters, prepared_may}
 use Rattle.tx_world.proofs.world.TxWorld.call.Goals as goal
 
 pub enter-requires-clause-enters : goal.enter-requires-clause-enters
@@ -31,4 +31,4 @@ pub returns-clause-leaves : goal.returns-clause-leaves
 returns-clause-leaves g c =
     let there = entered_there g.D.Disk.faults (Calls c.args.line c.args.actor c.args.c.now c.in_ok-done.done) c.prepare.new.self c.enter.new.self c.prepare.new.log c.enter.result c.enter.ensures.done c.enter.ensures.memory in
     leaves_on c.args.self.now c.prepare.new.self c.enter.new.self c.args.log.now c.prepare.new.log c.prepare.new.log c.prepare.ensures.transaction c.prepare.ensures.leaves
-    (leaves_beside c.prepare.new.self c.enter.new.self c.prepare.new.log (λ honest. (c.prepare.ensures.leaves.kept honest).fits) there c.enter.ensures.ours c.enter.ensures.named)
+    (leaves_beside c.prepare.new.self c.enter.new.self c.prepare.new.log (λ honest. (c.prepare.ensures.leaves.kept honest).fits) there (entered_kept g.D.Disk.faults c.args.line c.args.actor c.args.c.now c.in_ok-done.done c.prepare.new.self c.enter.new.self c.prepare.new.log c.enter.result c.enter.ensures.done c.enter.ensures.memory) c.enter.ensures.named)
