@@ -83,6 +83,17 @@ fn content_of(packet: &Packet) -> Delivered
 }
 
 impl Session {
+    /// No connection was started, and there is no room before [`Session::reserve`] makes it: until then it takes no memory.
+    pub fn without_room(alloc: Global) -> Session
+        ensures none { result.wires ≡ [] }
+        ensures carries { Carries result.wires [] }
+    {
+        Session {
+            links: Vec::new(alloc),
+            packets: Vec::new(alloc),
+        }
+    }
+
     /// No connection was started, and there is room for [`ROOM`] (64) calls of `start` and as many of `send`.
     pub fn new(alloc: Global) -> Result<Session, AllocError>
         ensures none { IfOk result (λ s. s.wires ≡ []) }

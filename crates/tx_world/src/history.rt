@@ -17,10 +17,9 @@ ghost use Rattle.tx_world.specs.Entering.{cut_if, is_countable, links_cut};
 ghost use Rattle.tx_world.specs.Sending.{is_sent};
 ghost use Rattle.world_laws.specs.Course.{Came, Course, IsOpened, arrival, is_written};
 
-use crate::connections::Connections;
 use dtx_values::{Conn, Dir, EnlNo, Entry, Message, ROOM, is_opening};
 use entry_lists::Entries;
-use oletx_session::Delivered;
+use oletx_session::{Delivered, Session};
 use std::alloc::{AllocError, Global};
 use std::marker::Model;
 
@@ -34,7 +33,7 @@ const FEW_ENTRIES: usize = 6;
 #[derive(Drop)]
 pub(crate) struct History {
     entries: Entries,
-    session: Connections,
+    session: Session,
 }
 
 impl Model for History {
@@ -56,7 +55,7 @@ impl Model for History {
 }
 
 /// Starts a connection where nothing is left of an earlier opening. It is lost at once while the coordinator stands stopped.
-fn open(session: &mut Connections, stopped: bool, c: Conn)
+fn open(session: &mut Session, stopped: bool, c: Conn)
     requires { 0 < session.old.start_room }
     ensures opened { (h : List Entry) → Carries session.old.wires h → WireRun h → is_linked c h ≡ false → IsOpened stopped c session.new.wires h }
     ensures start_room { session.old.start_room ≤ session.new.start_room + 1 }
@@ -71,7 +70,7 @@ fn open(session: &mut Connections, stopped: bool, c: Conn)
 }
 
 /// Opens a connection with its first message.
-fn open_with(session: &mut Connections, stopped: bool, c: Conn, d: Dir, m: &Message)
+fn open_with(session: &mut Session, stopped: bool, c: Conn, d: Dir, m: &Message)
     requires valid { is_valid m.now ≡ true }
     requires starts { 0 < session.old.start_room }
     requires sends { 0 < session.old.send_room }
@@ -85,7 +84,7 @@ fn open_with(session: &mut Connections, stopped: bool, c: Conn, d: Dir, m: &Mess
 }
 
 /// Sends a message that may be sent.
-fn send(session: &mut Connections, stopped: bool, c: Conn, d: Dir, m: &Message)
+fn send(session: &mut Session, stopped: bool, c: Conn, d: Dir, m: &Message)
     requires valid { is_valid m.now ≡ true }
     requires starts { 0 < session.old.start_room }
     requires sends { 0 < session.old.send_room }
@@ -103,7 +102,7 @@ fn send(session: &mut Connections, stopped: bool, c: Conn, d: Dir, m: &Message)
 }
 
 /// Lets the connections do what an entry says.
-fn carry(session: &mut Connections, stopped: bool, x: &Entry)
+fn carry(session: &mut Session, stopped: bool, x: &Entry)
     requires written { is_written x.now ≡ true }
     requires valid { (h : List Entry) × (is_sendable h x.now ≡ true) }
     requires starts { is_sent x.now ≡ true → 0 < session.old.start_room }
@@ -142,7 +141,7 @@ impl History {
     {
         Ok(History {
             entries: Entries::with_capacity(alloc, FIRST_ROOM)?,
-            session: Connections::new(alloc),
+            session: Session::without_room(alloc),
         })
     }
 

@@ -2,7 +2,6 @@
 #![tactic(auto)]
 
 mod at_log;
-mod connections;
 mod hearing;
 mod history;
 mod local_calls;
