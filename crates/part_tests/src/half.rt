@@ -262,23 +262,15 @@ fn a_half_is_driven_until_nothing_is_left(rt: HostRuntime) -> Result<(), Fail> {
     Ok(())
 }
 
-#[test]
-fn the_conditions_of_calls_can_be_tested(rt: HostRuntime) -> Result<(), Fail> {
-    let t = transaction(&rt);
-    let [e1, e2, e3] = [1, 2, 3].map(|n| enl(&rt, n));
-    let c1 = CloneNo::new(1).expect(&rt, "no such number");
-    let mut out = Outbox::with_room(rt.alloc())?;
-    let mut half = LocalHalf::new(rt.alloc(), t)?;
-    assert_eq!(rt; half.if_begun(Answer::Fine), Answer::NotBegun);
-    begin(&rt, &mut half, &mut out);
-    assert_eq!(rt; half.if_begun(Answer::Fine), Answer::Fine);
+/// Which calls are answered by the half alone, and which make nothing that is there already: those of a transaction with e1 and e2.
+fn tell_calls_apart(rt: &impl Abort, half: &LocalHalf) {
+    let t = transaction(rt);
+    let [e1, e2, e3] = [1, 2, 3].map(|n| enl(rt, n));
+    let c1 = CloneNo::new(1).expect(rt, "no such number");
+    let plain = EnlistOption::Plain;
     for (call, own, new) in [
-        (
-            Call::Volatile(t, e2, EnlistOption::Plain, None),
-            true,
-            false,
-        ),
-        (Call::Volatile(t, e3, EnlistOption::Plain, None), true, true),
+        (Call::Volatile(t, e2, plain, None), true, false),
+        (Call::Volatile(t, e3, plain, None), true, true),
         (Call::Clone(t, c1, CloneKind::Block), true, true),
         (Call::Status(t), true, true),
         (Call::Await(t), false, true),
@@ -287,7 +279,26 @@ fn the_conditions_of_calls_can_be_tested(rt: HostRuntime) -> Result<(), Fail> {
         assert_eq!(rt; LocalHalf::is_its_own(&call), own);
         assert_eq!(rt; half.is_free(1, &call), new);
     }
+}
+
+#[test]
+fn the_conditions_of_calls_can_be_tested(rt: HostRuntime) -> Result<(), Fail> {
+    let mut out = Outbox::with_room(rt.alloc())?;
+    let mut half = LocalHalf::new(rt.alloc(), transaction(&rt))?;
+    assert_eq!(rt; half.if_begun(Answer::Fine), Answer::NotBegun);
+    begin(&rt, &mut half, &mut out);
+    assert_eq!(rt; half.if_begun(Answer::Fine), Answer::Fine);
+    tell_calls_apart(&rt, &half);
     assert!(rt; half.is_unpromoted());
+    Ok(())
+}
+
+#[test]
+fn an_owner_that_is_lost_aborts(rt: HostRuntime) -> Result<(), Fail> {
+    let [e1, e3] = [1, 3].map(|n| enl(&rt, n));
+    let mut out = Outbox::with_room(rt.alloc())?;
+    let mut half = LocalHalf::new(rt.alloc(), transaction(&rt))?;
+    begin(&rt, &mut half, &mut out);
     assert_eq!(rt; half.gone_answer(e3), Answer::NoSuch);
     assert_eq!(rt; half.gone_answer(e1), Answer::Fine);
     out.clear();
