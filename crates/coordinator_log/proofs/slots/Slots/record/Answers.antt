@@ -2,8 +2,7 @@ use Rattle.std.specs.Prelude.{is_some}
 use Rattle.std.specs.Option.{option_map}
 use Rattle.std.proofs.Common.{◌≡◌, ◌∙◌, ◌≤◌, ◌<◌, List, None, Option, ap, arith, false, get_or, length, nat_lt, sym}
 use Rattle.std.proofs.lemmas.Bool.Decides.{nat_tests}
-use Rattle.std.proofs.lemmas.List.{get_or-map}
-use Rattle.dtx_values.specs.declared.record.LogRecord.{LogRecord}
+use Rattle.std.proofs.lemmas.List.{get_or-map, get_or_past}
 use Rattle.dtx_model.specs.Log.{CommitRecord, record_of}
 use Rattle.coordinator_log.specs.Slots.{with_closed}
 use Rattle.coordinator_log.proofs.Marks.{length-with_closed, read_kept}
