@@ -1,10 +1,10 @@
 -- The slots in memory: those that are kept, and the closed ones after them.
 use Rattle.std.specs.Prelude.{count_by, is_none, is_some, position, replicate}
 use Rattle.std.specs.List.{position_from}
-use Rattle.std.proofs.Common.{◌≡◌, ℕ, zero, suc, ◌+◌, ◌-◌, ◌≤◌, ◌<◌, cond, eqb, false, List, [], ◌∷◌, ◌++◌, length, get_or, set, Option, Some, None, refl, sym, ap, ◌∙◌, inl, inr, arith, append_assoc}
+use Rattle.std.proofs.Common.{◌≡◌, ℕ, zero, suc, ◌+◌, ◌-◌, ◌≤◌, ◌<◌, cond, eqb, List, [], ◌∷◌, ◌++◌, length, get_or, set, Option, Some, None, refl, sym, ap, ◌∙◌, inl, inr, arith, append_assoc}
 use Rattle.std.proofs.lemmas.Bool.{cases_Bool}
 use Rattle.std.proofs.lemmas.Iterator.Adapters.{position_from-zero}
-use Rattle.std.proofs.lemmas.List.{append-nil, length-append, length-replicate, length-set, length_push}
+use Rattle.std.proofs.lemmas.List.{append-nil, length-append, length-replicate, length-set, length_push, set-append_left, set-append_right}
 use Rattle.std.proofs.lemmas.List.Sums.{sum_by-cons}
 use Rattle.dtx_values.specs.declared.record.LogRecord.{LogRecord}
 use Rattle.coordinator_log.specs.Slots.{has_record_of, with_closed}
@@ -88,13 +88,8 @@ one_kept n ss less =
     append_assoc ss (None ∷ []) (closed (n - length (ss ++ None ∷ []))) ∙ ap (λ (m : ℕ). ss ++ closed m) (sym one)
 
 -- a slot that is kept is set
-set_front : (ss ts : Kept) (k : ℕ) (r : Option LogRecord) → k < length ss → set ss k r ++ ts ≡ set (ss ++ ts) k r
-set_front [] ts k r less = absurd (omega arith)
-set_front (s ∷ ss) ts zero r less = refl
-set_front (s ∷ ss) ts (suc k) r less = ap (λ (xs : Kept). s ∷ xs) (set_front ss ts k r (omega arith))
-
 pub set_kept : (n : ℕ) (ss : Kept) (k : ℕ) (r : Option LogRecord) → k < length ss → with_closed n (set ss k r) ≡ set (with_closed n ss) k r
-set_kept n ss k r less = ap (λ (m : ℕ). set ss k r ++ closed (n - m)) (length-set ss k r) ∙ set_front ss (closed (n - length ss)) k r less
+set_kept n ss k r less = ap (λ (m : ℕ). set ss k r ++ closed (n - m)) (length-set ss k r) ∙ sym (set-append_left ss (closed (n - length ss)) k r less)
 
 -- a slot that isn't kept is closed, and stays so
 set_closed : (n k : ℕ) → closed n ≡ set (closed n) k None
@@ -102,13 +97,9 @@ set_closed zero k = refl
 set_closed (suc n) zero = refl
 set_closed (suc n) (suc k) = ap (λ (xs : Kept). None ∷ xs) (set_closed n k)
 
-set_after : (ss : Kept) (n k : ℕ) → length ss ≤ k → ss ++ closed n ≡ set (ss ++ closed n) k None
-set_after [] n k le = set_closed n k
-set_after (s ∷ ss) n zero le = absurd (omega arith)
-set_after (s ∷ ss) n (suc k) le = ap (λ (xs : Kept). s ∷ xs) (set_after ss n k (omega arith))
-
 pub closed_kept : (n : ℕ) (ss : Kept) (k : ℕ) → length ss ≤ k → with_closed n ss ≡ set (with_closed n ss) k None
-closed_kept n ss k le = set_after ss (n - length ss) k le
+closed_kept n ss k le =
+    ap (λ (xs : Kept). ss ++ xs) (set_closed (n - length ss) (k - length ss)) ∙ sym (set-append_right ss (closed (n - length ss)) (length ss) k None refl le)
 
 -- what a slot has
 read_closed : (n k : ℕ) → get_or (closed n) k None ≡ None
@@ -123,14 +114,3 @@ read_from (s ∷ ss) n (suc k) = read_from ss n k
 
 pub read_kept : (n : ℕ) (ss : Kept) (k : ℕ) → get_or (with_closed n ss) k None ≡ get_or ss k None
 read_kept n ss k = read_from ss (n - length ss) k
-
--- past the slots that are kept there is none
-pub none_there : (ss : Kept) (k : ℕ) → length ss ≤ k → get_or ss k None ≡ None
-none_there [] k le = refl
-none_there (s ∷ ss) zero le = absurd (omega arith)
-none_there (s ∷ ss) (suc k) le = none_there ss k (omega arith)
-
--- what isn't a record is none
-pub not_some : (s : Option LogRecord) → is_some s ≡ false → s ≡ None
-not_some None e = refl
-not_some (Some r) e = absurd cc

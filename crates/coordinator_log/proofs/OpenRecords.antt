@@ -51,7 +51,7 @@ lowest_within (None ∷ vs) = omega arith
 lowest_within (Some r ∷ vs) = let h = lowest_within vs in omega arith
 
 -- no record stands where the test for none passes
-is_none_at : {X : Type 0} (s : Option X) → is_none s ≡ true → s ≡ None
+pub is_none_at : {X : Type 0} (s : Option X) → is_none s ≡ true → s ≡ None
 is_none_at None e = refl
 is_none_at (Some x) e = absurd cc
 

@@ -1,8 +1,10 @@
 -- The armed stop of a log, and the device calls that it counts.
-use Rattle.std.specs.Prelude.{◌≡◌, ◌≤◌, ◌+◌, ◌-◌, ℕ, nat_lt, nat_le, Bool, List, Option, Some, None, if◌then◌else◌}
+use Rattle.std.specs.Prelude.{◌≡◌, ◌≤◌, ◌+◌, ◌-◌, ℕ, nat_lt, nat_le, Bool, List, Option, Some, None, Result, OnErr, OnOk, if◌then◌else◌}
 use Rattle.dtx_values.specs.declared.Image.{Image}
 use Rattle.dtx_values.specs.declared.Image.TheVariants.{Lose, Keep, Torn}
 use Rattle.outside.specs.Disk.{overwritten}
+use Rattle.outside.specs.Faults.{Rose}
+use Rattle.coordinator_log.specs.declared.device.Broken.{Broken}
 use Rattle.coordinator_log.specs.declared.stop.ArmedStop.{ArmedStop}
 
 -- the image of the stop that is reached in the next n calls, where one is
@@ -14,6 +16,15 @@ stop_in n (Some s) = if nat_lt s.passes n then Some s.image else None
 abbrev pub after_calls : ℕ → Option ArmedStop → Option ArmedStop
 after_calls n None = None
 after_calls n (Some s) = if nat_lt s.passes n then None else Some (record { passes = s.passes - n; image = s.image })
+
+-- a write or a sync that counts, whatever it answers: the device is as long as before; no fault comes where it is done; and where it isn't, the stop was reached or a fault came
+pub record Counts {D : Type 0} (bytes faults : D → ℕ) (old new : D) (armed left : Option ArmedStop) (result : Result (Unit {0}) Broken) : Type 0 where
+  pub size : bytes new ≡ bytes old
+  pub smooth : OnOk result (faults new ≡ faults old)
+  pub grows : faults old ≤ faults new
+  pub passed : OnOk result (stop_in 1 armed ≡ None)
+  pub counted : left ≡ after_calls 1 armed
+  pub cause : OnErr result (stop_in 1 armed ≡ None → Rose (faults old) (faults new))
 
 -- the work of n calls was broken off at one of them, which the stop counted too: by the stop, or by a fault, where the stop wasn't reached
 pub record BreaksOff (n : ℕ) (old new : Option ArmedStop) (fault : Type 0) : Type 0 where

@@ -6,7 +6,7 @@ ghost use Rattle.dtx_values.specs.declared.Image.{Image};
 ghost use Rattle.dtx_model.specs.Log.{record_of, slots_of};
 ghost use Rattle.dtx_values.specs.RecoveryInfo.{is_id};
 ghost use Rattle.coordinator_log.specs.Slots.{HasSlots, IsClosed, IsEither, IsOpen};
-ghost use Rattle.coordinator_log.specs.Stop.{BreaksOff, after_calls, at_write, is_done, stop_in};
+ghost use Rattle.coordinator_log.specs.Stop.{BreaksOff, Counts, after_calls, at_write, is_done, stop_in};
 ghost use Rattle.coordinator_log.specs.declared.stop.ArmedStop.{ArmedStop};
 
 use crate::law::records_are_read_again;
@@ -71,12 +71,7 @@ fn write<D: Disk>(
     requires { at + length from.now ≤ D.size disk.old }
     ensures done { IsTrue D.honest → OnOk result (D.seen disk.new ≡ overwritten (D.seen disk.old) at from.now) }
     ensures images { IsTrue D.honest → Follows (IsTorn at (length from.now)) (D.image disk.old) (D.image disk.new) }
-    ensures size { D.size disk.new ≡ D.size disk.old }
-    ensures smooth { OnOk result (D.faults disk.new ≡ D.faults disk.old) }
-    ensures grows { D.faults disk.old ≤ D.faults disk.new }
-    ensures passed { OnOk result (stop_in 1 armed.old ≡ None) }
-    ensures counted { armed.new ≡ after_calls 1 armed.old }
-    ensures cause { OnErr result (stop_in 1 armed.old ≡ None → Rose (D.faults disk.old) (D.faults disk.new)) }
+    ensures counts { Counts D.size D.faults disk.old disk.new armed.old armed.new result }
     ensures crashed { IsTrue D.honest → (image : Image) → stop_in 1 armed.old ≡ Some image → (d : D) × D.leaves image d (D.seen disk.new)
         × (Rose (D.faults disk.old) (D.faults disk.new) ⊎ (D.seen d ≡ at_write image (D.seen disk.old) at from.now)) }
 {
@@ -98,12 +93,7 @@ fn sync<D: Disk>(disk: &mut D, armed: &mut Option<ArmedStop>) -> Result<(), Brok
     ensures done { IsTrue D.honest → OnOk result (IsOnly (D.seen disk.old) (D.image disk.new)) }
     ensures seen { IsTrue D.honest → OnOk result (D.seen disk.new ≡ D.seen disk.old) }
     ensures images { IsTrue D.honest → AreWithin (D.image disk.old) (D.image disk.new) }
-    ensures size { D.size disk.new ≡ D.size disk.old }
-    ensures smooth { OnOk result (D.faults disk.new ≡ D.faults disk.old) }
-    ensures grows { D.faults disk.old ≤ D.faults disk.new }
-    ensures passed { OnOk result (stop_in 1 armed.old ≡ None) }
-    ensures counted { armed.new ≡ after_calls 1 armed.old }
-    ensures cause { OnErr result (stop_in 1 armed.old ≡ None → Rose (D.faults disk.old) (D.faults disk.new)) }
+    ensures counts { Counts D.size D.faults disk.old disk.new armed.old armed.new result }
     ensures crashed { IsTrue D.honest → (image : Image) → stop_in 1 armed.old ≡ Some image
         → (d : D) × D.leaves image d (D.seen disk.new) × (D.seen d ≡ D.seen disk.old) }
     ensures kept { IsTrue D.honest → stop_in 1 armed.old ≡ Some Image.Keep → Rose (D.faults disk.old) (D.faults disk.new) ⊎ IsOnly (D.seen disk.old) (D.image disk.new) }

@@ -1,4 +1,5 @@
--- Worked histories: how one transaction that is promoted for a marshal call ends. One line is one step: what it brings, and what follows from that.
+-- Worked histories: how one transaction that is promoted for a marshal call ends. One line is one step: what it brings, and what follows from that; or it names the
+-- entries of several, of `WorkedParts`.
 use Rattle.std.proofs.Common.{List, Some, [], false, refl, ◌++◌, ◌∷◌}
 use Rattle.dtx_values.specs.declared.entry.Answer.TheVariants.{Ended as EndedBy, Fine, Id, NoSuch, StillOpen, True, Wait}
 use Rattle.dtx_values.specs.declared.entry.Ask.TheVariants.{Promote}

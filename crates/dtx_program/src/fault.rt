@@ -3,50 +3,20 @@ use script_runner::{BadCause, Exit};
 use thiserror::Error;
 
 /// Why a line is bad, in words.
-#[derive(Debug, Drop, Error)]
-pub enum Mistake {
-    #[error("script too long")]
-    TooLong,
-    #[error("line too long")]
-    LongLine,
-    #[error("no newline")]
-    NoNewline,
-    #[error("bad byte")]
-    BadByte,
-    #[error("missing word")]
-    MissingWord,
-    #[error("unknown word")]
-    UnknownWord,
-    #[error("bad number")]
-    BadNumber,
-    #[error("extra word")]
-    ExtraWord,
-    #[error("name made twice")]
-    NameTwice,
-    #[error("unknown name")]
-    NameUnknown,
-    #[error("wrong kind")]
-    WrongKind,
-    #[error("par twice")]
-    ParTwice,
-}
-
-impl Mistake {
-    fn of(cause: BadCause) -> Mistake {
-        match cause {
-            BadCause::TooLong => Mistake::TooLong,
-            BadCause::LongLine => Mistake::LongLine,
-            BadCause::NoNewline => Mistake::NoNewline,
-            BadCause::BadByte => Mistake::BadByte,
-            BadCause::MissingWord => Mistake::MissingWord,
-            BadCause::UnknownWord => Mistake::UnknownWord,
-            BadCause::BadNumber => Mistake::BadNumber,
-            BadCause::ExtraWord => Mistake::ExtraWord,
-            BadCause::NameTwice => Mistake::NameTwice,
-            BadCause::NameUnknown => Mistake::NameUnknown,
-            BadCause::WrongKind => Mistake::WrongKind,
-            BadCause::ParTwice => Mistake::ParTwice,
-        }
+fn words_of(cause: BadCause) -> &'static str {
+    match cause {
+        BadCause::TooLong => "script too long",
+        BadCause::LongLine => "line too long",
+        BadCause::NoNewline => "no newline",
+        BadCause::BadByte => "bad byte",
+        BadCause::MissingWord => "missing word",
+        BadCause::UnknownWord => "unknown word",
+        BadCause::BadNumber => "bad number",
+        BadCause::ExtraWord => "extra word",
+        BadCause::NameTwice => "name made twice",
+        BadCause::NameUnknown => "unknown name",
+        BadCause::WrongKind => "wrong kind",
+        BadCause::ParTwice => "par twice",
     }
 }
 
@@ -56,7 +26,7 @@ pub enum Fault {
     #[error("dtx: usage")]
     Usage,
     #[error("dtx: line {0}: {1}")]
-    BadScript(u32, Mistake),
+    BadScript(u32, &'static str),
     #[error("dtx: line {0}: do needs replay")]
     NotThreadable(u32),
     #[error("dtx: read fault")]
@@ -77,7 +47,7 @@ impl Fault {
         match exit {
             Exit::Fine => Ok(()),
             Exit::Usage => Err(Fault::Usage),
-            Exit::BadScript(line, cause) => Err(Fault::BadScript(line, Mistake::of(cause))),
+            Exit::BadScript(line, cause) => Err(Fault::BadScript(line, words_of(cause))),
             Exit::NotThreadable(line) => Err(Fault::NotThreadable(line)),
             Exit::ReadFault => Err(Fault::Read),
             Exit::LogFault => Err(Fault::Log),

@@ -47,7 +47,7 @@ brief_alike ws vs n (ToldClient o) h = (refl, refl)
 brief_alike ws vs n (Whole k) h = absurd cc
 
 -- Each of a list shows the same after a change, and with one more it shows that too.
-pub one_more : {X Y : Type 0} (f g : X → Y) (p q : X → Bool) (xs : List X) (x : X) → ((z : X) → p z ≡ true → (g z ≡ f z) × (q z ≡ true)) → each p xs ≡ true → q x ≡ true
+one_more : {X Y : Type 0} (f g : X → Y) (p q : X → Bool) (xs : List X) (x : X) → ((z : X) → p z ≡ true → (g z ≡ f z) × (q z ≡ true)) → each p xs ≡ true → q x ≡ true
     → (map g (xs ++ x ∷ []) ≡ map f xs ++ g x ∷ []) × (each q (xs ++ x ∷ []) ≡ true)
 one_more f g p q [] x stay h k = (refl, and_both (q x) true k refl)
 one_more f g p q (y ∷ ys) x stay h k =
@@ -56,6 +56,18 @@ one_more f g p q (y ∷ ys) x stay h k =
     ((λ i. here.0 i ∷ rest.0 i), and_both (q y) (each q (ys ++ x ∷ [])) here.1 rest.1)
 
 -- the same of an entry with its place
-pub placed_stays : (old new : List Entry) → ((b : Brief) → is_within (length old) b ≡ true → (entry_in new b ≡ entry_in old b) × (is_within (length new) b ≡ true))
+placed_stays : (old new : List Entry) → ((b : Brief) → is_within (length old) b ≡ true → (entry_in new b ≡ entry_in old b) × (is_within (length new) b ≡ true))
     → (x : ShortPlace × Brief) → is_placed_within (length old) x ≡ true → (placed_in new x ≡ placed_in old x) × (is_placed_within (length new) x ≡ true)
 placed_stays old new stay x h = let here = stay x.1 h in (ap (λ (e : Entry). (place_of x.0, e)) here.0, here.1)
+
+-- With one more in few bytes, or whole, a list shows what it showed, and that one.
+pub briefs_more : (old new : List Entry) (bs : List Brief) (b : Brief) → ((x : Brief) → is_within (length old) x ≡ true → (entry_in new x ≡ entry_in old x) × (is_within (length new) x ≡ true))
+    → each (is_within (length old)) bs ≡ true → is_within (length new) b ≡ true
+    → (map (entry_in new) (bs ++ b ∷ []) ≡ map (entry_in old) bs ++ entry_in new b ∷ []) × (each (is_within (length new)) (bs ++ b ∷ []) ≡ true)
+briefs_more old new bs b stay h k = one_more (entry_in old) (entry_in new) (is_within (length old)) (is_within (length new)) bs b stay h k
+
+-- the same of a list of entries with their places
+pub placed_more : (old new : List Entry) (bs : List (ShortPlace × Brief)) (p : ShortPlace) (b : Brief)
+    → ((x : Brief) → is_within (length old) x ≡ true → (entry_in new x ≡ entry_in old x) × (is_within (length new) x ≡ true)) → each (is_placed_within (length old)) bs ≡ true → is_within (length new) b ≡ true
+    → (map (placed_in new) (bs ++ (p, b) ∷ []) ≡ map (placed_in old) bs ++ placed_in new (p, b) ∷ []) × (each (is_placed_within (length new)) (bs ++ (p, b) ∷ []) ≡ true)
+placed_more old new bs p b stay h k = one_more (placed_in old) (placed_in new) (is_placed_within (length old)) (is_placed_within (length new)) bs (p, b) (placed_stays old new stay) h k

@@ -1,11 +1,12 @@
 //! Entries in few bytes.
-ghost use Rattle.std.specs.Prelude.{◌≡◌, ◌≤◌, ◌<◌, ◌+◌, ◌^◌, List, IfSome, length, slice_index_or, true, vec_capacity, vec_len};
+ghost use Rattle.std.specs.Prelude.{◌≡◌, ◌≤◌, ◌<◌, ◌+◌, ◌^◌, List, IfOk, IfSome, length, slice_index_or, true, vec_capacity, vec_len};
 ghost use Rattle.dtx_values.specs.declared.entry.Entry.{Entry};
 ghost use Rattle.entry_lists.specs.declared.brief.Brief.{Brief};
 ghost use Rattle.entry_lists.specs.Held.{entry_in, is_whole, is_within};
 
 use crate::short::{ShortActorNo, ShortEnlNo};
 use dtx_values::{Answer, Ask, Class, Entry, Outcome, Party, Vote};
+use std::alloc::AllocError;
 
 /// An entry in eight bytes. One that has more of them stands whole elsewhere, at a place.
 #[derive(Clone, Copy)]
@@ -98,6 +99,32 @@ pub(crate) fn keep_from(wholes: &mut Vec<Entry>, list: &[Entry], b: Brief) -> Br
     } else {
         b
     }
+}
+
+/// Makes room for n more entries, in few bytes and whole, where there was room for `room`. It gives for how many there is room then.
+pub(crate) fn make_room<T>(
+    briefs: &mut Vec<T>,
+    wholes: &mut Vec<Entry>,
+    room: usize,
+    n: usize,
+) -> Result<usize, AllocError>
+    requires briefs { vec_len briefs.old + room ≤ vec_capacity briefs.old }
+    requires wholes { vec_len wholes.old + room ≤ vec_capacity wholes.old }
+    requires few { vec_len wholes.old + room ≤ 2 ^ 32 }
+    ensures same { (briefs.new.items ≡ briefs.old.items) × (wholes.new.items ≡ wholes.old.items) }
+    ensures grows { (vec_capacity briefs.old ≤ vec_capacity briefs.new) × (vec_capacity wholes.old ≤ vec_capacity wholes.new) }
+    ensures room { IfOk result (λ m. (n ≤ m) × (room ≤ m)) }
+    ensures fits { IfOk result (λ m. (vec_len briefs.new + m ≤ vec_capacity briefs.new) × (vec_len wholes.new + m ≤ vec_capacity wholes.new) × (vec_len wholes.new + m ≤ 2 ^ 32)) }
+{
+    if n <= room {
+        return Ok(room);
+    }
+    briefs.reserve(n)?;
+    wholes.reserve(n)?;
+    if n > 4_294_967_296 || wholes.len() > 4_294_967_296 - n {
+        return Err(AllocError);
+    }
+    Ok(n)
 }
 
 /// The entry that stands in few bytes, or whole among these.

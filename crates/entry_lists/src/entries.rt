@@ -2,7 +2,7 @@
 ghost use Rattle.std.specs.Prelude.{◌≡◌, ◌≤◌, ◌<◌, ◌+◌, ◌++◌, ◌∷◌, [], IfOk, OnErr, OnOk, length, slice_index_or};
 ghost use Rattle.entry_lists.specs.Held.{entry_in};
 
-use crate::brief::{Brief, entry_in, keep};
+use crate::brief::{Brief, entry_in, keep, make_room};
 use dtx_values::Entry;
 use std::alloc::{AllocError, Global};
 use std::marker::Model;
@@ -46,15 +46,7 @@ impl Entries {
         ensures room { OnOk result (n ≤ self.new.room) }
         ensures grows { self.old.room ≤ self.new.room }
     {
-        if n <= self.room {
-            return Ok(());
-        }
-        self.briefs.reserve(n)?;
-        self.wholes.reserve(n)?;
-        if n > 4_294_967_296 || self.wholes.len() > 4_294_967_296 - n {
-            return Err(AllocError);
-        }
-        self.room = n;
+        self.room = make_room(&mut self.briefs, &mut self.wholes, self.room, n)?;
         Ok(())
     }
 

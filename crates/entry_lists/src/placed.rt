@@ -2,7 +2,7 @@
 ghost use Rattle.std.specs.Prelude.{◌≡◌, ◌≤◌, ◌<◌, ◌+◌, ◌^◌, ◌++◌, ◌∷◌, [], IfOk, OnErr, OnOk, drop, length, map, slice_index_or};
 ghost use Rattle.entry_lists.specs.Held.{entry_in};
 
-use crate::brief::{Brief, entry_in, keep, keep_from};
+use crate::brief::{Brief, entry_in, keep, keep_from, make_room};
 use crate::entries::Entries;
 use crate::short::{ShortPlace, place_of, short_place};
 use dtx_values::{Entry, Place};
@@ -60,15 +60,7 @@ impl PlacedEntries {
         ensures items { self.new.items ≡ self.old.items }
         ensures room { OnOk result (n ≤ self.new.room) }
     {
-        if n <= self.room {
-            return Ok(());
-        }
-        self.briefs.reserve(n)?;
-        self.wholes.reserve(n)?;
-        if n > 4_294_967_296 || self.wholes.len() > 4_294_967_296 - n {
-            return Err(AllocError);
-        }
-        self.room = n;
+        self.room = make_room(&mut self.briefs, &mut self.wholes, self.room, n)?;
         Ok(())
     }
 

@@ -21,7 +21,7 @@ use Rattle.dtx_model.specs.declared.waiting.Wanted.{Wanted}
 use Rattle.dtx_model.specs.declared.waiting.Wanted.TheVariants.{Identifier, Place}
 use Rattle.dtx_model.proofs.Bools.{and_both, and_left, and_right, not_true}
 use Rattle.dtx_model.proofs.Counts.{how_many-insert_by}
-use Rattle.local_half.specs.Half.{is_awaited, is_free, is_its_own, is_made_by_waiting, waits_at}
+use Rattle.local_half.specs.Half.{Known, is_awaited, is_free, is_its_own, is_made_by_waiting, waits_at}
 use Rattle.local_half.specs.Linked.{AreLinked, AreRows}
 use Rattle.local_half.specs.Waits.{AreWaiting, is_to_come}
 use Rattle.local_half.proofs.Links.{links-wait}
@@ -58,7 +58,7 @@ pub record IsMore (l : Option ℕ) (p d : Bool) (xs : List Row) (m : Option (Enl
   pub waiting : AreWaiting xs ws
   pub links : AreLinked d xs ws h.seen.branches h.seen.ends
 
-pub waits_more : (t : ℕ) (h : Half) (n : ℕ) (c : Call) → is_its_own c ≡ true → local_answer t h c 0 ≡ Wait → is_free h n c ≡ true → (m : Option (EnlNo × RmNo))
+waits_more : (t : ℕ) (h : Half) (n : ℕ) (c : Call) → is_its_own c ≡ true → local_answer t h c 0 ≡ Wait → is_free h n c ≡ true → (m : Option (EnlNo × RmNo))
     → AreRows h.seen.limit h.seen.promoted h.seen.table m h.waits → AreWaiting h.seen.table h.waits → AreLinked (is_some h.seen.decided) h.seen.table h.waits h.seen.branches h.seen.ends
     → IsMore h.seen.limit h.seen.promoted (is_some h.seen.decided) h.seen.table m h (insert_by waiter_line (n, wanted_by c) h.waits)
 waits_more t h n c own waits free m r w l =
@@ -81,6 +81,14 @@ waits_more t h n c own waits free m r w l =
         let itself : (e.value == e.value) ≡ true = grind (arith, nat_tests) in
         let few = room e.value itself in
         rows-awaited h.seen.limit h.seen.promoted h.seen.table m h.waits (insert_by waiter_line (n, Place e q y) h.waits) same few.0 few.1 begun r
+
+-- the same, where what is kept shows as k
+pub waits_seen : (j k : Known) → j ≡ k → (n : ℕ) (c : Call) → is_its_own c ≡ true → local_answer k.transaction.value k.half c 0 ≡ Wait → is_free k.half n c ≡ true → (m : Option (EnlNo × RmNo))
+    → AreRows j.half.seen.limit j.half.seen.promoted j.half.seen.table m j.half.waits → AreWaiting j.half.seen.table j.half.waits
+    → AreLinked (is_some j.half.seen.decided) j.half.seen.table j.half.waits j.half.seen.branches j.half.seen.ends
+    → IsMore j.half.seen.limit j.half.seen.promoted (is_some j.half.seen.decided) j.half.seen.table m j.half (insert_by waiter_line (n, wanted_by c) j.half.waits)
+waits_seen j k same n c own waits free m r w l =
+    waits_more j.transaction.value j.half n c own (subst (λ (x : Known). local_answer x.transaction.value x.half c 0 ≡ Wait) (sym same) waits) (subst (λ (x : Known). is_free x.half n c ≡ true) (sym same) free) m r w l
 
 -- a promotion began where it succeeded or is under way
 pub started_cause : (promoted failed some : Bool) → (promoted || ((some && not promoted) && not failed)) ≡ true → (promoted || some) ≡ false → ⊥

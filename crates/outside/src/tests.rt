@@ -188,6 +188,13 @@ fn sync_through<D: Disk>(disk: &mut D) -> Result<(), Failed>
     disk.sync()
 }
 
+// Whether a read, a write and a sync fail.
+fn is_broken<D: Disk>(disk: &mut D) -> bool {
+    first_four(disk) == Err(Failed)
+        && put(disk, 0, b"ab") == Err(Failed)
+        && sync_through(disk) == Err(Failed)
+}
+
 const FIRST: Step = Step::Write(0, b"ab");
 
 const SECOND: Step = Step::Write(1, b"cd");
@@ -297,9 +304,7 @@ fn disk_in_a_file_is_broken_after_a_length_that_fails(rt: HostRuntime) -> Result
     assert_eq!(rt; first_four(&mut disk), Ok([0; 4]));
     assert_eq!(rt; sync_through(&mut disk), Ok(()));
     assert_eq!(rt; put(&mut disk, 0, b"ab"), Err(Failed));
-    assert_eq!(rt; first_four(&mut disk), Err(Failed));
-    assert_eq!(rt; put(&mut disk, 0, b"ab"), Err(Failed));
-    assert_eq!(rt; sync_through(&mut disk), Err(Failed));
+    assert!(rt; is_broken(&mut disk));
     fs::remove_file(&rt, path)?;
     Ok(())
 }
@@ -313,9 +318,7 @@ fn disk_in_a_file_is_broken_after_a_sync_that_fails(rt: HostRuntime) -> Result<(
     assert_eq!(rt; put(&mut disk, 0, b"ab"), Ok(()));
     assert!(rt; first_four(&mut disk).is_ok());
     assert_eq!(rt; sync_through(&mut disk), Err(Failed));
-    assert_eq!(rt; first_four(&mut disk), Err(Failed));
-    assert_eq!(rt; put(&mut disk, 0, b"ab"), Err(Failed));
-    assert_eq!(rt; sync_through(&mut disk), Err(Failed));
+    assert!(rt; is_broken(&mut disk));
     fs::remove_file(&rt, path)?;
     Ok(())
 }

@@ -1,12 +1,12 @@
 //! Prints scripts: each line has one text. A line is made from its end to its start.
-ghost use Rattle.std.specs.Prelude.{◌≡◌, ◌≤◌, ◌+◌, [], ◌∷◌, ◌++◌, IfOk, codes, length, true};
+ghost use Rattle.std.specs.Prelude.{◌≡◌, ◌≤◌, ◌+◌, ◌*◌, [], ◌∷◌, ◌++◌, IfOk, codes, length, true};
 ghost use Rattle.std.specs.List.{join_with_byte};
 ghost use Rattle.dtx_values.specs.declared.script.Body.TheVariants.{Begin, Open, Volatile, Durable, Promotable, Clone, Tick, Do, Lose, Recovered, Stop};
 ghost use Rattle.line_tail.specs.declared.tail.TheConstants.{LINE_ROOM};
 ghost use Rattle.line_words.specs.declared.widths.TheConstants.{NAME_ROOM, WORD_ROOM};
 ghost use Rattle.script_text.specs.declared.print.TheConstants.{COMMAND_ROOM};
 ghost use Rattle.script_text.specs.Print.{is_simple};
-ghost use Rattle.dtx_model.specs.Grammar.{IsScript, Reads, asked_iso_word, command_words, line_text, scope_name, script_text, timeout_word, transaction_name};
+ghost use Rattle.dtx_model.specs.Grammar.{IsScript, Reads, asked_iso_word, command_words, enlistment_name, line_text, manager_name, scope_name, script_text, timeout_word, transaction_name};
 
 use crate::verbs::{
     AWAIT, BEGIN, CLONE, CLOSE, COMMIT, COMPLETE, CURRENT, DO, DURABLE, FINISH, GONE, LOSE,
@@ -115,6 +115,19 @@ fn put_volatile(tail: &mut Tail, t: TxNo, e: EnlNo, o: EnlistOption, v: Option<V
     put_of(tail, VOLATILE, t);
 }
 
+/// Puts the words of a durable or promotable enlistment up to its manager; `word` is that of its command.
+fn put_lasting(tail: &mut Tail, word: &[u8], t: TxNo, e: EnlNo, r: RmNo)
+    requires { length word.now + 3 + 3 * NAME_ROOM + length tail.old ≤ LINE_ROOM }
+    ensures text { tail.new ≡ word.now ++ 32 ∷ transaction_name t.value ++ 32 ∷ enlistment_name e.value ++ 32 ∷ manager_name r.value ++ tail.old }
+    ensures length { length tail.new ≤ length word.now + 3 + 3 * NAME_ROOM + length tail.old }
+{
+    put_manager(tail, r);
+    tail.put(b" ");
+    put_enlistment(tail, e);
+    tail.put(b" ");
+    put_of(tail, word, t);
+}
+
 /// Puts the words of a durable enlistment.
 fn put_durable(tail: &mut Tail, t: TxNo, e: EnlNo, r: RmNo, s: Support)
     requires { COMMAND_ROOM + length tail.old ≤ LINE_ROOM }
@@ -135,11 +148,7 @@ fn put_durable(tail: &mut Tail, t: TxNo, e: EnlNo, r: RmNo, s: Support)
             tail.put(b" ");
         }
     }
-    put_manager(tail, r);
-    tail.put(b" ");
-    put_enlistment(tail, e);
-    tail.put(b" ");
-    put_of(tail, DURABLE, t);
+    put_lasting(tail, DURABLE, t, e, r);
 }
 
 /// Puts the words of a promotable enlistment.
@@ -162,11 +171,7 @@ fn put_promotable(
     tail.put(b" ");
     put_vote_plan(tail, v);
     tail.put(b" ");
-    put_manager(tail, r);
-    tail.put(b" ");
-    put_enlistment(tail, e);
-    tail.put(b" ");
-    put_of(tail, PROMOTABLE, t);
+    put_lasting(tail, PROMOTABLE, t, e, r);
 }
 
 /// Puts the words that make a clone.

@@ -24,14 +24,14 @@ returns-clause-done g c h only is_open =
 pub returns-in_err-sync-clause-broken : goal.returns-in_err-sync-clause-broken
 returns-in_err-sync-clause-broken g c =
     on_err c.from_residual-in_err-sync.result _
-    (breaks_at 1 2 c.args.armed.now _ _ _ (omega arith) (passed_more 0 _ _ _ (none_passed _) c.in_ok-write.ensures.passed c.write.ensures.counted) c.sync.ensures.counted
-    (λ u. subst (λ (n : ℕ). Rose n (g.D.Disk.faults c.sync.new.disk)) c.in_ok-write.ensures.smooth (c.in_err-sync.ensures.cause u)))
+    (breaks_at 1 2 c.args.armed.now _ _ _ (omega arith) (passed_more 0 _ _ _ (none_passed _) c.in_ok-write.ensures.counts.passed c.write.ensures.counts.counted) c.sync.ensures.counts.counted
+    (λ u. subst (λ (n : ℕ). Rose n (g.D.Disk.faults c.sync.new.disk)) c.in_ok-write.ensures.counts.smooth (c.in_err-sync.ensures.counts.cause u)))
 
 pub returns-in_err-write-clause-crashed : goal.returns-in_err-write-clause-crashed
 returns-in_err-write-clause-crashed g c h only is_open s is none =
     let b = g.D.Disk.seen c.args.disk.now in
     let gate = c.slot_at-gate.result in
-    let at = reached_next 0 s _ _ _ (none_passed _) c.write.ensures.counted is none in
+    let at = reached_next 0 s _ _ _ (none_passed _) c.write.ensures.counts.counted is none in
     let left = c.write.ensures.crashed h s.image at.0 in
     let room : gate + 1 ≤ length b = omega (arith, g.met.D.Disk.long c.args.disk.now b h (g.met.D.Disk.sees c.args.disk.now h), c.requires.size, c.requires.slot, c.slot_at-gate.ensures) in
     let cleared = cleared_stage c.args.k gate b _ c.requires.slot c.slot_at-gate.ensures refl room in
@@ -41,7 +41,7 @@ pub returns-in_err-sync-clause-crashed : goal.returns-in_err-sync-clause-crashed
 returns-in_err-sync-clause-crashed g c h only is_open s is none =
     let b = g.D.Disk.seen c.args.disk.now in
     let gate = c.slot_at-gate.result in
-    let at = reached_next 1 s _ _ _ (passed_more 0 _ _ _ (none_passed _) c.in_ok-write.ensures.passed c.write.ensures.counted) c.sync.ensures.counted is none in
+    let at = reached_next 1 s _ _ _ (passed_more 0 _ _ _ (none_passed _) c.in_ok-write.ensures.counts.passed c.write.ensures.counts.counted) c.sync.ensures.counts.counted is none in
     let left = c.sync.ensures.crashed h s.image at.0 in
     let room : gate + 1 ≤ length b = omega (arith, g.met.D.Disk.long c.args.disk.now b h (g.met.D.Disk.sees c.args.disk.now h), c.requires.size, c.requires.slot, c.slot_at-gate.ensures) in
     let cleared = cleared_stage c.args.k gate b _ c.requires.slot c.slot_at-gate.ensures (c.in_ok-write.ensures.done h) room in
@@ -49,23 +49,23 @@ returns-in_err-sync-clause-crashed g c h only is_open s is none =
 
 pub returns-clause-crashed : goal.returns-clause-crashed
 returns-clause-crashed g c h only is_open s is none =
-    absurd (still_armed 2 s _ _ (passed_more 1 _ _ _ (passed_more 0 _ _ _ (none_passed _) c.in_ok-write.ensures.passed c.write.ensures.counted) c.in_ok-sync.ensures.passed c.sync.ensures.counted) is none)
+    absurd (still_armed 2 s _ _ (passed_more 1 _ _ _ (passed_more 0 _ _ _ (none_passed _) c.in_ok-write.ensures.counts.passed c.write.ensures.counts.counted) c.in_ok-sync.ensures.counts.passed c.sync.ensures.counts.counted) is none)
 
 pub returns-in_err-write-clause-kept : goal.returns-in_err-write-clause-kept
-returns-in_err-write-clause-kept g c h only is_open s is none second keep = absurd (let at = reached_next 0 s _ _ _ (none_passed _) c.write.ensures.counted is none in omega (arith, at.1))
+returns-in_err-write-clause-kept g c h only is_open s is none second keep = absurd (let at = reached_next 0 s _ _ _ (none_passed _) c.write.ensures.counts.counted is none in omega (arith, at.1))
 
 pub returns-in_err-sync-clause-kept : goal.returns-in_err-sync-clause-kept
 returns-in_err-sync-clause-kept g c h only is_open s is none second keep =
     let b = g.D.Disk.seen c.args.disk.now in
     let gate = c.slot_at-gate.result in
-    let at = reached_next 1 s _ _ _ (passed_more 0 _ _ _ (none_passed _) c.in_ok-write.ensures.passed c.write.ensures.counted) c.sync.ensures.counted is none in
+    let at = reached_next 1 s _ _ _ (passed_more 0 _ _ _ (none_passed _) c.in_ok-write.ensures.counts.passed c.write.ensures.counts.counted) c.sync.ensures.counts.counted is none in
     let room : gate + 1 ≤ length b = omega (arith, g.met.D.Disk.long c.args.disk.now b h (g.met.D.Disk.sees c.args.disk.now h), c.requires.size, c.requires.slot, c.slot_at-gate.ensures) in
     let cleared = cleared_stage c.args.k gate b _ c.requires.slot c.slot_at-gate.ensures (c.in_ok-write.ensures.done h) room in
     elim (c.sync.ensures.kept h (at.0 ∙ ap Some keep)) [
-      | inl rose ↦ inl (subst (λ (n : ℕ). Rose n (g.D.Disk.faults c.sync.new.disk)) c.in_ok-write.ensures.smooth rose)
+      | inl rose ↦ inl (subst (λ (n : ℕ). Rose n (g.D.Disk.faults c.sync.new.disk)) c.in_ok-write.ensures.counts.smooth rose)
       | inr alone ↦ inr (λ f on. along b _ f _ (alone f on) cleared)
     ]
 
 pub returns-clause-kept : goal.returns-clause-kept
 returns-clause-kept g c h only is_open s is none second keep =
-    absurd (still_armed 2 s _ _ (passed_more 1 _ _ _ (passed_more 0 _ _ _ (none_passed _) c.in_ok-write.ensures.passed c.write.ensures.counted) c.in_ok-sync.ensures.passed c.sync.ensures.counted) is none)
+    absurd (still_armed 2 s _ _ (passed_more 1 _ _ _ (passed_more 0 _ _ _ (none_passed _) c.in_ok-write.ensures.counts.passed c.write.ensures.counts.counted) c.in_ok-sync.ensures.counts.passed c.sync.ensures.counts.counted) is none)

@@ -48,7 +48,7 @@ halfway g c safe h closed f left =
 within : (g : Over) (c : After-write-2 g) → IsTrue g.D.Disk.honest → c.slot_at-gate.result + 1 ≤ length (g.D.Disk.seen c.sync.new.disk)
 within g c h =
     let b1 = g.D.Disk.seen c.sync.new.disk in
-    omega (arith, g.met.D.Disk.long c.sync.new.disk b1 h (g.met.D.Disk.sees c.sync.new.disk h), c.requires.size, c.sync.ensures.size, c.write.ensures.size, c.requires.slot, c.slot_at-gate.ensures)
+    omega (arith, g.met.D.Disk.long c.sync.new.disk b1 h (g.met.D.Disk.sees c.sync.new.disk h), c.requires.size, c.sync.ensures.counts.size, c.write.ensures.counts.size, c.requires.slot, c.slot_at-gate.ensures)
 
 -- once it is written the slot holds the record
 stored : (g : Over) (c : After-sync-2 g) → IsBehind c.args.k (record_of c.args.r.now) (g.D.Disk.seen c.args.disk.now) (g.D.Disk.seen c.sync.new.disk) → c.slot_at-gate.result + 1 ≤ length (g.D.Disk.seen c.sync.new.disk)
@@ -59,13 +59,13 @@ stored g c safe ready h closed =
 
 -- so many calls passed
 one : (g : Over) (c : After-sync g) → HasPassed 1 c.args.armed.now c.write.new.armed
-one g c = passed_more 0 _ _ _ (none_passed _) c.in_ok-write.ensures.passed c.write.ensures.counted
+one g c = passed_more 0 _ _ _ (none_passed _) c.in_ok-write.ensures.counts.passed c.write.ensures.counts.counted
 
 two : (g : Over) (c : After-write-2 g) → HasPassed 1 c.args.armed.now c.write.new.armed → HasPassed 2 c.args.armed.now c.sync.new.armed
-two g c p = passed_more 1 _ _ _ p c.in_ok-sync.ensures.passed c.sync.ensures.counted
+two g c p = passed_more 1 _ _ _ p c.in_ok-sync.ensures.counts.passed c.sync.ensures.counts.counted
 
 three : (g : Over) (c : After-sync-2 g) → HasPassed 2 c.args.armed.now c.sync.new.armed → HasPassed 3 c.args.armed.now c.write-2.new.armed
-three g c p = passed_more 2 _ _ _ p c.in_ok-write-2.ensures.passed c.write-2.ensures.counted
+three g c p = passed_more 2 _ _ _ p c.in_ok-write-2.ensures.counts.passed c.write-2.ensures.counts.counted
 
 pub returns-in_err-write-clause-images : goal.returns-in_err-write-clause-images
 returns-in_err-write-clause-images g c h only closed f left = inl (unwritten g (goal.at.returns-in_err-write-clause-images g c).After-write h only closed f left)
@@ -100,28 +100,28 @@ returns-clause-done g c h only closed =
 pub returns-in_err-sync-clause-broken : goal.returns-in_err-sync-clause-broken
 returns-in_err-sync-clause-broken g c =
     on_err c.from_residual-in_err-sync.result _
-    (breaks_at 1 4 c.args.armed.now _ _ _ (omega arith) (one g (goal.at.returns-in_err-sync-clause-broken g c).After-sync) c.sync.ensures.counted
-    (λ u. subst (λ (n : ℕ). Rose n (g.D.Disk.faults c.sync.new.disk)) c.in_ok-write.ensures.smooth (c.in_err-sync.ensures.cause u)))
+    (breaks_at 1 4 c.args.armed.now _ _ _ (omega arith) (one g (goal.at.returns-in_err-sync-clause-broken g c).After-sync) c.sync.ensures.counts.counted
+    (λ u. subst (λ (n : ℕ). Rose n (g.D.Disk.faults c.sync.new.disk)) c.in_ok-write.ensures.counts.smooth (c.in_err-sync.ensures.counts.cause u)))
 
 pub returns-in_err-write-2-clause-broken : goal.returns-in_err-write-2-clause-broken
 returns-in_err-write-2-clause-broken g c =
     let at = goal.at.returns-in_err-write-2-clause-broken g c in
     on_err c.from_residual-in_err-write-2.result _
-    (breaks_at 2 4 c.args.armed.now _ _ _ (omega arith) (two g at.After-write-2 (one g at.After-sync)) c.write-2.ensures.counted
-    (λ u. subst (λ (n : ℕ). Rose n (g.D.Disk.faults c.write-2.new.disk)) (c.in_ok-sync.ensures.smooth ∙ c.in_ok-write.ensures.smooth) (c.in_err-write-2.ensures.cause u)))
+    (breaks_at 2 4 c.args.armed.now _ _ _ (omega arith) (two g at.After-write-2 (one g at.After-sync)) c.write-2.ensures.counts.counted
+    (λ u. subst (λ (n : ℕ). Rose n (g.D.Disk.faults c.write-2.new.disk)) (c.in_ok-sync.ensures.counts.smooth ∙ c.in_ok-write.ensures.counts.smooth) (c.in_err-write-2.ensures.counts.cause u)))
 
 pub returns-in_err-sync-2-clause-broken : goal.returns-in_err-sync-2-clause-broken
 returns-in_err-sync-2-clause-broken g c =
     let at = goal.at.returns-in_err-sync-2-clause-broken g c in
     on_err c.from_residual-in_err-sync-2.result _
-    (breaks_at 3 4 c.args.armed.now _ _ _ (omega arith) (three g at.After-sync-2 (two g at.After-write-2 (one g at.After-sync))) c.sync-2.ensures.counted
-    (λ u. subst (λ (n : ℕ). Rose n (g.D.Disk.faults c.sync-2.new.disk)) (c.in_ok-write-2.ensures.smooth ∙ c.in_ok-sync.ensures.smooth ∙ c.in_ok-write.ensures.smooth) (c.in_err-sync-2.ensures.cause u)))
+    (breaks_at 3 4 c.args.armed.now _ _ _ (omega arith) (three g at.After-sync-2 (two g at.After-write-2 (one g at.After-sync))) c.sync-2.ensures.counts.counted
+    (λ u. subst (λ (n : ℕ). Rose n (g.D.Disk.faults c.sync-2.new.disk)) (c.in_ok-write-2.ensures.counts.smooth ∙ c.in_ok-sync.ensures.counts.smooth ∙ c.in_ok-write.ensures.counts.smooth) (c.in_err-sync-2.ensures.counts.cause u)))
 
 pub returns-in_err-write-clause-crashed : goal.returns-in_err-write-clause-crashed
 returns-in_err-write-clause-crashed g c h only closed s is none =
     let b = (goal.at.returns-in_err-write-clause-crashed g c).After-write in
     let was = g.D.Disk.seen c.args.disk.now in
-    let at = reached_next 0 s _ _ _ (none_passed _) c.write.ensures.counted is none in
+    let at = reached_next 0 s _ _ _ (none_passed _) c.write.ensures.counts.counted is none in
     let left = c.write.ensures.crashed h s.image at.0 in (
       left.0,
       left.1,
@@ -134,7 +134,7 @@ pub returns-in_err-sync-clause-crashed : goal.returns-in_err-sync-clause-crashed
 returns-in_err-sync-clause-crashed g c h only closed s is none =
     let to = goal.at.returns-in_err-sync-clause-crashed g c in
     let was = g.D.Disk.seen c.args.disk.now in
-    let at = reached_next 1 s _ _ _ (one g to.After-sync) c.sync.ensures.counted is none in
+    let at = reached_next 1 s _ _ _ (one g to.After-sync) c.sync.ensures.counts.counted is none in
     let left = c.sync.ensures.crashed h s.image at.0 in
     let safe =
     written_behind c.args.k (c.slot_at-gate.result + 1) was _ c.write_record.new.into (record_of c.args.r.now) c.requires.slot (place g to.After-write) closed (room g to.After-write h)
@@ -147,13 +147,13 @@ returns-in_err-write-2-clause-crashed g c h only closed s is none =
     let was = g.D.Disk.seen c.args.disk.now in
     let b1 = g.D.Disk.seen c.sync.new.disk in
     let safe = behind g to.After-write-2 (place g to.After-write) (long g to.After-write) (room g to.After-write h) h closed in
-    let at = reached_next 2 s _ _ _ (two g to.After-write-2 (one g to.After-sync)) c.write-2.ensures.counted is none in
+    let at = reached_next 2 s _ _ _ (two g to.After-write-2 (one g to.After-sync)) c.write-2.ensures.counts.counted is none in
     let left = c.write-2.ensures.crashed h s.image at.0 in
     let done = done_stage c.args.k c.requires.slot was b1 (record_of c.args.r.now) closed safe c.slot_at-gate.result _ c.slot_at-gate.ensures refl (within g to.After-write-2 h) in (
       left.0,
       left.1,
       elim left.2 [
-        | inl rose ↦ inl (subst (λ (n : ℕ). Rose n (g.D.Disk.faults c.write-2.new.disk)) (c.in_ok-sync.ensures.smooth ∙ c.in_ok-write.ensures.smooth) rose)
+        | inl rose ↦ inl (subst (λ (n : ℕ). Rose n (g.D.Disk.faults c.write-2.new.disk)) (c.in_ok-sync.ensures.counts.smooth ∙ c.in_ok-write.ensures.counts.smooth) rose)
         | inr e ↦ inr (by_test _ _ was _ _ _ (done_at 3 2 s at.1) (gate_stopped s.image 2 was b1 _ c.slot_at-gate.result _ _ _ e safe.same done))
       ],
     )
@@ -163,39 +163,39 @@ returns-in_err-sync-2-clause-crashed g c h only closed s is none =
     let to = goal.at.returns-in_err-sync-2-clause-crashed g c in
     let was = g.D.Disk.seen c.args.disk.now in
     let safe = behind g to.After-write-2 (place g to.After-write) (long g to.After-write) (room g to.After-write h) h closed in
-    let at = reached_next 3 s _ _ _ (three g to.After-sync-2 (two g to.After-write-2 (one g to.After-sync))) c.sync-2.ensures.counted is none in
+    let at = reached_next 3 s _ _ _ (three g to.After-sync-2 (two g to.After-write-2 (one g to.After-sync))) c.sync-2.ensures.counts.counted is none in
     let left = c.sync-2.ensures.crashed h s.image at.0 in
     (left.0, left.1, inr (by_test _ true was _ _ _ (done_first 3 s (omega (arith, at.1))) (along was _ _ _ left.2 (stored g to.After-sync-2 safe (within g to.After-write-2 h) h closed))))
 
 pub returns-clause-crashed : goal.returns-clause-crashed
 returns-clause-crashed g c h only closed s is none =
     let to = goal.at.returns-clause-crashed g c in
-    absurd (still_armed 4 s _ _ (passed_more 3 _ _ _ (three g to.After-sync-2 (two g to.After-write-2 (one g to.After-sync))) c.in_ok-sync-2.ensures.passed c.sync-2.ensures.counted) is none)
+    absurd (still_armed 4 s _ _ (passed_more 3 _ _ _ (three g to.After-sync-2 (two g to.After-write-2 (one g to.After-sync))) c.in_ok-sync-2.ensures.counts.passed c.sync-2.ensures.counts.counted) is none)
 
 pub returns-in_err-write-clause-kept : goal.returns-in_err-write-clause-kept
-returns-in_err-write-clause-kept g c h only closed s is none third keep = absurd (let at = reached_next 0 s _ _ _ (none_passed _) c.write.ensures.counted is none in omega (arith, at.1))
+returns-in_err-write-clause-kept g c h only closed s is none third keep = absurd (let at = reached_next 0 s _ _ _ (none_passed _) c.write.ensures.counts.counted is none in omega (arith, at.1))
 
 pub returns-in_err-sync-clause-kept : goal.returns-in_err-sync-clause-kept
 returns-in_err-sync-clause-kept g c h only closed s is none third keep =
-    absurd (let at = reached_next 1 s _ _ _ (one g (goal.at.returns-in_err-sync-clause-kept g c).After-sync) c.sync.ensures.counted is none in omega (arith, at.1))
+    absurd (let at = reached_next 1 s _ _ _ (one g (goal.at.returns-in_err-sync-clause-kept g c).After-sync) c.sync.ensures.counts.counted is none in omega (arith, at.1))
 
 pub returns-in_err-write-2-clause-kept : goal.returns-in_err-write-2-clause-kept
 returns-in_err-write-2-clause-kept g c h only closed s is none third keep =
     let to = goal.at.returns-in_err-write-2-clause-kept g c in
-    absurd (let at = reached_next 2 s _ _ _ (two g to.After-write-2 (one g to.After-sync)) c.write-2.ensures.counted is none in omega (arith, at.1))
+    absurd (let at = reached_next 2 s _ _ _ (two g to.After-write-2 (one g to.After-sync)) c.write-2.ensures.counts.counted is none in omega (arith, at.1))
 
 pub returns-in_err-sync-2-clause-kept : goal.returns-in_err-sync-2-clause-kept
 returns-in_err-sync-2-clause-kept g c h only closed s is none third keep =
     let to = goal.at.returns-in_err-sync-2-clause-kept g c in
     let safe = behind g to.After-write-2 (place g to.After-write) (long g to.After-write) (room g to.After-write h) h closed in
-    let at = reached_next 3 s _ _ _ (three g to.After-sync-2 (two g to.After-write-2 (one g to.After-sync))) c.sync-2.ensures.counted is none in
+    let at = reached_next 3 s _ _ _ (three g to.After-sync-2 (two g to.After-write-2 (one g to.After-sync))) c.sync-2.ensures.counts.counted is none in
     let done = stored g to.After-sync-2 safe (within g to.After-write-2 h) h closed in
     elim (c.sync-2.ensures.kept h (at.0 ∙ ap Some keep)) [
-      | inl rose ↦ inl (subst (λ (n : ℕ). Rose n (g.D.Disk.faults c.sync-2.new.disk)) (c.in_ok-write-2.ensures.smooth ∙ c.in_ok-sync.ensures.smooth ∙ c.in_ok-write.ensures.smooth) rose)
+      | inl rose ↦ inl (subst (λ (n : ℕ). Rose n (g.D.Disk.faults c.sync-2.new.disk)) (c.in_ok-write-2.ensures.counts.smooth ∙ c.in_ok-sync.ensures.counts.smooth ∙ c.in_ok-write.ensures.counts.smooth) rose)
       | inr alone ↦ inr (λ f on. along (g.D.Disk.seen c.args.disk.now) _ f _ (alone f on) done)
     ]
 
 pub returns-clause-kept : goal.returns-clause-kept
 returns-clause-kept g c h only closed s is none third keep =
     let to = goal.at.returns-clause-kept g c in
-    absurd (still_armed 4 s _ _ (passed_more 3 _ _ _ (three g to.After-sync-2 (two g to.After-write-2 (one g to.After-sync))) c.in_ok-sync-2.ensures.passed c.sync-2.ensures.counted) is none)
+    absurd (still_armed 4 s _ _ (passed_more 3 _ _ _ (three g to.After-sync-2 (two g to.After-write-2 (one g to.After-sync))) c.in_ok-sync-2.ensures.counts.passed c.sync-2.ensures.counts.counted) is none)

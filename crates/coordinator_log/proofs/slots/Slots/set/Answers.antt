@@ -4,15 +4,15 @@ use Rattle.std.proofs.lemmas.List.{map-set}
 use Rattle.dtx_values.specs.declared.record.LogRecord.{LogRecord}
 use Rattle.dtx_model.specs.Log.{CommitRecord, record_of}
 use Rattle.coordinator_log.specs.Slots.{with_closed}
-use Rattle.coordinator_log.proofs.Marks.{closed_kept, not_some, set_kept}
-use Rattle.coordinator_log.proofs.OpenRecords.{records_in}
+use Rattle.coordinator_log.proofs.Marks.{closed_kept, set_kept}
+use Rattle.coordinator_log.proofs.OpenRecords.{is_none_at, records_in}
 use Rattle.coordinator_log.proofs.slots.Slots.set.Goals as goal
 
 pub returns-then-len-k-clause-slots : goal.returns-then-len-k-clause-slots
 returns-then-len-k-clause-slots c =
     let kept = c.self.inside.records.items in
     let k = c.args.k in
-    let none : c.args.r ≡ None = not_some c.args.r (c.is_none.ensures ∙ ap not c.if-is_none.true) in
+    let none : c.args.r ≡ None = is_none_at c.args.r (ap not (c.is_none.ensures ∙ ap not c.if-is_none.true)) in
     let past : length kept ≤ k = omega (arith, c.len.ensures, c.self.inside.records.ok.0, c.if-len-k.true) in
     sym c.self.view_is ∙ ap records_in (closed_kept 1024 kept k past) ∙ map-set (option_map record_of) (with_closed 1024 kept) k None
     ∙ ap (λ (l : List (Option CommitRecord)). set l k None) c.self.view_is ∙ ap (λ (r : Option LogRecord). set c.args.self.now k (option_map record_of r)) (sym none)

@@ -1,12 +1,10 @@
-use Rattle.std.proofs.Common.{ap, arith, is_some, length, subst, sym, ◌∙◌}
-use Rattle.dtx_values.specs.Row.{fresh_row, number_of}
+use Rattle.std.proofs.Common.{ap, arith, is_some, subst, sym}
+use Rattle.dtx_values.specs.Row.{fresh_row}
 use Rattle.dtx_values.specs.Table.{marks}
 use Rattle.dtx_model.specs.declared.listener.Listener.{Listener}
-use Rattle.dtx_model.specs.Observed.{listener_number}
-use Rattle.dtx_model.proofs.Counts.{how_many-insert_by, length-insert_by}
 use Rattle.local_half.specs.Half.{Known}
-use Rattle.local_half.specs.Linked.{is_lost}
 use Rattle.local_half.specs.Taken.{HasPlace}
+use Rattle.local_half.proofs.Lost.{lost-more, one_each}
 use Rattle.local_half.proofs.Links.{links-row}
 use Rattle.local_half.proofs.Rows.{rows-more}
 use Rattle.local_half.proofs.Waiters.{row_beside}
@@ -19,17 +17,15 @@ invariant_of-self c =
     let e = c.args.e in
     let place = subst (λ (k : Known). HasPlace k.half e c.args.class) (sym c.self.view_is) c.requires in
     let capacity = c.insert_in_order.ensures.capacity in
-    let listeners = ap length c.insert_in_order.ensures.items ∙ length-insert_by listener_number _ i.listeners.items in
-    let rows = length-insert_by number_of (fresh_row e c.args.class (marks i.table)) i.table in
     rw c.in-Ok.ensures.added (
       omega (arith, capacity, b.0),
       b.1,
       b.2,
-      omega (arith, listeners, rows, b.3),
+      one_each c.listener.result i.listeners.items _ (fresh_row e c.args.class (marks i.table)) i.table c.insert_in_order.ensures.items b.3,
       rows-more i.limit i.handover.over i.table i.manager i.waits.items e c.args.class place.few place.few_last (λ p. place.alone) place.begun b.4,
       row_beside i.table i.waits.items e c.args.class place.unawaited b.5,
       links-row (is_some i.decided) i.table i.waits.items i.branches.items i.proxy e c.args.class b.6,
       b.7,
       b.8,
-      λ none. rw c.insert_in_order.ensures.items (how_many-insert_by is_lost listener_number c.listener.result i.listeners.items ∙ rw (ap (λ (l : Listener). l.lost) c.listener.ensures) (b.9 none)),
+      λ none. lost-more c.listener.result i.listeners.items _ (ap (λ (l : Listener). l.lost) c.listener.ensures) c.insert_in_order.ensures.items (b.9 none),
     )

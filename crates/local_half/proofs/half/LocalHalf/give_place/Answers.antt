@@ -1,14 +1,12 @@
-use Rattle.std.proofs.Common.{◌≡◌, Some, find, ap, arith, is_some, length, subst, sym, true, ◌∙◌}
-use Rattle.dtx_values.specs.Row.{fresh_row, number_of}
+use Rattle.std.proofs.Common.{◌≡◌, Some, find, ap, arith, is_some, subst, sym, true}
+use Rattle.dtx_values.specs.Row.{fresh_row}
 use Rattle.dtx_values.specs.Table.{marks}
 use Rattle.dtx_model.specs.declared.listener.Listener.{Listener}
 use Rattle.dtx_model.specs.declared.waiting.Wanted.TheVariants.{Place}
-use Rattle.dtx_model.specs.Observed.{listener_number}
 use Rattle.dtx_model.specs.Waiting.{is_place_of}
-use Rattle.dtx_model.proofs.Counts.{how_many-insert_by, length-insert_by}
 use Rattle.local_half.specs.Half.{Known}
-use Rattle.local_half.specs.Linked.{is_lost}
 use Rattle.local_half.specs.Waits.{without}
+use Rattle.local_half.proofs.Lost.{lost-more, one_each}
 use Rattle.local_half.proofs.Links.{links-placed}
 use Rattle.local_half.proofs.Rows.{rows-placed, taken}
 use Rattle.local_half.proofs.Waiters.{drop_waiter, place_found, row_beside, without_nothing}
@@ -36,17 +34,15 @@ invariant_of-self c =
     let waits = subst (λ (k : Known). find (is_place_of e.value) k.half.waits ≡ Some (n, Place w.1 w.0 c.args.class)) (sym c.self.view_is) w.2 in
     let found = place_found 0 i.table ws e.value n w.1 w.0 c.args.class b.5.rise b.5.once b.5.to_come waits in
     let promoted : i.handover.over ≡ true = subst (λ (k : Known). k.half.seen.promoted ≡ true) (sym c.self.view_is) c.requires.promoted in
-    let listeners = ap length c.insert_in_order.ensures.items ∙ length-insert_by listener_number _ i.listeners.items in
-    let rows = length-insert_by number_of (fresh_row e c.args.class (marks i.table)) i.table in
     rw (c.in-Ok.ensures.added, c.remove.ensures.items, c.remove.ensures.capacity) (
       omega (arith, c.insert_in_order.ensures.capacity, b.0),
       b.1,
       b.2,
-      omega (arith, listeners, rows, b.3),
+      one_each c.listener.result i.listeners.items _ (fresh_row e c.args.class (marks i.table)) i.table c.insert_in_order.ensures.items b.3,
       rows-placed i.limit i.handover.over i.table i.manager ws e n c.args.class promoted found b.4,
       row_beside i.table (without n ws) e c.args.class found.over (drop_waiter i.table ws n b.5),
       links-placed (is_some i.decided) i.table ws i.branches.items i.proxy e n c.args.class found b.6,
       b.7,
       λ none. without_nothing n ws (b.8 none),
-      λ none. rw c.insert_in_order.ensures.items (how_many-insert_by is_lost listener_number c.listener.result i.listeners.items ∙ rw (ap (λ (l : Listener). l.lost) c.listener.ensures) (b.9 none)),
+      λ none. lost-more c.listener.result i.listeners.items _ (ap (λ (l : Listener). l.lost) c.listener.ensures) c.insert_in_order.ensures.items (b.9 none),
     )

@@ -1,22 +1,19 @@
-use Rattle.std.proofs.Common.{◌≡◌, true, false, arith, subst, sym}
-use Rattle.dtx_values.specs.declared.entry.Answer.TheVariants.{Wait}
-use Rattle.dtx_model.specs.Answers.{has_promotion, local_answer}
+use Rattle.std.proofs.Common.{◌≡◌, false, arith, subst, sym}
+use Rattle.dtx_model.specs.Answers.{has_promotion}
 use Rattle.dtx_values.specs.Table.{insert_by}
 use Rattle.dtx_model.specs.Waiting.{waiter_line, wanted_by}
 use Rattle.dtx_model.proofs.Bools.{or_first}
-use Rattle.local_half.specs.Half.{Known, is_free}
+use Rattle.local_half.specs.Half.{Known}
 use Rattle.local_half.specs.Linked.{AreRows}
-use Rattle.local_half.proofs.Waiting.{waits_more}
+use Rattle.local_half.proofs.Waiting.{waits_seen}
 use Rattle.local_half.proofs.half.LocalHalf.wait_first.Goals as goal
 
 pub invariant_of-self : goal.invariant_of-self
 invariant_of-self c =
     let b = c.self.invariant in
     let i = c.self.inside in
-    let waits = subst (λ (k : Known). local_answer k.transaction.value k.half c.args.c.now 0 ≡ Wait) (sym c.self.view_is) c.requires.waits in
-    let new = subst (λ (k : Known). is_free k.half c.args.line c.args.c.now ≡ true) (sym c.self.view_is) c.requires.new in
     let unstarted = subst (λ (k : Known). has_promotion k.half.seen ≡ false) (sym c.self.view_is) c.requires.unstarted in
-    let more = waits_more _ _ c.args.line c.args.c.now c.requires.own waits new i.manager b.4 b.5 b.6 in
+    let more = waits_seen _ _ c.self.view_is c.args.line c.args.c.now c.requires.own c.requires.waits c.requires.new i.manager b.4 b.5 b.6 in
     let unpromoted : i.handover.over ≡ false = or_first i.handover.over _ unstarted in
     rw (c.start.ensures, c.add.ensures.items, c.wanted_by.ensures) (
       b.0,
