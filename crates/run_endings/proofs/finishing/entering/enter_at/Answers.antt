@@ -20,7 +20,7 @@ returns-clause-less g c =
     let states = c.args.states.now in
     let x = c.index-states-i.result in
     let y = c.enter.new.state in
-    let due = c.requires.next in
+    let due = c.requires in
     let less : i < length states = slice_get_within states i due.0 due.1 in
     let there : Some x ≡ Some due.0 = sym (slice_get_read states (length states) i x refl less c.index-states-i.is) ∙ due.1 in
     let same : due.0 ≡ x = cc in
@@ -39,7 +39,7 @@ returns-clause-others g c =
     let states = c.args.states.now in
     let x = c.index-states-i.result in
     let y = c.enter.new.state in
-    let due = c.requires.next in
+    let due = c.requires in
     let less : i < length states = slice_get_within states i due.0 due.1 in
     on_ok {P = HaveSameCalls (set states i y) c.follow_stop.new.states} {Q = (b : ActorNo) → b ≢ a → left_of b c.follow_stop.new.states c.enter.new.log ≡ left_of b states c.args.log.now} c.follow_stop.result
     (λ calls b other.
@@ -52,7 +52,7 @@ returns-clause-others g c =
 
 pub returns-in_err-enter-clause-differs : goal.returns-in_err-enter-clause-differs
 returns-in_err-enter-clause-differs g c = λ differs.
-    let due = c.requires.next in
+    let due = c.requires in
     untied_at c.args.states.now c.args.i c.enter.new.state c.enter.new.log c.in_err-enter.field-0.0 c.from_residual.result (slice_get_within c.args.states.now c.args.i due.0 due.1) c.in_err-enter.ensures.cause c.from_residual.ensures.1 differs
 
 pub returns-in_err-enter-clause-numbers : goal.returns-in_err-enter-clause-numbers

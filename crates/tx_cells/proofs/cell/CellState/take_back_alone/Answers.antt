@@ -1,4 +1,4 @@
-use Rattle.std.proofs.Common.{◌<◌, true, subst, sym, ◌∙◌}
+use Rattle.std.proofs.Common.{◌<◌, true, rules, subst, sym, ◌∙◌}
 use Rattle.dtx_model.specs.Steps.{Replies}
 use Rattle.world_laws.specs.Left.{steps_left}
 use Rattle.tx_world.specs.OwnCalls.{DoesAlone}
@@ -29,17 +29,18 @@ invariant_of-self-2 g c =
           (does.world ∙ turned_silent x.transaction.value x.world (Replies c.args.e c.args.r)),
     )
 
-pub returns-clause-done : goal.returns-clause-done
-returns-clause-done g c = λ yes.
-    let due = owed c.self.inside.world.world (c.args.e, c.args.n) (sym c.is_due.ensures ∙ c.if-not-is_due.false) in
-    let does = c.reply_alone.ensures.done (reply_done c.self.inside.world.world c.args.e c.args.n c.in_ok-reply_alone.field-0 c.reply_alone.result due c.in_ok-reply_alone.was c.in_ok-reply_alone.ensures.due) in
-    subst (λ (z : Cell). DoesAlone (Replies c.args.e c.args.r) z.tx c.reply_alone.new.self) c.self.view_is does
-
-pub returns-clause-nearer : goal.returns-clause-nearer
-returns-clause-nearer g c = λ yes.
+pub returns-clause-taken : goal.returns-clause-taken
+returns-clause-taken g c =
     let x = c.self.inside.world in
     let is_here = sym c.is_due.ensures ∙ c.if-not-is_due.false in
     let due = owed x.world (c.args.e, c.args.n) is_here in
     let does = c.reply_alone.ensures.done (reply_done x.world c.args.e c.args.n c.in_ok-reply_alone.field-0 c.reply_alone.result due c.in_ok-reply_alone.was c.in_ok-reply_alone.ensures.due) in
-    subst (λ (z : Cell). steps_left c.reply_alone.new.self.world < steps_left z.tx.world) c.self.view_is
-    (reply_nearer true x c.reply_alone.new.self c.args.e c.args.n c.args.r c.is_own_run.ensures.run is_here c.requires.right.fitting (does.world ∙ turned_silent x.transaction.value x.world (Replies c.args.e c.args.r)))
+    record {
+      due = search rules;
+      done = λ yes. subst (λ (z : Cell). DoesAlone (Replies c.args.e c.args.r) z.tx c.reply_alone.new.self) c.self.view_is does;
+      nearer = λ yes.
+          subst (λ (z : Cell). steps_left c.reply_alone.new.self.world < steps_left z.tx.world) c.self.view_is
+          (reply_nearer true x c.reply_alone.new.self c.args.e c.args.n c.args.r c.is_own_run.ensures.run is_here c.requires.right.fitting (does.world ∙ turned_silent x.transaction.value x.world (Replies c.args.e c.args.r)));
+      late = search rules;
+      unmarked = search rules;
+    }
