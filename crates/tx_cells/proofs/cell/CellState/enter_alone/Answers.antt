@@ -3,8 +3,9 @@ use Rattle.dtx_model.specs.Steps.{Calls}
 use Rattle.tx_world.specs.OwnCalls.{DoesAlone}
 use Rattle.tx_cells.proofs.Entered.{IsBefore, enters_here, may_be_answered, may_be_entered, needs_no_log, still_kept}
 use Rattle.tx_cells.proofs.Kept.{turned_silent}
+use Rattle.tx_cells.proofs.cell.CellState.enter_alone.Given.{Over}
 use Rattle.tx_cells.proofs.cell.CellState.enter_alone.Goals as goal
-use Rattle.tx_cells.proofs.cell.CellState.enter_alone.Goals.{In-Ok, Over}
+use Rattle.tx_cells.proofs.cell.CellState.enter_alone.Goals.{In-Ok}
 
 -- What the cell was when the call was found that is due.
 before : (g : Over) (c : In-Ok g) → IsBefore g.N.Run.script g.N.Run.objects g.N.Run.honest c.self.inside.world c.self.inside.rows c.self.inside.out.items c.args.self.now c.args.a c.args.line c.in-Ok.call

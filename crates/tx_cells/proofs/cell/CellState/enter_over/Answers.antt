@@ -3,8 +3,9 @@ use Rattle.tx_world.specs.State.{TxState}
 use Rattle.tx_world.specs.Stepping.{Does}
 use Rattle.dtx_model.specs.Steps.{Step}
 use Rattle.tx_cells.proofs.Entered.{IsBefore, enters_here, may_be_entered, may_be_answered, still_kept}
+use Rattle.tx_cells.proofs.cell.CellState.enter_over.Given.{Over}
 use Rattle.tx_cells.proofs.cell.CellState.enter_over.Goals as goal
-use Rattle.tx_cells.proofs.cell.CellState.enter_over.Goals.{In-Ok, Over}
+use Rattle.tx_cells.proofs.cell.CellState.enter_over.Goals.{In-Ok}
 
 -- What the cell was when the call was found that is due.
 before : (g : Over) (c : In-Ok g) → IsBefore g.N.Run.script g.N.Run.objects g.N.Run.honest c.self.inside.world c.self.inside.rows c.self.inside.out.items c.args.self.now c.args.a c.args.line c.in-Ok.call
