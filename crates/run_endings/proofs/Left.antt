@@ -15,8 +15,9 @@ use Rattle.script_calls.specs.SeenRow.{SeenRow}
 use Rattle.tx_cells.specs.Cell.{Cell}
 use Rattle.tx_cells.specs.Entering.{next_of}
 use Rattle.tx_cells.specs.LogAnswers.{put_off_at_log}
+use Rattle.tx_cells.specs.LogCell.{LogCell}
 use Rattle.tx_cells.specs.declared.turns.Turned.TheVariants.{NotNext}
-use Rattle.run_endings.specs.Finishing.{HaveSameCalls, IsDueAt, left_among, left_in}
+use Rattle.run_endings.specs.Finishing.{HaveSameCalls, IsDueAt, left_among, left_in, left_of}
 
 -- a row with no next call has none left,
 pub none_left_in : {C : Type 0} (r : SeenRow C) → next_in r ≡ None → left_in r ≡ 0
@@ -124,6 +125,13 @@ same_left a (x ∷ xs) (y ∷ ys) e =
     let same : f y ≡ f x = ap (λ rs. left_in (row_at a rs)) here in
     let more = same_left a xs ys rest in
     sum_by-cons f y ys ∙ (ap (λ n. n + left_among a ys) same ∙ (ap (λ n. f x + n) more ∙ sym (sum_by-cons f x xs)))
+
+-- and at the log too
+pub same_left_of : {D : Type 0} (a : ActorNo) (old new : List Cell) (from to : LogCell D) → HaveSameCalls old new → to.rows ≡ from.rows → left_of a new to ≡ left_of a old from
+same_left_of a old new from to calls rows =
+    let cells = same_left a old new calls in
+    let at_log : left_in (row_at a to.rows) ≡ left_in (row_at a from.rows) = ap (λ (rs : List (SeenRow LogCall)). left_in (row_at a rs)) rows in
+    omega (arith, cells, at_log)
 
 -- a test of what is kept of each item
 each_map : {A B : Type 0} (f : A → B) (p : B → Bool) (xs : List A) → each (λ x. p (f x)) xs ≡ each p (map f xs)

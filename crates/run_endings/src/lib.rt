@@ -2,7 +2,9 @@
 #![tactic(auto)]
 
 mod finishing;
+mod objects;
 mod stop;
 
 pub use finishing::finish;
+pub use objects::Objects;
 pub use stop::RunStop;

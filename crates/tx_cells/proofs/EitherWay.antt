@@ -1,7 +1,10 @@
 -- What was done with the log, and what was done without it, was done at a log in some state.
 use Rattle.std.proofs.Common.{ℕ, true, ap, sym, ◌∙◌, if◌then◌else◌}
-use Rattle.std.specs.Prelude.{Result, Ok, Err, IfOk}
+use Rattle.std.specs.Prelude.{Bool, Result, Ok, Err, IfOk}
+use Rattle.dtx_values.specs.declared.note.Note.{Note}
+use Rattle.dtx_values.specs.declared.note.Reply.{Reply}
 use Rattle.dtx_values.specs.declared.number.ActorNo.{ActorNo}
+use Rattle.dtx_values.specs.declared.number.EnlNo.{EnlNo}
 use Rattle.dtx_model.specs.Steps.{Step}
 use Rattle.coordinator_log.specs.State.{LogState}
 use Rattle.tx_world.specs.State.{TxState}
@@ -9,6 +12,8 @@ use Rattle.tx_world.specs.OwnCalls.{DoesAlone, DoesKthAlone}
 use Rattle.tx_world.specs.Stepping.{Does, DoesKth}
 use Rattle.tx_cells.specs.Cell.{Cell}
 use Rattle.tx_cells.specs.Entering.{Enters, IsDone, IsKthDone}
+use Rattle.tx_cells.specs.TakingBack.{TakesBack}
+use Rattle.tx_cells.specs.declared.error.TurnError.{TurnError}
 use Rattle.tx_cells.specs.declared.turns.Turned.{Turned}
 use Rattle.tx_cells.proofs.Kept.{turned_silent}
 
@@ -42,3 +47,12 @@ kth_alone k x y d = record { name = d.name; step = d.step; stands = d.stands; na
 
 pub kth_over : {D : Type 0} (faults : D → ℕ) (from to : LogState D) (k : ℕ) (x y : TxState) → DoesKth faults k x from y to → IsKthDone k x y
 kth_over faults from to k x y d = record { name = d.name; step = d.step; stands = d.stands; named = d.named; planned = d.planned; done = done_over faults from to d.step x y d.done }
+
+more_taken : (P Q : Step → TxState → TxState → Type 0) → ((m : Step) (x y : TxState) → P m x y → Q m x y) → (e : EnlNo) (n : Note) (r : Reply) (result : Result Bool TurnError) (old new : Cell) → TakesBack P e n r result old new → TakesBack Q e n r result old new
+more_taken P Q f e n r result old new t = record { due = t.due; done = λ yes. f _ old.tx new.tx (t.done yes); nearer = t.nearer; late = t.late; unmarked = t.unmarked }
+
+pub taken_alone : (e : EnlNo) (n : Note) (r : Reply) (result : Result Bool TurnError) (old new : Cell) → TakesBack DoesAlone e n r result old new → TakesBack IsDone e n r result old new
+taken_alone e n r result old new t = more_taken DoesAlone IsDone done_alone e n r result old new t
+
+pub taken_over : {D : Type 0} (faults : D → ℕ) (log : LogState D) (e : EnlNo) (n : Note) (r : Reply) (result : Result Bool TurnError) (old new : Cell) → TakesBack (λ m x y. Does faults m x log y log) e n r result old new → TakesBack IsDone e n r result old new
+taken_over faults log e n r result old new t = more_taken (λ (m : Step) (x y : TxState). Does faults m x log y log) IsDone (done_over faults log log) e n r result old new t

@@ -2,9 +2,11 @@ pub mod Board
 pub mod Cell
 pub mod Entering
 pub mod Following
+pub mod Fresh
 pub mod LogAnswers
 pub mod LogCell
 pub mod LogEntering
 pub mod Places
+pub mod TakingBack
 pub mod Ties
 pub mod Turns

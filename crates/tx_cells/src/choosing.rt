@@ -1,16 +1,17 @@
 //! The calls of a transaction's state that may be lent the log's.
 ghost use Rattle.std.specs.Prelude.{◌≡◌, ◌⊎◌, ◌<◌, IfErr, IfNone, IfOk, MatchOption, None, Ok, Some, false, true};
 ghost use Rattle.dtx_values.specs.declared.note.Note.{Note};
-ghost use Rattle.dtx_model.specs.Steps.{Replies, pending};
+ghost use Rattle.dtx_model.specs.Steps.{pending};
 ghost use Rattle.dtx_model.specs.Words.{kth};
 ghost use Rattle.tx_cells.specs.Cell.{MayReply};
 ghost use Rattle.tx_cells.specs.Entering.{Enters, IsDone, IsKthDone, may_promote_at, next_of, put_off};
+ghost use Rattle.tx_cells.specs.TakingBack.{TakesBack};
 ghost use Rattle.tx_cells.specs.Ties.{IsCause};
-ghost use Rattle.tx_cells.specs.Turns.{unmarked, with_tx};
+ghost use Rattle.tx_cells.specs.Turns.{with_tx};
 ghost use Rattle.tx_cells.specs.declared.turns.Turned.{Turned};
 ghost use Rattle.tx_world.specs.Stepping.{needs_log};
 ghost use Rattle.world_laws.specs.Left.{steps_left};
-ghost use Rattle.turn_parts.specs.Marks.{is_due, same_note};
+ghost use Rattle.turn_parts.specs.Marks.{same_note};
 
 use crate::cell::CellState;
 use crate::error::TurnError;
@@ -20,7 +21,7 @@ use crate::turns::Turned;
 use dtx_values::{ActorNo, EnlNo, Note, Reply};
 use outside::Disk;
 
-#[tactic(auto, using(crate::proofs::EitherWay::done_alone, crate::proofs::EitherWay::done_over, crate::proofs::EitherWay::enters_alone, crate::proofs::EitherWay::enters_over, crate::proofs::EitherWay::kth_alone, crate::proofs::EitherWay::kth_over))]
+#[tactic(auto, using(crate::proofs::EitherWay::enters_alone, crate::proofs::EitherWay::enters_over, crate::proofs::EitherWay::kth_alone, crate::proofs::EitherWay::kth_over, crate::proofs::EitherWay::taken_alone, crate::proofs::EitherWay::taken_over))]
 impl<N: Run> CellState<N> {
     /// Enters the actor's next call here, where it is of this line. Where it isn't, or waits, nothing is done. The log is lent where the line is a durable or a marshal.
     ///
@@ -83,11 +84,7 @@ impl<N: Run> CellState<N> {
     ) -> Result<bool, TurnError>
         requires right { MayReply N.script N.objects e n r }
         requires lent { IfNone log (same_note n Note.Promote ≡ false) }
-        ensures due { IfOk result (λ b. b ≡ is_due self.old.tx.world (e, n)) }
-        ensures done { result ≡ Ok true → IsDone (Replies e r) self.old.tx self.new.tx }
-        ensures nearer { result ≡ Ok true → steps_left self.new.tx.world < steps_left self.old.tx.world }
-        ensures unmarked { self.new ≡ with_tx self.new.tx (unmarked (e, n) self.old) }
-        ensures late { result ≡ Ok false → self.new.tx ≡ self.old.tx }
+        ensures taken { TakesBack IsDone e n r result self.old self.new }
         ensures cause { IfErr result (λ x. (self.new.tx ≡ self.old.tx) × MatchOption log.entry (x ≡ TurnError.Memory) (λ l. IsCause self.old.tx l.now.log x)) }
     {
         match log {

@@ -1,16 +1,16 @@
 //! The calls of a transaction's state that are lent the log's.
 ghost use Rattle.std.specs.Prelude.{◌≡◌, ◌⊎◌, ◌<◌, None, Ok, Some, IfErr, IfOk, false, true};
-ghost use Rattle.dtx_model.specs.Steps.{Replies, pending};
+ghost use Rattle.dtx_model.specs.Steps.{pending};
 ghost use Rattle.dtx_model.specs.Words.{kth};
 ghost use Rattle.tx_cells.specs.Cell.{MayReply};
 ghost use Rattle.tx_cells.specs.Entering.{Enters, next_of, put_off};
+ghost use Rattle.tx_cells.specs.TakingBack.{TakesBack};
 ghost use Rattle.tx_cells.specs.Ties.{IsCause, TiesWith};
-ghost use Rattle.tx_cells.specs.Turns.{unmarked, with_tx};
+ghost use Rattle.tx_cells.specs.Turns.{with_tx};
 ghost use Rattle.tx_cells.specs.declared.turns.Turned.{Turned};
 ghost use Rattle.tx_world.specs.Leaves.{IsLater};
 ghost use Rattle.tx_world.specs.Stepping.{Does, DoesKth};
 ghost use Rattle.world_laws.specs.Left.{steps_left};
-ghost use Rattle.turn_parts.specs.Marks.{is_due};
 ghost use Rattle.turn_parts.specs.Reopening.{stop_noted};
 
 use crate::cell::CellState;
@@ -79,11 +79,7 @@ impl<N: Run> CellState<N> {
     ) -> Result<bool, TurnError>
         requires right { MayReply N.script N.objects e n r }
         ensures tied { IfOk result (λ b. TiesWith self.old.tx log.now.log) }
-        ensures due { IfOk result (λ b. b ≡ is_due self.old.tx.world (e, n)) }
-        ensures done { result ≡ Ok true → Does D.faults (Replies e r) self.old.tx log.now.log self.new.tx log.now.log }
-        ensures nearer { result ≡ Ok true → steps_left self.new.tx.world < steps_left self.old.tx.world }
-        ensures unmarked { self.new ≡ with_tx self.new.tx (unmarked (e, n) self.old) }
-        ensures late { result ≡ Ok false → self.new.tx ≡ self.old.tx }
+        ensures taken { TakesBack (λ m x y. Does D.faults m x log.now.log y log.now.log) e n r result self.old self.new }
         ensures cause { IfErr result (λ x. IsCause self.old.tx log.now.log x × (self.new.tx ≡ self.old.tx)) }
     {
         self.take_back_over(log.log(), e, n, r)

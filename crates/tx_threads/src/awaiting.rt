@@ -11,6 +11,7 @@ ghost use Rattle.tx_threads.specs.Turning.{is_await_at, is_of_line, is_quiet};
 ghost use Rattle.tx_world.specs.OwnCalls.{DoesAlone};
 
 use crate::holds::{is_of, tell};
+use crate::shared::SharedRun;
 use crate::turning::{begin_turn, end_turn};
 use dtx_values::{ActorNo, Call, Resource, TxNo};
 use outside::{Disk, Gate};
@@ -91,6 +92,12 @@ pub fn await_as<D: Disk, G: Gate, N: Run, R: Wait>(
     ensures known { (o : Outcome) → result ≡ Ok (Turned.Did (Answer.OutcomeIs o)) → (x : Post) × (note.new.known ≡ Some x) }
     ensures kept { (x : Post) → note.old.known ≡ Some x → note.new.known ≡ Some x }
 {
+    let run = SharedRun {
+        cells,
+        log,
+        gate,
+        resources,
+    };
     let cell = cells.cell(t);
     let _ = cell.peek(note);
     for _ in rt.forever() {
@@ -102,7 +109,7 @@ pub fn await_as<D: Disk, G: Gate, N: Run, R: Wait>(
         }
         let came = begin_turn(rt, alloc, cell, log, note, &mut state)?;
         drop(state);
-        if !end_turn(rt, alloc, cells, cell, log, gate, resources, came)? {
+        if !end_turn(rt, alloc, &run, cell, came)? {
             thread::yield_now();
         }
     }

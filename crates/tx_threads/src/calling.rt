@@ -10,6 +10,7 @@ ghost use Rattle.tx_threads.specs.Turning.{MayFail, is_answer_to, is_moved, is_o
 
 use crate::hearing::go_round;
 use crate::holds::{Came, is_of, tell};
+use crate::shared::SharedRun;
 use crate::turning::{begin_turn, end_turn};
 use dtx_values::{ActorNo, Answer, Entry, Resource, TxNo};
 use entry_lists::Entries;
@@ -66,15 +67,10 @@ fn is_answered(history: &Entries, line: u32) -> bool
 fn wait_for_answer<D: Disk, G: Gate, N: Run, R: Wait>(
     rt: &R,
     alloc: Global,
-    cells: &Cells<N>,
+    run: &SharedRun<D, G, N>,
     cell: &TxCell<N>,
-    log: &SharedLog<D, N>,
-    gate: &G,
-    resources: &[Mutex<Box<dyn Resource + Send>>],
     line: u32,
-) -> Result<(), TurnError>
-    requires { length resources.now ≡ N.objects }
-{
+) -> Result<(), TurnError> {
     for _ in rt.forever() {
         let mut state = cell.state().lock(rt);
         is_of(&state, cell.t())?;
@@ -82,9 +78,9 @@ fn wait_for_answer<D: Disk, G: Gate, N: Run, R: Wait>(
             return Ok(());
         }
         let mut note = cell.note();
-        let came = begin_turn(rt, alloc, cell, log, &mut note, &mut state)?;
+        let came = begin_turn(rt, alloc, cell, run.log, &mut note, &mut state)?;
         drop(state);
-        if !end_turn(rt, alloc, cells, cell, log, gate, resources, came)? {
+        if !end_turn(rt, alloc, run, cell, came)? {
             thread::yield_now();
         }
     }
@@ -118,7 +114,13 @@ pub fn call_as<D: Disk, G: Gate, N: Run, R: Wait>(
     tell(alloc, cell, &state, &mut cell.note())?;
     drop(state);
     if let Turned::Did(Answer::Wait) = turned {
-        wait_for_answer(rt, alloc, cells, cell, log, gate, resources, line)?;
+        let run = SharedRun {
+            cells,
+            log,
+            gate,
+            resources,
+        };
+        wait_for_answer(rt, alloc, &run, cell, line)?;
     }
     Ok(turned)
 }

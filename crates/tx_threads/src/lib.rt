@@ -6,6 +6,7 @@ mod calling;
 mod hearing;
 mod holds;
 mod replying;
+mod shared;
 mod turning;
 
 pub use awaiting::await_as;

@@ -1,42 +1,43 @@
 //! A reply that is asked for while no lock is held, and brought back.
-ghost use Rattle.std.specs.Prelude.{◌≡◌, ◌≢◌, ◌⊎◌, ℕ, IfErr, IfOk, IfSome, None, Ok, Some, false, length, true};
+ghost use Rattle.std.specs.Prelude.{◌≡◌, ◌≢◌, ◌⊎◌, ℕ, IfErr, IfOk, IfSome, None, Ok, Some, false, true};
 ghost use Rattle.dtx_model.specs.Steps.{Replies, pending};
 ghost use Rattle.dtx_model.specs.Words.{kth};
 ghost use Rattle.tx_cells.specs.Cell.{MayReply};
 ghost use Rattle.tx_cells.specs.Entering.{IsDone, IsKthDone};
+ghost use Rattle.tx_cells.specs.TakingBack.{TakesBack};
 ghost use Rattle.tx_cells.specs.Turns.{is_due, is_that, unmarked, with_tx};
 ghost use Rattle.tx_threads.specs.Turning.{MayFail};
 ghost use Rattle.tx_world.specs.Stepping.{reply_in};
 
 use crate::hearing::go_round;
 use crate::holds::{Came, do_turn, is_of, tell};
-use dtx_values::{EnlNo, Note, Reply, Resource, TxNo};
+use crate::shared::SharedRun;
+use dtx_values::{EnlNo, Note, Reply, TxNo};
 use outside::{Disk, Gate};
 use script_calls::fits;
 use std::alloc::Global;
-use std::sync::{Mutex, Wait};
-use tx_cells::{CellState, Cells, Run, SharedLog, TurnError, TxCell};
+use std::sync::Wait;
+use tx_cells::{CellState, Run, SharedLog, TurnError, TxCell};
 
 /// What the object of the enlistment's manager replies to the note, while no other lock is held. `None` is the planned reply: there is no object, or it says nothing that fits the note.
-fn ask<N: Run, R: Wait>(
+fn ask<D: Disk, G: Gate, N: Run, R: Wait>(
     rt: &R,
-    cells: &Cells<N>,
-    resources: &[Mutex<Box<dyn Resource + Send>>],
+    run: &SharedRun<D, G, N>,
     t: TxNo,
     e: EnlNo,
     n: Note,
 ) -> Option<Reply>
-    requires { length resources.now ≡ N.objects }
     ensures { IfSome result (λ r. MayReply N.script N.objects e n r) }
 {
-    let rm = cells.manager(e)?;
-    let object = resources.get(rm.index())?;
+    let rm = run.cells.manager(e)?;
+    let object = run.resources.get(rm.index())?;
     let mut held = object.lock(rt);
     let r = held.on(t, e, n)?;
     if fits(r, n) { Some(r) } else { None }
 }
 
 /// Takes back this reply of the enlistment to the note, inside the lock of its transaction. False where it isn't pending any more, and then only the mark goes. A reply to Promote takes the lock of the log for as long.
+#[tactic(auto, using(tx_cells::proofs::EitherWay::taken_alone, tx_cells::proofs::EitherWay::taken_over))]
 fn take_given<D: Disk, N: Run, R: Wait>(
     rt: &R,
     state: &mut CellState<N>,
@@ -46,10 +47,7 @@ fn take_given<D: Disk, N: Run, R: Wait>(
     r: Reply,
 ) -> Result<bool, TurnError>
     requires { MayReply N.script N.objects e n r }
-    ensures due { IfOk result (λ b. b ≡ is_due state.old.tx.world (e, n)) }
-    ensures done { result ≡ Ok true → IsDone (Replies e r) state.old.tx state.new.tx }
-    ensures late { result ≡ Ok false → state.new.tx ≡ state.old.tx }
-    ensures unmarked { state.new ≡ with_tx state.new.tx (unmarked (e, n) state.old) }
+    ensures taken { TakesBack IsDone e n r result state.old state.new }
     ensures cause { IfErr result (λ x. MayFail D state.old.tx x × (state.new.tx ≡ state.old.tx)) }
 {
     if n != Note::Promote {
@@ -92,26 +90,21 @@ fn take_reply<D: Disk, N: Run, R: Wait>(
 pub(crate) fn bring_back<D: Disk, G: Gate, N: Run, R: Wait>(
     rt: &R,
     alloc: Global,
-    cells: &Cells<N>,
+    run: &SharedRun<D, G, N>,
     cell: &TxCell<N>,
-    log: &SharedLog<D, N>,
-    gate: &G,
-    resources: &[Mutex<Box<dyn Resource + Send>>],
     e: EnlNo,
     n: Note,
-) -> Result<(), TurnError>
-    requires { length resources.now ≡ N.objects }
-{
+) -> Result<(), TurnError> {
     let t = cell.t();
-    let reply = ask(rt, cells, resources, t, e, n);
-    gate.at(t.get() as u16, e.get() as u16);
+    let reply = ask(rt, run, t, e, n);
+    run.gate.at(t.get() as u16, e.get() as u16);
     let mut state = cell.state().lock(rt);
     is_of(&state, t)?;
-    let came = take_reply(rt, &mut state, log, e, n, reply)?;
+    let came = take_reply(rt, &mut state, run.log, e, n, reply)?;
     tell(alloc, cell, &state, &mut cell.note())?;
     drop(state);
     if came == Came::Stopped {
-        go_round(rt, alloc, cells, log)?;
+        go_round(rt, alloc, run.cells, run.log)?;
     }
     Ok(())
 }

@@ -10,6 +10,7 @@ ghost use Rattle.tx_threads.specs.Turning.{HasStepped, MayFail, is_turned, marke
 use crate::hearing::go_round;
 use crate::holds::{Came, do_turn, is_of, tell};
 use crate::replying::bring_back;
+use crate::shared::SharedRun;
 use dtx_values::{EnlNo, Note, Resource, TxNo};
 use outside::{Disk, Gate};
 use std::alloc::Global;
@@ -68,21 +69,17 @@ pub(crate) fn begin_turn<D: Disk, N: Run, R: Wait>(
 pub(crate) fn end_turn<D: Disk, G: Gate, N: Run, R: Wait>(
     rt: &R,
     alloc: Global,
-    cells: &Cells<N>,
+    run: &SharedRun<D, G, N>,
     cell: &TxCell<N>,
-    log: &SharedLog<D, N>,
-    gate: &G,
-    resources: &[Mutex<Box<dyn Resource + Send>>],
     came: Came,
 ) -> Result<bool, TurnError>
-    requires { length resources.now ≡ N.objects }
     ensures { IfOk result (λ b. b ≡ is_turned came) }
 {
     match came {
         Came::Nothing => return Ok(false),
         Came::Done => {}
-        Came::Stopped => go_round(rt, alloc, cells, log)?,
-        Came::Out(e, n) => bring_back(rt, alloc, cells, cell, log, gate, resources, e, n)?,
+        Came::Stopped => go_round(rt, alloc, run.cells, run.log)?,
+        Came::Out(e, n) => bring_back(rt, alloc, run, cell, e, n)?,
     }
     Ok(true)
 }
@@ -111,5 +108,11 @@ pub fn help_one<D: Disk, G: Gate, N: Run, R: Wait>(
     let mut note = cell.note();
     let came = begin_turn(rt, alloc, cell, log, &mut note, &mut state)?;
     drop(state);
-    end_turn(rt, alloc, cells, cell, log, gate, resources, came)
+    let run = SharedRun {
+        cells,
+        log,
+        gate,
+        resources,
+    };
+    end_turn(rt, alloc, &run, cell, came)
 }

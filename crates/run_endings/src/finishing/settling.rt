@@ -1,49 +1,24 @@
 //! Settling the transactions, as a replay does.
-ghost use Rattle.std.specs.Prelude.{◌≡◌, ◌<◌, [], Err, IfErr, IfSome, IsTrue, Ok, OnOk, false, length, true};
+ghost use Rattle.std.specs.Prelude.{◌≡◌, ◌<◌, [], Err, IfErr, IsTrue, Ok, OnOk, false, true};
 ghost use Rattle.dtx_model.specs.Outcome.{is_empty};
 ghost use Rattle.dtx_model.specs.Steps.{pending};
 ghost use Rattle.dtx_model.specs.Words.{each};
-ghost use Rattle.script_calls.specs.Managers.{AreManagers};
 ghost use Rattle.run_endings.specs.Finishing.{HaveSameCalls, HaveSameNumbers};
 ghost use Rattle.run_endings.specs.Stops.{HasUntied, IsReason};
-ghost use Rattle.tx_cells.specs.Cell.{MayReply};
 ghost use Rattle.world_laws.specs.Left.{steps_left};
 
 use super::following::follow_stop;
+use crate::objects::Objects;
 use crate::stop::RunStop;
-use dtx_values::{EnlNo, Note, Reply, Resource, RmNo, TxNo};
 use outside::Disk;
-use script_calls::fits;
 use tx_cells::{CellState, LogState, Run, TurnError};
-
-/// What the object of the enlistment's manager replies to the note. `None` is the planned reply: there is no object, or it says nothing that fits the note.
-fn ask<N: Run>(
-    managers: &[Option<RmNo>],
-    resources: &mut [Box<dyn Resource + Send>],
-    t: TxNo,
-    e: EnlNo,
-    n: Note,
-) -> Option<Reply>
-    requires objects { length resources.old ≡ N.objects }
-    requires managers { AreManagers N.script N.script managers.now }
-    ensures reply { IfSome result (λ r. MayReply N.script N.objects e n r) }
-    ensures objects { length resources.new ≡ length resources.old }
-{
-    let rm = (*managers.get(e.index())?)?;
-    let object = resources.get_mut(rm.index())?;
-    let r = object.on(t, e, n)?;
-    if fits(r, n) { Some(r) } else { None }
-}
 
 /// Does the first pending step of the transaction; false where none is pending. Where it is a reply, the object of the enlistment's manager is asked for it first.
 fn step<D: Disk, N: Run>(
-    managers: &[Option<RmNo>],
-    resources: &mut [Box<dyn Resource + Send>],
+    objects: &mut Objects<N>,
     state: &mut CellState<N>,
     log: &mut LogState<D, N>,
 ) -> Result<bool, TurnError>
-    requires objects { length resources.old ≡ N.objects }
-    requires managers { AreManagers N.script N.script managers.now }
     ensures none { result ≡ Ok false → (pending state.old.tx.world ≡ []) × (state.new ≡ state.old) }
     ensures nearer { result ≡ Ok true → steps_left state.new.tx.world < steps_left state.old.tx.world }
     ensures rows { OnOk result (state.new.rows ≡ state.old.rows) }
@@ -51,13 +26,12 @@ fn step<D: Disk, N: Run>(
     ensures still { OnOk result (IsTrue log.new.log.is_up → IsTrue log.old.log.is_up) }
     ensures cause { IfErr result (λ e. IsReason state.old.tx log.old.log e × (state.new.tx ≡ state.old.tx) × (log.new ≡ log.old)) }
     ensures transaction { state.new.tx.transaction ≡ state.old.tx.transaction }
-    ensures objects { length resources.new ≡ length resources.old }
 {
     let Some((e, n)) = state.due_at(1) else {
         return state.do_step_with(log, 1);
     };
     let t = state.t();
-    match ask::<N>(managers, resources, t, e, n) {
+    match ask::<N>(objects, t, e, n) {
         Some(r) => state.take_back_with(log, e, n, r),
         None => state.do_step_with(log, 1),
     }
@@ -65,23 +39,19 @@ fn step<D: Disk, N: Run>(
 
 /// Does the pending steps of the transaction, each time the first, until none is left.
 pub(super) fn settle<D: Disk, N: Run>(
-    managers: &[Option<RmNo>],
-    resources: &mut [Box<dyn Resource + Send>],
+    objects: &mut Objects<N>,
     state: &mut CellState<N>,
     log: &mut LogState<D, N>,
 ) -> Result<(), TurnError>
-    requires objects { length resources.old ≡ N.objects }
-    requires managers { AreManagers N.script N.script managers.now }
     ensures settled { OnOk result (pending state.new.tx.world ≡ []) }
     ensures rows { OnOk result (state.new.rows ≡ state.old.rows) }
     ensures log_rows { OnOk result (log.new.rows ≡ log.old.rows) }
     ensures still { OnOk result (IsTrue log.new.log.is_up → IsTrue log.old.log.is_up) }
     ensures cause { IfErr result (IsReason state.new.tx log.new.log) }
     ensures transaction { state.new.tx.transaction ≡ state.old.tx.transaction }
-    ensures objects { length resources.new ≡ length resources.old }
 {
     loop {
-        if !step(managers, resources, state, log)? {
+        if !step(objects, state, log)? {
             return Ok(());
         }
     }
@@ -89,24 +59,20 @@ pub(super) fn settle<D: Disk, N: Run>(
 
 /// Settles the transactions in turn. Where a step of one stopped the log, each of them hears of that. As long as the log isn't stopped, no step of one makes another's pending: so then one round leaves nothing.
 fn settle_round<D: Disk, N: Run>(
-    managers: &[Option<RmNo>],
-    resources: &mut [Box<dyn Resource + Send>],
+    objects: &mut Objects<N>,
     states: &mut [CellState<N>],
     log: &mut LogState<D, N>,
 ) -> Result<(), RunStop>
-    requires objects { length resources.old ≡ N.objects }
-    requires managers { AreManagers N.script N.script managers.now }
     ensures settled { OnOk result (log.new.log.is_up ≡ log.old.log.is_up → each (λ c. is_empty (pending c.tx.world)) states.new ≡ true) }
     ensures calls { OnOk result (HaveSameCalls states.old states.new) }
     ensures numbers { HaveSameNumbers states.old states.new }
     ensures log_rows { OnOk result (log.new.rows ≡ log.old.rows) }
     ensures still { OnOk result (IsTrue log.new.log.is_up → IsTrue log.old.log.is_up) }
     ensures differs { result ≡ Err RunStop.Differs → HasUntied states.new log.new }
-    ensures objects { length resources.new ≡ length resources.old }
 {
     for i in 0..states.len() {
         let was_up = log.is_up();
-        settle(managers, resources, &mut states[i], log)?;
+        settle(objects, &mut states[i], log)?;
         follow_stop(states, log, was_up)?;
     }
     Ok(())
@@ -114,24 +80,20 @@ fn settle_round<D: Disk, N: Run>(
 
 /// Settles all transactions, round after round. A stop of the log in a round may leave something to do in those before; once it is stopped, it stops no more.
 pub(super) fn settle_all<D: Disk, N: Run>(
-    managers: &[Option<RmNo>],
-    resources: &mut [Box<dyn Resource + Send>],
+    objects: &mut Objects<N>,
     states: &mut [CellState<N>],
     log: &mut LogState<D, N>,
 ) -> Result<(), RunStop>
-    requires objects { length resources.old ≡ N.objects }
-    requires managers { AreManagers N.script N.script managers.now }
     ensures settled { OnOk result (each (λ c. is_empty (pending c.tx.world)) states.new ≡ true) }
     ensures calls { OnOk result (HaveSameCalls states.old states.new) }
     ensures numbers { HaveSameNumbers states.old states.new }
     ensures log_rows { OnOk result (log.new.rows ≡ log.old.rows) }
     ensures differs { result ≡ Err RunStop.Differs → HasUntied states.new log.new }
-    ensures objects { length resources.new ≡ length resources.old }
 {
     let was_up = log.is_up();
-    settle_round(managers, resources, states, log)?;
+    settle_round(objects, states, log)?;
     if log.is_up() == was_up {
         return Ok(());
     }
-    settle_round(managers, resources, states, log)
+    settle_round(objects, states, log)
 }

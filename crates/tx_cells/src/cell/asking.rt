@@ -1,15 +1,15 @@
 //! What is to be done next, and replies that are out.
-ghost use Rattle.std.specs.Prelude.{◌≡◌, ◌<◌, ◌&&◌, ◌++◌, ◌∷◌, [], Ok, IfErr, IfOk, IfSome, OnOk, is_some, length, true, false};
+ghost use Rattle.std.specs.Prelude.{◌≡◌, ◌&&◌, ◌++◌, ◌∷◌, [], IfErr, IfOk, IfSome, OnOk, is_some, length, true, false};
 ghost use Rattle.dtx_values.specs.declared.note.Note.{Note};
 ghost use Rattle.dtx_model.specs.Outcome.{is_empty};
-ghost use Rattle.dtx_model.specs.Steps.{Replies, pending};
+ghost use Rattle.dtx_model.specs.Steps.{pending};
 ghost use Rattle.dtx_model.specs.Words.{kth};
 ghost use Rattle.tx_cells.specs.Cell.{MayReply};
+ghost use Rattle.tx_cells.specs.TakingBack.{TakesBack};
 ghost use Rattle.tx_cells.specs.Ties.{IsCause, TiesWith};
-ghost use Rattle.tx_cells.specs.Turns.{turn_of, unmarked, with_tx};
+ghost use Rattle.tx_cells.specs.Turns.{turn_of, unmarked};
 ghost use Rattle.tx_world.specs.OwnCalls.{DoesAlone};
 ghost use Rattle.tx_world.specs.Stepping.{Does, reply_in};
-ghost use Rattle.world_laws.specs.Left.{steps_left};
 ghost use Rattle.turn_parts.specs.Marks.{is_due, is_out, is_that, same_note};
 
 use super::CellState;
@@ -92,11 +92,7 @@ impl<N: Run> CellState<N> {
     pub fn take_back_alone(&mut self, e: EnlNo, n: Note, r: Reply) -> Result<bool, TurnError>
         requires right { MayReply N.script N.objects e n r }
         requires alone { same_note n Note.Promote ≡ false }
-        ensures due { IfOk result (λ b. b ≡ is_due self.old.tx.world (e, n)) }
-        ensures done { result ≡ Ok true → DoesAlone (Replies e r) self.old.tx self.new.tx }
-        ensures nearer { result ≡ Ok true → steps_left self.new.tx.world < steps_left self.old.tx.world }
-        ensures unmarked { self.new ≡ with_tx self.new.tx (unmarked (e, n) self.old) }
-        ensures late { result ≡ Ok false → self.new.tx ≡ self.old.tx }
+        ensures taken { TakesBack DoesAlone e n r result self.old self.new }
         ensures ours { (self.new.tx.ours ≡ self.old.tx.ours) × (self.new.tx.unsure ≡ self.old.tx.unsure) }
         ensures memory { IfErr result (λ x. (x ≡ TurnError.Memory) × (self.new.tx ≡ self.old.tx)) }
     {
@@ -123,11 +119,7 @@ impl<N: Run> CellState<N> {
     ) -> Result<bool, TurnError>
         requires right { MayReply N.script N.objects e n r }
         ensures tied { IfOk result (λ b. TiesWith self.old.tx log.now) }
-        ensures due { IfOk result (λ b. b ≡ is_due self.old.tx.world (e, n)) }
-        ensures done { result ≡ Ok true → Does D.faults (Replies e r) self.old.tx log.now self.new.tx log.now }
-        ensures nearer { result ≡ Ok true → steps_left self.new.tx.world < steps_left self.old.tx.world }
-        ensures unmarked { self.new ≡ with_tx self.new.tx (unmarked (e, n) self.old) }
-        ensures late { result ≡ Ok false → self.new.tx ≡ self.old.tx }
+        ensures taken { TakesBack (λ m x y. Does D.faults m x log.now y log.now) e n r result self.old self.new }
         ensures ours { (self.new.tx.ours ≡ self.old.tx.ours) × (self.new.tx.unsure ≡ self.old.tx.unsure) }
         ensures cause { IfErr result (λ x. IsCause self.old.tx log.now x × (self.new.tx ≡ self.old.tx)) }
     {

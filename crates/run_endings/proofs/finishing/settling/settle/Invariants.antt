@@ -1,4 +1,4 @@
-use Rattle.std.proofs.Common.{◌≡◌, IsTrue, length}
+use Rattle.std.proofs.Common.{◌≡◌, IsTrue}
 use Rattle.world_laws.specs.Left.{steps_left}
 use Rattle.run_endings.proofs.finishing.settling.settle.Given as goal
 
@@ -8,7 +8,6 @@ invariant-loop g l = record {
   transaction : l.state.tx.transaction ≡ l.initial.state.tx.transaction;
   log_rows : l.log.rows ≡ l.initial.log.rows;
   still : IsTrue l.log.log.is_up → IsTrue l.initial.log.log.is_up;
-  objects : length l.resources ≡ length l.initial.resources;
 }
 
 abbrev pub decreases-loop : goal.decreases-loop

@@ -26,7 +26,6 @@ loop-i-preserved g c =
       numbers = c.follow_stop.ensures.numbers ∙ (map-set_same (λ (z : Cell). z.tx.transaction) c.loop-i.states i y x c.settle.ensures.transaction ∙ was.numbers);
       log_rows = did.log_rows ∙ was.log_rows;
       still = λ up. was.still (did.still up);
-      objects = c.settle.ensures.objects ∙ was.objects;
     }
 
 pub returns-in_err-settle-clause-differs : goal.returns-in_err-settle-clause-differs

@@ -1,4 +1,4 @@
-use Rattle.std.proofs.Common.{◌≡◌, IsTrue, true, length, take}
+use Rattle.std.proofs.Common.{◌≡◌, IsTrue, true, take}
 use Rattle.dtx_model.specs.Outcome.{is_empty}
 use Rattle.dtx_model.specs.Steps.{pending}
 use Rattle.dtx_model.specs.Words.{each}
@@ -12,5 +12,4 @@ invariant-loop-i g l = record {
   numbers : HaveSameNumbers l.initial.states l.states;
   log_rows : l.log.rows ≡ l.initial.log.rows;
   still : IsTrue l.log.log.is_up → IsTrue l.initial.log.log.is_up;
-  objects : length l.resources ≡ length l.initial.resources;
 }
