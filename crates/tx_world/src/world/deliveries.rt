@@ -12,12 +12,7 @@ use dtx_values::{Conn, Dir, Outbox};
 
 impl TxWorld {
     /// Delivers what comes next in a direction of a connection; false exactly where nothing is left.
-    pub(super) fn deliver(
-        &mut self,
-        out: &mut Outbox,
-        c: Conn,
-        d: Dir,
-    ) -> Result<bool, WorldError>
+    pub(super) fn deliver(&mut self, out: &mut Outbox, c: Conn, d: Dir) -> Result<bool, WorldError>
         ensures left { IfOk result (λ b. b ≡ has_left c d self.old.world.past) }
         ensures done { result ≡ Ok true → DoesAlone (Delivers c d) self.old self.new }
         ensures named { NamesPrepared self.old → NamesPrepared self.new }

@@ -84,10 +84,10 @@ returns-in-Err-StoppedNow-clause-leaves g c =
     let stopped = c.append.ensures.stopped_now broken in
     left_now g.D.Disk.honest g.D.Disk.image c.args.core.now.transaction.value c.args.core.now.state c.args.self.now c.args.log.now c.stop.new.core.state (Some (record_of c.args.kept)) c.self.inside.life c.append.new.self c.stop.ensures.state c.requires.own (λ some. refl)
     (λ honest.
-        let up = was_up c.args.log.now.is_up (λ d. broken_refused c.append.result broken (c.append.ensures.stopped.1 (inl d))) in
-        keeps_stopped g.D.Disk.image id (lowest_closed c.args.log.now.slots) (record_of c.args.kept) c.args.self.now.ours c.args.self.now.unsure c.args.log.now c.append.new.self c.requires.own
-        (none_found id c.args.self.now.ours c.args.self.now.unsure (open_records c.args.log.now.slots) none.0 none.1 (c.requires.fits honest up)) stopped.1 (λ u. never_both c.append.new.self.is_up u stopped.0)
-        (c.append.ensures.images honest up).images)
+    let up = was_up c.args.log.now.is_up (λ d. broken_refused c.append.result broken (c.append.ensures.stopped.1 (inl d))) in
+    keeps_stopped g.D.Disk.image id (lowest_closed c.args.log.now.slots) (record_of c.args.kept) c.args.self.now.ours c.args.self.now.unsure c.args.log.now c.append.new.self c.requires.own
+    (none_found id c.args.self.now.ours c.args.self.now.unsure (open_records c.args.log.now.slots) none.0 none.1 (c.requires.fits honest up)) stopped.1 (λ u. never_both c.append.new.self.is_up u stopped.0)
+    (c.append.ensures.images honest up).images)
     stopped.1 stopped.0 (λ was some. ap (λ (r : CommitRecord). Some r) c.requires.written)
 
 pub returns-in-Err-Stopped-clause-leaves : goal.returns-in-Err-Stopped-clause-leaves

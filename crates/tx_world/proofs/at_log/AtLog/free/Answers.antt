@@ -79,8 +79,8 @@ returns-in-Ok-clause-leaves g c =
     let records = records_of id c.args.id (open_records c.free.new.self.slots) (open_records from.slots) c.requires.own c.in-Ok.ensures.records in
     left_freed g.D.Disk.honest g.D.Disk.image c.args.core.now.transaction.value c.args.core.now.state c.args.self.now c.args.log.now c.freed.new.core.state c.freed.new.self c.free.new.self c.requires.finished c.requires.ours c.freed.ensures.state c.freed.ensures.kept
     (λ honest.
-        let up = was_up from.is_up (λ d. none_refused c.free.result c.in-Ok.field-0 c.in-Ok.is (c.free.ensures.stopped.1 (inl d))) in
-        keeps_freed g.D.Disk.image id c.args.self.now.ours c.args.self.now.unsure c.args.self.now.unsure from c.free.new.self (c.requires.fits honest up) records (c.in-Ok.ensures.durable honest))
+    let up = was_up from.is_up (λ d. none_refused c.free.result c.in-Ok.field-0 c.in-Ok.is (c.free.ensures.stopped.1 (inl d))) in
+    keeps_freed g.D.Disk.image id c.args.self.now.ours c.args.self.now.unsure c.args.self.now.unsure from c.free.new.self (c.requires.fits honest up) records (c.in-Ok.ensures.durable honest))
     (slots_freed id c.args.self.now.ours from c.free.new.self records)
 
 pub returns-in-Err-NoSuch-clause-leaves : goal.returns-in-Err-NoSuch-clause-leaves
@@ -109,11 +109,11 @@ returns-in-Err-StoppedNow-clause-leaves g c =
     left_now g.D.Disk.honest g.D.Disk.image c.args.core.now.transaction.value c.args.core.now.state c.args.self.now c.args.log.now c.stop.new.core.state (option_map record_of c.self.inside.ours) c.self.inside.life c.free.new.self c.stop.ensures.state (subst N (sym c.self.view_is) c.requires.ours.named)
     (λ some. ap (λ (x : Kept). is_some x.ours) c.self.view_is ∙ some)
     (λ honest.
-        let up = was_up from.is_up (λ d. broken_refused c.free.result broken (c.free.ensures.stopped.1 (inl d))) in
-        let sure = (one_kept id c.args.core.now.state c.args.self.now c.requires.finished c.requires.ours).1 in
-        subst R (sym c.self.view_is) (keeps_unfreed g.D.Disk.image id c.args.self.now.ours c.args.self.now.unsure from c.free.new.self sure (c.requires.fits honest up)
-        stopped.1 (λ u. never_both c.free.new.self.is_up u stopped.0)
-        (images_of id c.args.id (g.D.Disk.image c.free.new.self.disk) (open_records from.slots) c.requires.own (c.free.ensures.images honest up).images)))
+    let up = was_up from.is_up (λ d. broken_refused c.free.result broken (c.free.ensures.stopped.1 (inl d))) in
+    let sure = (one_kept id c.args.core.now.state c.args.self.now c.requires.finished c.requires.ours).1 in
+    subst R (sym c.self.view_is) (keeps_unfreed g.D.Disk.image id c.args.self.now.ours c.args.self.now.unsure from c.free.new.self sure (c.requires.fits honest up)
+    stopped.1 (λ u. never_both c.free.new.self.is_up u stopped.0)
+    (images_of id c.args.id (g.D.Disk.image c.free.new.self.disk) (open_records from.slots) c.requires.own (c.free.ensures.images honest up).images)))
     stopped.1 stopped.0 (λ was. subst Q (sym c.self.view_is) was)
 
 pub returns-in-Err-Stopped-clause-leaves : goal.returns-in-Err-Stopped-clause-leaves
