@@ -9,12 +9,11 @@ use Rattle.dtx_values.specs.declared.script.Line.{Line}
 use Rattle.dtx_model.specs.Words.{kth}
 use Rattle.dtx_model.specs.Outcome.{is_empty}
 use Rattle.dtx_model.specs.World.{World, answer_at, half}
-use Rattle.dtx_model.specs.Steps.{Step, StepName, Calls, pending}
-use Rattle.dtx_model.specs.Caused.{IsNamed}
+use Rattle.dtx_model.specs.Steps.{Step, Calls, pending}
 use Rattle.script_calls.specs.declared.rows.Due.{Due}
 use Rattle.script_calls.specs.Rows.{further, next_in, row_at}
 use Rattle.tx_world.specs.State.{TxState}
-use Rattle.tx_world.specs.Stepping.{DoesAt, IsToPlan}
+use Rattle.tx_world.specs.Stepping.{DoesAt, DoesPending}
 use Rattle.tx_cells.specs.Cell.{Cell}
 use Rattle.tx_cells.specs.declared.turns.Turned.{Turned}
 use Rattle.tx_cells.specs.declared.turns.Turned.TheVariants.{Did, NotNext, Later}
@@ -66,11 +65,6 @@ pub record Enters (does : Step → TxState → TxState → Type 0) (a : ActorNo)
 abbrev pub IsDone : Step → TxState → TxState → Type 0
 IsDone m old new = (up : Bool) × (life : ℕ) × DoesAt up life m old new
 
--- the k-th pending step was done, at a log in some state; a reply is the planned one
-pub record IsKthDone (k : ℕ) (old new : TxState) : Type 0 where
-  pub name : StepName
-  pub step : Step
-  pub stands : kth (pending old.world) k ≡ Some name
-  pub named : IsNamed old.world name step
-  pub planned : IsToPlan old.world step
-  pub done : IsDone step old new
+-- the k-th pending step was done, at a log in some state
+abbrev pub IsKthDone : ℕ → TxState → TxState → Type 0
+IsKthDone k old new = DoesPending (λ m. IsDone m old new) k old.world

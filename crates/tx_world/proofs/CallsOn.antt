@@ -1,5 +1,5 @@
 -- A call that writes its entry alone, in a world that holds.
-use Rattle.std.proofs.Common.{◌≡◌, ℕ, true, false, List, [], ◌∷◌, Result, Ok, Err, IfOk, refl, ap, sym, ◌∙◌}
+use Rattle.std.proofs.Common.{◌≡◌, ℕ, true, false, List, [], ◌∷◌, refl, ap, sym, ◌∙◌}
 use Rattle.dtx_values.specs.declared.call.Call.{Call}
 use Rattle.dtx_values.specs.declared.call.Call.TheVariants.{Await, Do}
 use Rattle.dtx_values.specs.declared.entry.Answer.{Answer}
@@ -56,8 +56,3 @@ await_is t w h k c u m x kept same is =
 pub did_is : (t : TxNo) (w : World) (h : Known) (k : CoreKept) (c : Call) (u : TxNo) (i j m : ℕ) (x : Answer) → Kept t w h k → c ≡ Do u i j → x ≡ if_begun h.half.seen.limit (Did m) → x ≡ answer_at t.value w c m
 unfolding answer_at local_answer
 did_is t w h k c u i j m x kept same is = is ∙ ap (λ (g : Half). if_begun g.seen.limit (Did m)) (half_is t w h k kept) ∙ ap (λ d. answer_at t.value w d m) (sym same)
-
--- an answer that is another
-pub is_answered : {E : Type 0} (r : Result Answer E) (x y : Answer) → IfOk r (λ a. a ≡ x) → x ≡ y → IfOk r (λ a. a ≡ y)
-is_answered (Ok a) x y i e = i ∙ e
-is_answered (Err e) x y i s = tt

@@ -184,18 +184,18 @@ far_stopped k (x ∷ es) f = far_stopped (follow k x) es (and_right (is_far x) (
     one (Sent c Down m) f = refl
     one _ f = absurd (cc)
 
--- A delivery upward is ready to be written: the coordinator took it, and this is what follows of it.
-pub record ReadyUp (t : TxNo) (w : World) (c : Conn) (h : Known) (j : CoreKept) (n xs : List Entry) : Type 0 where
-  pub kept : Kept t (after t.value w (Delivers c Up)) h j
-  pub past : onto n xs ≡ onto w.past (block_at t.value w (Delivers c Up))
+-- What came on a connection was heard: the side to which it goes took it, and what follows of it is ready to be written.
+pub record Heard (t : TxNo) (w : World) (c : Conn) (d : Dir) (h : Known) (j : CoreKept) (n xs : List Entry) : Type 0 where
+  pub kept : Kept t (after t.value w (Delivers c d)) h j
+  pub past : onto n xs ≡ onto w.past (block_at t.value w (Delivers c d))
   pub written : each is_written xs ≡ true
   pub sendable : are_sendable (onto n xs) ≡ true
   pub stopped : j.state.stopped ≡ is_stopped n
-  pub silent : sends_begin t.value w (Delivers c Up) ≡ false
+  pub silent : sends_begin t.value w (Delivers c d) ≡ false
 
 pub up_ready : (t : TxNo) (w : World) (h : Known) (k j : CoreKept) (c : Conn) (x : Delivered) (o p : Outgoing) (n xs : List Entry) → Kept t w h k → has_left c Up w.past ≡ true → Came c Up x w.past n
     → j.transaction ≡ k.transaction → j.state ≡ follow_all k.state (noted c Up x ++ rest_up (identifier_of k.transaction.value) k.state c x)
-    → xs ≡ p.entries → p ≡ put_out o (rest_up (identifier_of k.transaction.value) k.state c x) → o ≡ blank → ReadyUp t w c h j n xs
+    → xs ≡ p.entries → p ≡ put_out o (rest_up (identifier_of k.transaction.value) k.state c x) → o ≡ blank → Heard t w c Up h j n xs
 up_ready t w h k j c x o p n xs kept left came same state value wrote clear =
     let rest = rest_up (identifier_of t.value) (core w) c x in
     let is_rest : rest_up (identifier_of k.transaction.value) k.state c x ≡ rest =

@@ -74,7 +74,7 @@ leaves_beside {D} {honest} {image} {faults} old new l fits there same named =
     let H : ℕ → Option CommitRecord → Type 0 = λ id o. HasKept id o l in
     record {
       kept = λ is. fits_there (λ (f : List CommitRecord → Type 0). Keeps image (id_of old) (Fits old) f l l) old new there same
-      (record { fits = fits is; imaged = λ i. i; logs = λ i. i; others = refl; others_imaged = λ c i. inl i });
+          (record { fits = fits is; imaged = λ i. i; logs = λ i. i; others = refl; others_imaged = λ c i. inl i });
       slots = record { others = refl; had = λ h. subst (λ (t : TxNo). H (identifier_of t.value) new.ours) (sym there) (subst (H (id_of old)) (sym same.0) h) };
       named = named;
       later = later_same faults l;

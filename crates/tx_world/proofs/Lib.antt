@@ -20,6 +20,7 @@ pub mod Linking
 pub mod Leaving
 pub mod Managing
 pub mod FreedRecords
+pub mod ActLeaves
 pub mod AtTheLog
 pub mod CallsOn
 pub mod Settling

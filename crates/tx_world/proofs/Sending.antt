@@ -1,5 +1,5 @@
 -- A step of the local side that can't begin a promotion sends nothing, where none began.
-use Rattle.std.proofs.Common.{◌≡◌, ◌≤◌, ℕ, Bool, true, false, ◌||◌, not, List, [], ◌∷◌, is_some, refl, ap, sym, subst, ◌∙◌, arith}
+use Rattle.std.proofs.Common.{◌≡◌, ◌≤◌, ◌+◌, ℕ, length, Bool, true, false, ◌||◌, not, List, [], ◌∷◌, is_some, refl, ap, sym, subst, ◌∙◌, arith}
 use Rattle.dtx_values.specs.declared.call.Call.{Call}
 use Rattle.dtx_values.specs.declared.entry.Ask.TheVariants.{Promote, Single as AskSingle}
 use Rattle.dtx_values.specs.declared.entry.Entry.{Entry}
@@ -22,8 +22,9 @@ use Rattle.dtx_model.proofs.Unpromoted.{is_local}
 use Rattle.dtx_model.proofs.Writes.{ByAct, ByCall, ByReply, Each, IsClosed, Source, begins, e_one, each_closed, writes}
 use Rattle.local_half.specs.Half.{Follows, Known}
 use Rattle.coordinator_core.specs.Kept.{Kept as CoreKept}
+use Rattle.world_laws.specs.Course.{Course}
 use Rattle.tx_world.specs.Kept.{Kept}
-use Rattle.tx_world.specs.Sending.{is_sent, may_promote}
+use Rattle.tx_world.specs.Sending.{MayWrite, is_sent, may_promote}
 use Rattle.tx_world.proofs.Entering.{has_none}
 use Rattle.tx_world.proofs.Onward.{half_is}
 use Rattle.tx_world.proofs.Written.{Ready}
@@ -116,3 +117,17 @@ room_where_sent false sent n room none has_room s = absurd (not_both sent s (non
 pub room_where_few : (made : Bool) (n few many room : ℕ) → (made ≡ false → n ≤ few) → n ≤ many → (made ≡ true → many ≤ room) → few ≤ room → n ≤ room
 room_where_few true n few many room is_few is_many has_many has_few = omega (arith, has_many refl)
 room_where_few false n few many room is_few is_many has_many has_few = omega (arith, is_few refl)
+
+-- So the block of a step of the local side may be written, where room was made for what it sends unless it sends nothing, and is short.
+pub may_write_near : {t : TxNo} {w : World} {m : Step} {g : Known} {k : CoreKept} {xs : List Entry} (made : Bool) (h : Course) → Ready t w m g k h.past xs → length xs ≤ 64
+    → (made ≡ false → (has is_sent xs ≡ false) × (length xs ≤ 4)) → (made ≡ true → 66 ≤ h.room) × (6 ≤ h.room) → (made ≡ true → (64 ≤ h.start_room) × (64 ≤ h.send_room)) → MayWrite h xs k
+may_write_near {xs = xs} made h r few short room sends = record {
+  written = r.written;
+  sendable = r.sendable;
+  stopped = r.stopped;
+  runs = r.runs;
+  few = few;
+  room = room_where_few made (length xs + 1) 5 65 h.room (λ n. let four = (short n).1 in omega arith) (omega arith) (λ s. let many = room.0 s in omega arith) (let six = room.1 in omega arith);
+  starts = room_where_sent made (has is_sent xs) 64 h.start_room (λ n. (short n).0) (λ s. (sends s).0);
+  sends = room_where_sent made (has is_sent xs) 64 h.send_room (λ n. (short n).0) (λ s. (sends s).1);
+}

@@ -2,7 +2,7 @@
 use Rattle.std.proofs.Common.{◌≡◌, ◌∙◌, true, false, List, ap, refl, sym}
 use Rattle.dtx_values.specs.declared.entry.Entry.{Entry}
 use Rattle.dtx_values.specs.declared.message.Conn.{Conn}
-use Rattle.dtx_values.specs.declared.message.Dir.TheVariants.{Up}
+use Rattle.dtx_values.specs.declared.message.Dir.{Dir}
 use Rattle.dtx_values.specs.declared.number.TxNo.{TxNo}
 use Rattle.dtx_model.specs.declared.waiting.EnteredCall.{EnteredCall}
 use Rattle.dtx_model.specs.Words.{onto}
@@ -15,7 +15,7 @@ use Rattle.tx_world.specs.Kept.{Kept, Whole}
 use Rattle.tx_world.specs.OwnCalls.{DoesAlone}
 use Rattle.tx_world.specs.Prepared.{NamesPrepared}
 use Rattle.tx_world.specs.State.{TxState, sends_begin}
-use Rattle.tx_world.proofs.Delivering.{ReadyUp}
+use Rattle.tx_world.proofs.Delivering.{Heard}
 use Rattle.tx_world.proofs.Linking.{Linked}
 use Rattle.tx_world.proofs.Living.{seen_as, whole_on}
 use Rattle.tx_world.proofs.Naming.{named_alone}
@@ -45,9 +45,9 @@ pub ready_written : {t : TxNo} {w : World} {m : Step} {g : Known} {k : CoreKept}
     → false ≡ sends_begin t.value w m → ks ≡ entered m w.calls → n ≡ onto h xs → IsWritten t w m g k ks n
 ready_written r apart silent calls past = record { kept = r.kept; apart = apart; silent = silent; calls = calls; past = past ∙ r.past }
 
--- and what came to the coordinator, with what it makes of it
-pub up_written : {t : TxNo} {w : World} {c : Conn} {g : Known} {j : CoreKept} {p xs : List Entry} {n : List Entry} → ReadyUp t w c g j p xs → n ≡ onto p xs → IsWritten t w (Delivers c Up) g j w.calls n
-up_written r past = record { kept = r.kept; apart = refl; silent = sym r.silent; calls = refl; past = past ∙ r.past }
+-- and what came on a connection, with what the side that heard it makes of it
+pub heard_written : {t : TxNo} {w : World} {c : Conn} {d : Dir} {g : Known} {j : CoreKept} {p xs : List Entry} {n : List Entry} → Heard t w c d g j p xs → n ≡ onto p xs → IsWritten t w (Delivers c d) g j w.calls n
+heard_written r past = record { kept = r.kept; apart = refl; silent = sym r.silent; calls = refl; past = past ∙ r.past }
 
 -- Then its world holds,
 pub written_whole : {t : TxNo} {w : World} {m : Step} {f g : Known} {k j : CoreKept} {x : LogKept} {ks : List EnteredCall} {n : List Entry} → IsWritten t w m g j ks n → Whole t w f k x

@@ -13,12 +13,11 @@ use Rattle.dtx_values.specs.declared.words.Status.{Status}
 use Rattle.dtx_values.specs.declared.words.Status.TheVariants.{Active, Committed as IsCommitted, Aborted as IsAborted, InDoubt as IsInDoubt}
 use Rattle.dtx_model.specs.Words.{kth}
 use Rattle.dtx_model.specs.World.{answer_at}
-use Rattle.dtx_model.specs.Steps.{Step, StepName, Calls, after, pending}
-use Rattle.dtx_model.specs.Caused.{IsNamed}
+use Rattle.dtx_model.specs.Steps.{Step, Calls, after, pending}
 use Rattle.coordinator_log.specs.State.{LogState}
 use Rattle.local_half.specs.Half.{fits_due}
 use Rattle.tx_world.specs.State.{TxState, sends_begin}
-use Rattle.tx_world.specs.Stepping.{Does, IsKeptAfter, IsToPlan, is_to_promote, Settles, Stepped}
+use Rattle.tx_world.specs.Stepping.{Does, DoesPending, IsKeptAfter, is_to_promote, Settles, Stepped}
 
 -- the status of a transaction that was decided so, or wasn't decided
 abbrev pub status_of : Option Outcome → Status
@@ -63,14 +62,9 @@ pub record DoesAlone (m : Step) (old new : TxState) : Type 0 where
 abbrev pub may_reply_alone : Reply → Option Note → Bool
 may_reply_alone r o = fits_due r o && not (is_to_promote o)
 
--- The k-th pending step was done, whatever the log was; a reply is the planned one.
-pub record DoesKthAlone (k : ℕ) (old new : TxState) : Type 0 where
-  pub name : StepName
-  pub step : Step
-  pub stands : kth (pending old.world) k ≡ Some name
-  pub named : IsNamed old.world name step
-  pub planned : IsToPlan old.world step
-  pub done : DoesAlone step old new
+-- the k-th pending step was done, whatever the log was
+abbrev pub DoesKthAlone : ℕ → TxState → TxState → Type 0
+DoesKthAlone k old new = DoesPending (λ m. DoesAlone m old new) k old.world
 
 -- The k-th pending step was done m times: at most n times, and fewer only where fewer than k are pending now.
 pub record Repeats {D : Type 0} (faults : D → ℕ) (k n m : ℕ) (old : TxState) (from : LogState D) (new : TxState) (to : LogState D) : Type 0 where

@@ -61,14 +61,18 @@ pub record Does {D : Type 0} (faults : D → ℕ) (m : Step) (old : TxState) (fr
   pub answered : IsAnswered faults old from to m
   pub kept : IsKeptAfter old new m
 
--- the k-th pending step was done; a reply is the planned one
-pub record DoesKth {D : Type 0} (faults : D → ℕ) (k : ℕ) (old : TxState) (from : LogState D) (new : TxState) (to : LogState D) : Type 0 where
+-- the k-th step that is pending in a world was done so; a reply is the planned one
+pub record DoesPending (does : Step → Type 0) (k : ℕ) (w : World) : Type 0 where
   pub name : StepName
   pub step : Step
-  pub stands : kth (pending old.world) k ≡ Some name
-  pub named : IsNamed old.world name step
-  pub planned : IsToPlan old.world step
-  pub done : Does faults step old from new to
+  pub stands : kth (pending w) k ≡ Some name
+  pub named : IsNamed w name step
+  pub planned : IsToPlan w step
+  pub done : does step
+
+-- the k-th pending step was done, while the log went from one state to the other
+abbrev pub DoesKth : {D : Type 0} → (D → ℕ) → ℕ → TxState → LogState D → TxState → LogState D → Type 0
+DoesKth faults k old from new to = DoesPending (λ m. Does faults m old from new to) k old.world
 
 -- so many steps were done, each the k-th that was pending
 abbrev pub Stepped : {D : Type 0} → (D → ℕ) → ℕ → ℕ → TxState → LogState D → TxState → LogState D → Type 0

@@ -1,12 +1,9 @@
 //! What a step of the local side makes of the rest of its world.
-ghost use Rattle.std.specs.Prelude.{◌≡◌, ◌≤◌, ◌+◌, ◌&&◌, not, true, false, length, if◌then◌else◌};
-ghost use Rattle.dtx_model.specs.Words.{each, has, onto};
-ghost use Rattle.dtx_model.specs.Wires.{is_stopped};
+ghost use Rattle.std.specs.Prelude.{◌≡◌, ◌≤◌, ◌+◌, ◌&&◌, not, true, false, if◌then◌else◌};
+ghost use Rattle.dtx_model.specs.Words.{has, onto};
 ghost use Rattle.dtx_model.specs.Caused.{is_begin_sent};
-ghost use Rattle.world_laws.specs.Carried.{are_sendable};
-ghost use Rattle.world_laws.specs.Course.{is_written};
 ghost use Rattle.tx_world.specs.Kept.{stop_if, stopped_if};
-ghost use Rattle.tx_world.specs.Sending.{is_sent};
+ghost use Rattle.tx_world.specs.Sending.{MayWrite};
 
 use crate::at_log::AtLog;
 use crate::history::History;
@@ -56,14 +53,7 @@ pub(crate) fn stop_if(history: &mut History, core: &mut Core, stops: bool)
 
 /// Writes the block of a step of the local side, and says whether it sends BEGIN. Where it does while the log is stopped, as `up` says, the coordinator stops at once.
 pub(crate) fn write_near(history: &mut History, core: &mut Core, block: &[Entry], up: bool) -> bool
-    requires written { each is_written block.now ≡ true }
-    requires sendable { are_sendable (onto history.old.past block.now) ≡ true }
-    requires stopped { core.old.state.stopped ≡ is_stopped history.old.past }
-    requires runs { has is_begin_sent block.now ≡ true → core.old.state.stopped ≡ false }
-    requires few { length block.now ≤ 64 }
-    requires room { length block.now + 1 ≤ history.old.room }
-    requires starts { has is_sent block.now ≡ true → 64 ≤ history.old.start_room }
-    requires sends { has is_sent block.now ≡ true → 64 ≤ history.old.send_room }
+    requires { MayWrite history.old block.now core.old }
     ensures begins { result ≡ has is_begin_sent block.now }
     ensures past { history.new.past ≡ stop_if (has is_begin_sent block.now && not up) (onto history.old.past block.now) }
     ensures core { core.new ≡ stopped_if (has is_begin_sent block.now && not up) core.old }

@@ -14,7 +14,7 @@ use super::TxWorld;
 use crate::pending::{At, PendingStep, act_at, core_at, deliveries_at, replies_at};
 use crate::refusal::WorldError;
 use coordinator_log::Log;
-use dtx_values::{Dir, EnlNo, Note, Outbox};
+use dtx_values::{EnlNo, Note, Outbox};
 use outside::Disk;
 
 /// More steps than are ever pending: 48 replies, both acts, and two deliveries on each of 34 connections.
@@ -98,8 +98,7 @@ impl TxWorld {
     {
         match s {
             PendingStep::Act => self.act(out),
-            PendingStep::Deliver(c, Dir::Up) => self.deliver_up(out, c),
-            PendingStep::Deliver(c, Dir::Down) => self.deliver_down(out, c),
+            PendingStep::Deliver(c, d) => self.deliver(out, c, d),
             PendingStep::Reply(_, _, _) | PendingStep::Coordinate => unreachable!(),
         }
     }

@@ -1,5 +1,5 @@
 use Rattle.std.proofs.Common.{Some, true}
-use Rattle.dtx_model.specs.Log.{record_of}
+use Rattle.dtx_model.specs.Log.{CommitRecord, record_of}
 use Rattle.dtx_model.specs.Promotes.{identifier_of}
 use Rattle.coordinator_log.specs.Slots.{open_records}
 use Rattle.tx_world.specs.AtLog.{Acts, IsOurs}
@@ -12,11 +12,12 @@ use Rattle.coordinator_log.specs.declared.refusal.LogRefusal.{LogRefusal}
 use Rattle.coordinator_log.specs.declared.refusal.LogRefusal.TheVariants.{Full as HasNone, Stopped as Refused}
 use Rattle.tx_world.specs.AtLog.{Kept}
 use Rattle.coordinator_log.specs.Slots.{lowest_closed}
+use Rattle.tx_world.proofs.ActLeaves.{left_before, left_now, left_same}
 use Rattle.tx_world.proofs.Answering.{acts_before, acts_now, appending, broken_refused, full_unbroken, kept_tried, may_append, never_both, none_refused, refused_unbroken, unchanged_by, was_up}
-use Rattle.tx_world.proofs.Fitting.{keeps_appended, keeps_same, keeps_stopped, none_found, slots_appended, slots_same, slots_stopped}
-use Rattle.tx_world.proofs.Keeping.{none_kept, ours_full, ours_logged, ours_stopped, runs_then}
+use Rattle.tx_world.proofs.Fitting.{keeps_appended, keeps_stopped, none_found, slots_appended}
+use Rattle.tx_world.proofs.Keeping.{none_kept, ours_full, ours_logged, runs_then}
 use Rattle.tx_world.specs.Prepared.{Names}
-use Rattle.tx_world.proofs.Naming.{named_logged, named_stopped, named_tried, names_none}
+use Rattle.tx_world.proofs.Naming.{named_logged, names_none}
 
 pub stop-requires-clause-up : goal.stop-requires-clause-up
 stop-requires-clause-up g c = runs_then c.args.core.now.state c.requires.votes
@@ -69,57 +70,28 @@ returns-in-Ok-clause-leaves g c =
 
 pub returns-in-Err-Full-clause-leaves : goal.returns-in-Err-Full-clause-leaves
 returns-in-Err-Full-clause-leaves g c =
-    record {
-      ours =
-          let id = identifier_of c.args.core.now.transaction.value in
-          let P : Coordinated → Type 0 = λ j. IsOurs id j c.args.self.now in
-          subst P (sym c.log_full.ensures.state) (ours_full id c.args.core.now.state c.args.self.now c.requires.ours);
-      had = λ stops some. some;
-      kept = λ honest. keeps_same g.D.Disk.image (identifier_of c.args.core.now.transaction.value) c.args.self.now.ours c.args.self.now.unsure c.args.log.now c.append.new.self (unchanged_by c.append.result (HasNone c.in-Err-Full.field-0-0) (full_unbroken c.in-Err-Full.field-0-0) (c.in-Err-Full.is ∙ ap (λ (e : LogRefusal). Err e) c.in-Err-Full.field-0-is) c.append.ensures.unchanged) (c.requires.fits honest);
-      slots = slots_same (identifier_of c.args.core.now.transaction.value) c.args.self.now.ours c.args.log.now c.append.new.self (unchanged_by c.append.result (HasNone c.in-Err-Full.field-0-0) (full_unbroken c.in-Err-Full.field-0-0) (c.in-Err-Full.is ∙ ap (λ (e : LogRefusal). Err e) c.in-Err-Full.field-0-is) c.append.ensures.unchanged);
-      named = λ was.
-          names_none c.args.core.now.transaction.value c.args.self.now.ours c.log_full.new.self.state
-          (none_kept (identifier_of c.args.core.now.transaction.value) c.args.core.now.state c.args.self.now c.requires.votes c.requires.ours).0;
-    }
+    let id = identifier_of c.args.core.now.transaction.value in
+    let P : Coordinated → Type 0 = λ j. IsOurs id j c.args.self.now in
+    let same = unchanged_by c.append.result (HasNone c.in-Err-Full.field-0-0) (full_unbroken c.in-Err-Full.field-0-0) (c.in-Err-Full.is ∙ ap (λ (e : LogRefusal). Err e) c.in-Err-Full.field-0-is) c.append.ensures.unchanged in
+    left_same g.D.Disk.honest g.D.Disk.image c.args.core.now.transaction.value c.args.core.now.state c.args.self.now c.args.log.now c.log_full.new.self.state c.append.new.self same c.requires.fits (subst P (sym c.log_full.ensures.state) (ours_full id c.args.core.now.state c.args.self.now c.requires.ours))
+    (λ was. names_none c.args.core.now.transaction.value c.args.self.now.ours c.log_full.new.self.state (none_kept id c.args.core.now.state c.args.self.now c.requires.votes c.requires.ours).0)
 
 pub returns-in-Err-StoppedNow-clause-leaves : goal.returns-in-Err-StoppedNow-clause-leaves
 returns-in-Err-StoppedNow-clause-leaves g c =
-    record {
-      ours =
-          let id = identifier_of c.args.core.now.transaction.value in
-          let kept : Kept = record { ours = Some (record_of c.args.kept); unsure = true; life = c.self.inside.life } in
-          let P : Coordinated → Type 0 = λ j. IsOurs id j kept in
-          subst P (sym c.stop.ensures.state) (ours_stopped id c.args.core.now.state kept c.requires.own);
-      had = λ stops some. refl;
-      kept = λ honest.
-          let id = identifier_of c.args.core.now.transaction.value in
-          let broken = c.in-Err-StoppedNow.is ∙ ap (λ (e : LogRefusal). Err e) c.in-Err-StoppedNow.field-0-is in
-          let none = none_kept id c.args.core.now.state c.args.self.now c.requires.votes c.requires.ours in
-          let up = was_up c.args.log.now.is_up (λ d. broken_refused c.append.result broken (c.append.ensures.stopped.1 (inl d))) in
-          keeps_stopped g.D.Disk.image id (lowest_closed c.args.log.now.slots) (record_of c.args.kept) c.args.self.now.ours c.args.self.now.unsure c.args.log.now c.append.new.self c.requires.own
-          (none_found id c.args.self.now.ours c.args.self.now.unsure (open_records c.args.log.now.slots) none.0 none.1 (c.requires.fits honest up)) (c.append.ensures.stopped_now broken).1
-          (λ u. never_both c.append.new.self.is_up u (c.append.ensures.stopped_now broken).0) (c.append.ensures.images honest up).images;
-      slots =
-          let broken = c.in-Err-StoppedNow.is ∙ ap (λ (e : LogRefusal). Err e) c.in-Err-StoppedNow.field-0-is in
-          slots_stopped (identifier_of c.args.core.now.transaction.value) c.args.self.now.ours (Some (record_of c.args.kept)) c.args.log.now c.append.new.self (c.append.ensures.stopped_now broken).1
-          (λ u. never_both c.append.new.self.is_up u (c.append.ensures.stopped_now broken).0);
-      named = λ was.
-          let t = c.args.core.now.transaction.value in
-          let P : Coordinated → Type 0 = λ j. Names t (Some (record_of c.args.kept)) j in
-          subst P (sym c.stop.ensures.state) (named_tried t c.args.core.now.state (record_of c.args.kept) c.requires.written);
-    }
+    let id = identifier_of c.args.core.now.transaction.value in
+    let broken = c.in-Err-StoppedNow.is ∙ ap (λ (e : LogRefusal). Err e) c.in-Err-StoppedNow.field-0-is in
+    let none = none_kept id c.args.core.now.state c.args.self.now c.requires.votes c.requires.ours in
+    let stopped = c.append.ensures.stopped_now broken in
+    left_now g.D.Disk.honest g.D.Disk.image c.args.core.now.transaction.value c.args.core.now.state c.args.self.now c.args.log.now c.stop.new.core.state (Some (record_of c.args.kept)) c.self.inside.life c.append.new.self c.stop.ensures.state c.requires.own (λ some. refl)
+    (λ honest.
+    let up = was_up c.args.log.now.is_up (λ d. broken_refused c.append.result broken (c.append.ensures.stopped.1 (inl d))) in
+    keeps_stopped g.D.Disk.image id (lowest_closed c.args.log.now.slots) (record_of c.args.kept) c.args.self.now.ours c.args.self.now.unsure c.args.log.now c.append.new.self c.requires.own
+    (none_found id c.args.self.now.ours c.args.self.now.unsure (open_records c.args.log.now.slots) none.0 none.1 (c.requires.fits honest up)) stopped.1 (λ u. never_both c.append.new.self.is_up u stopped.0)
+    (c.append.ensures.images honest up).images)
+    stopped.1 stopped.0 (λ was some. ap (λ (r : CommitRecord). Some r) c.requires.written)
 
 pub returns-in-Err-Stopped-clause-leaves : goal.returns-in-Err-Stopped-clause-leaves
 returns-in-Err-Stopped-clause-leaves g c =
-    record {
-      ours =
-          let id = identifier_of c.args.core.now.transaction.value in
-          let P : Coordinated → Type 0 = λ j. IsOurs id j c.args.self.now in
-          subst P (sym c.stop-in-Err-Stopped.ensures.state) (ours_stopped id c.args.core.now.state c.args.self.now c.requires.ours.named);
-      had = λ stops some. some;
-      kept = λ honest. keeps_same g.D.Disk.image (identifier_of c.args.core.now.transaction.value) c.args.self.now.ours c.args.self.now.unsure c.args.log.now c.append.new.self (unchanged_by c.append.result Refused refused_unbroken (c.in-Err-Stopped.is ∙ ap (λ (e : LogRefusal). Err e) c.in-Err-Stopped.field-0-is) c.append.ensures.unchanged) (c.requires.fits honest);
-      slots = slots_same (identifier_of c.args.core.now.transaction.value) c.args.self.now.ours c.args.log.now c.append.new.self (unchanged_by c.append.result Refused refused_unbroken (c.in-Err-Stopped.is ∙ ap (λ (e : LogRefusal). Err e) c.in-Err-Stopped.field-0-is) c.append.ensures.unchanged);
-      named = λ was.
-          let P : Coordinated → Type 0 = λ j. Names c.args.core.now.transaction.value c.args.self.now.ours j in
-          subst P (sym c.stop-in-Err-Stopped.ensures.state) (named_stopped c.args.core.now.transaction.value c.args.self.now.ours c.args.core.now.state was);
-    }
+    left_before g.D.Disk.honest g.D.Disk.image c.args.core.now.transaction.value c.args.core.now.state c.args.self.now c.args.log.now c.stop-in-Err-Stopped.new.core.state c.append.new.self
+    (unchanged_by c.append.result Refused refused_unbroken (c.in-Err-Stopped.is ∙ ap (λ (e : LogRefusal). Err e) c.in-Err-Stopped.field-0-is) c.append.ensures.unchanged)
+    c.requires.fits c.requires.ours c.stop-in-Err-Stopped.ensures.state

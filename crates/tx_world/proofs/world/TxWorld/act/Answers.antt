@@ -3,9 +3,9 @@ use Rattle.dtx_model.specs.Steps.{Acts}
 use Rattle.tx_world.proofs.Silent.{act_silent}
 use Rattle.tx_world.proofs.Silently.{ready_written, written_done, written_named, written_whole}
 use Rattle.tx_world.proofs.Written.{Ready, act_ready, world_of}
-use Rattle.tx_world.specs.Sending.{is_sent}
+use Rattle.tx_world.specs.Sending.{MayWrite, is_sent}
 use Rattle.dtx_model.specs.Words.{has}
-use Rattle.tx_world.proofs.Sending.{act_calm, room_where_few, room_where_sent, unsent_there}
+use Rattle.tx_world.proofs.Sending.{act_calm, may_write_near, unsent_there}
 use Rattle.tx_world.proofs.Few.{few_there}
 use Rattle.tx_world.proofs.world.TxWorld.act.Goals.{After-entries}
 use Rattle.tx_world.proofs.world.TxWorld.act.Goals as goal
@@ -17,32 +17,34 @@ ready c =
     act_ready i.transaction (world_of i.calls.items i.history.past) i.half c.act.new.self i.core c.clear.new.self c.act.new.out c.reserve_for.new.self.past c.entries.result.now c.self.invariant.kept c.in_ok-reserve_for.ensures.same
     (sym c.act.ensures.acted ∙ c.if-not-act.false) c.act.ensures.state c.entries.ensures.value c.act.ensures.out c.clear.ensures
 
--- it sends nothing where no promotion began
-unsent : (c : After-entries) → not c.is_unpromoted-sends.result ≡ false → has is_sent c.entries.result.now ≡ false
-unsent c =
-    let i = c.self.inside in
-    unsent_there c.is_unpromoted-sends.result c.self.invariant.kept (ready c) (act_calm i.transaction.value (world_of i.calls.items i.history.past)) c.is_unpromoted-sends.ensures
+-- it sends nothing where no promotion began, and is short then
+short : (c : After-entries) → not c.is_unpromoted-sends.result ≡ false → (has is_sent c.entries.result.now ≡ false) × (length c.entries.result.now ≤ 4)
+short c n =
+    let u = c.is_unpromoted-sends.result in
+    let kept = c.self.invariant.kept in
+    let calm = act_calm c.self.inside.transaction.value (world_of c.self.inside.calls.items c.self.inside.history.past) in
+    (unsent_there u kept (ready c) calm c.is_unpromoted-sends.ensures n, few_there u kept (ready c) c.in_ok-reserve_for.ensures.same calm c.is_unpromoted-sends.ensures n)
+
+-- so it may be written
+may : (c : After-entries) → MayWrite c.reserve_for.new.self c.entries.result.now c.self.inside.core
+may c = may_write_near (not c.is_unpromoted-sends.result) c.reserve_for.new.self (ready c) c.entries.ensures.few (short c) c.in_ok-reserve_for.ensures.room c.in_ok-reserve_for.ensures.sends
 
 pub write-requires-clause-starts : goal.write-requires-clause-starts
-write-requires-clause-starts c =
-    room_where_sent (not c.is_unpromoted-sends.result) (has is_sent c.entries.result.now) (length c.entries.result.now) c.reserve_for.new.self.start_room
-    (unsent (goal.at.write-requires-clause-starts c).After-entries) (λ n. omega (arith, c.entries.ensures.few, (c.in_ok-reserve_for.ensures.sends n).0))
+write-requires-clause-starts c s =
+    let m = may (goal.at.write-requires-clause-starts c).After-entries in
+    let few = m.few in
+    let starts = m.starts s in
+    omega arith
 
 pub write-requires-clause-sends : goal.write-requires-clause-sends
-write-requires-clause-sends c =
-    room_where_sent (not c.is_unpromoted-sends.result) (has is_sent c.entries.result.now) (length c.entries.result.now) c.reserve_for.new.self.send_room
-    (unsent (goal.at.write-requires-clause-sends c).After-entries) (λ n. omega (arith, c.entries.ensures.few, (c.in_ok-reserve_for.ensures.sends n).1))
-
--- and writes few entries then
-few : (c : After-entries) → not c.is_unpromoted-sends.result ≡ false → length c.entries.result.now ≤ 4
-few c =
-    let i = c.self.inside in
-    few_there c.is_unpromoted-sends.result c.self.invariant.kept (ready c) c.in_ok-reserve_for.ensures.same (act_calm i.transaction.value (world_of i.calls.items i.history.past)) c.is_unpromoted-sends.ensures
+write-requires-clause-sends c s =
+    let m = may (goal.at.write-requires-clause-sends c).After-entries in
+    let few = m.few in
+    let sends = m.sends s in
+    omega arith
 
 pub write-requires-clause-room : goal.write-requires-clause-room
-write-requires-clause-room c =
-    room_where_few (not c.is_unpromoted-sends.result) (length c.entries.result.now) 4 64 c.reserve_for.new.self.room (few (goal.at.write-requires-clause-room c).After-entries) (omega (arith, c.entries.ensures.few))
-    (λ n. omega (arith, c.in_ok-reserve_for.ensures.room.0 n)) (omega (arith, c.in_ok-reserve_for.ensures.room.1))
+write-requires-clause-room c = let room = (may (goal.at.write-requires-clause-room c).After-entries).room in omega arith
 
 pub write-requires-clause-written : goal.write-requires-clause-written
 write-requires-clause-written c = (ready (goal.at.write-requires-clause-written c).After-entries).written

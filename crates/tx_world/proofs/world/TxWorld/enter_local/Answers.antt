@@ -1,4 +1,4 @@
-use Rattle.std.proofs.Common.{◌≡◌, ◌≤◌, ◌+◌, arith, length, false, not, refl, ap, sym, ◌∙◌, subst}
+use Rattle.std.proofs.Common.{◌≡◌, ◌≤◌, length, false, not, refl, ap, sym, ◌∙◌, subst}
 use Rattle.dtx_model.specs.Caused.{MayAnswer}
 use Rattle.dtx_model.specs.Steps.{Calls, entered}
 use Rattle.dtx_model.specs.Words.{past_of}
@@ -12,7 +12,7 @@ use Rattle.tx_world.specs.Sending.{is_sent}
 use Rattle.dtx_model.specs.Words.{has}
 use Rattle.tx_world.specs.Sending.{may_promote}
 use Rattle.dtx_model.proofs.Bools.{or_first, or_second}
-use Rattle.tx_world.proofs.Sending.{call_calm, room_where_few, room_where_sent, unsent_there}
+use Rattle.tx_world.proofs.Sending.{call_calm, may_write_near, unsent_there}
 use Rattle.tx_world.proofs.Few.{few_there}
 use Rattle.tx_world.proofs.world.TxWorld.enter_local.Goals.{After-entries}
 use Rattle.tx_world.proofs.world.TxWorld.enter_local.Goals as goal
@@ -49,52 +49,21 @@ returns-clause-answer c =
     ∙ answer_there i.transaction (world_of i.calls.items i.history.past) i.half i.core c.args.c.now c.args.done c.self.invariant.kept c.requires.near
     ∙ ap (λ (x : TxState). answer_at x.transaction.value x.world c.args.c.now c.args.done) c.self.view_is
 
--- it sends nothing where it may not begin a promotion, and none began
-unsent : (c : After-entries) → c.may_send-sends.result ≡ false → has is_sent c.entries.result.now ≡ false
-unsent c n =
-    let i = c.self.inside in
-    let w = world_of i.calls.items i.history.past in
-    let none = sym c.may_send-sends.ensures ∙ n in
+-- it sends nothing where it may not begin a promotion, and none began; and it is short then
+short : (c : After-entries) → c.may_send-sends.result ≡ false → (has is_sent c.entries.result.now ≡ false) × (length c.entries.result.now ≤ 4)
+short c n =
     let u = c.is_unpromoted.result in
     let may = may_promote c.args.c.now in
-    unsent_there u c.self.invariant.kept (ready c) (call_calm i.transaction.value w c.args.line c.args.actor c.args.c.now c.args.done (or_first may (not u) none)) c.is_unpromoted.ensures (or_second may (not u) none)
-
-pub write_near-begins-requires-clause-starts : goal.write_near-begins-requires-clause-starts
-write_near-begins-requires-clause-starts c =
-    room_where_sent c.may_send-sends.result (has is_sent c.entries.result.now) 64 c.reserve_for.new.self.start_room (unsent c) (λ n. (c.in_ok-reserve_for.ensures.sends n).0)
-
-pub write_near-begins-requires-clause-sends : goal.write_near-begins-requires-clause-sends
-write_near-begins-requires-clause-sends c =
-    room_where_sent c.may_send-sends.result (has is_sent c.entries.result.now) 64 c.reserve_for.new.self.send_room (unsent c) (λ n. (c.in_ok-reserve_for.ensures.sends n).1)
-
--- and writes few entries then
-few : (c : After-entries) → c.may_send-sends.result ≡ false → length c.entries.result.now + 1 ≤ 5
-few c n =
-    let i = c.self.inside in
-    let w = world_of i.calls.items i.history.past in
+    let kept = c.self.invariant.kept in
     let none = sym c.may_send-sends.ensures ∙ n in
-    let u = c.is_unpromoted.result in
-    let may = may_promote c.args.c.now in
-    let begins_none = call_calm i.transaction.value w c.args.line c.args.actor c.args.c.now c.args.done (or_first may (not u) none) in
-    let four : length c.entries.result.now ≤ 4 = few_there u c.self.invariant.kept (ready c) c.in_ok-reserve_for.ensures.same begins_none c.is_unpromoted.ensures (or_second may (not u) none) in
-    omega (arith, four)
+    let calm =
+    call_calm c.self.inside.transaction.value (world_of c.self.inside.calls.items c.self.inside.history.past) c.args.line c.args.actor c.args.c.now c.args.done (or_first may (not u) none) in
+    let local = or_second may (not u) none in
+    (unsent_there u kept (ready c) calm c.is_unpromoted.ensures local, few_there u kept (ready c) c.in_ok-reserve_for.ensures.same calm c.is_unpromoted.ensures local)
 
-pub write_near-begins-requires-clause-room : goal.write_near-begins-requires-clause-room
-write_near-begins-requires-clause-room c =
-    room_where_few c.may_send-sends.result (length c.entries.result.now + 1) 5 65 c.reserve_for.new.self.room (few c) (omega (arith, c.entries.ensures.few))
-    (λ n. omega (arith, c.in_ok-reserve_for.ensures.room.0 n)) (omega (arith, c.in_ok-reserve_for.ensures.room.1))
-
-pub write_near-begins-requires-clause-written : goal.write_near-begins-requires-clause-written
-write_near-begins-requires-clause-written c = (ready c).written
-
-pub write_near-begins-requires-clause-sendable : goal.write_near-begins-requires-clause-sendable
-write_near-begins-requires-clause-sendable c = (ready c).sendable
-
-pub write_near-begins-requires-clause-stopped : goal.write_near-begins-requires-clause-stopped
-write_near-begins-requires-clause-stopped c = (ready c).stopped
-
-pub write_near-begins-requires-clause-runs : goal.write_near-begins-requires-clause-runs
-write_near-begins-requires-clause-runs c = (ready c).runs
+pub write_near-begins-requires : goal.write_near-begins-requires
+write_near-begins-requires c =
+    may_write_near c.may_send-sends.result c.reserve_for.new.self (ready c) c.entries.ensures.few (short c) c.in_ok-reserve_for.ensures.room c.in_ok-reserve_for.ensures.sends
 
 pub invariant_of-self-2 : goal.invariant_of-self-2
 invariant_of-self-2 c =

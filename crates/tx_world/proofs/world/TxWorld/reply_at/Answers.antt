@@ -1,4 +1,4 @@
-use Rattle.std.proofs.Common.{◌≡◌, ◌≤◌, ◌+◌, arith, length, false, not, refl, ap, sym, ◌∙◌}
+use Rattle.std.proofs.Common.{◌≡◌, ◌≤◌, length, false, not, refl, ap, sym, ◌∙◌}
 use Rattle.dtx_model.specs.Half.{Half}
 use Rattle.dtx_model.specs.Replies.{due_of}
 use Rattle.dtx_model.specs.Steps.{Replies}
@@ -11,7 +11,7 @@ use Rattle.tx_world.proofs.Written.{Ready, reply_ready, world_of}
 use Rattle.tx_world.proofs.Naming.{named_near}
 use Rattle.tx_world.specs.Sending.{is_sent}
 use Rattle.dtx_model.specs.Words.{has}
-use Rattle.tx_world.proofs.Sending.{reply_calm, room_where_few, room_where_sent, unsent_there}
+use Rattle.tx_world.proofs.Sending.{may_write_near, reply_calm, unsent_there}
 use Rattle.tx_world.proofs.Few.{few_there}
 use Rattle.tx_world.proofs.world.TxWorld.reply_at.Goals.{After-entries}
 use Rattle.tx_world.proofs.world.TxWorld.reply_at.Goals as goal
@@ -27,45 +27,17 @@ ready c =
     reply_ready i.transaction w i.half c.reply.new.self i.core c.args.e c.args.r c.clear.new.self c.reply.new.out c.reserve_for.new.self.past c.entries.result.now c.self.invariant.kept c.in_ok-reserve_for.ensures.same
     (sym c.reply.ensures.due ∙ was) fit (c.reply.ensures.state was) c.entries.ensures.value (c.reply.ensures.out was) c.clear.ensures
 
--- it sends nothing where no promotion began
-unsent : (c : After-entries) → not c.is_unpromoted-sends.result ≡ false → has is_sent c.entries.result.now ≡ false
-unsent c =
-    let i = c.self.inside in
-    unsent_there c.is_unpromoted-sends.result c.self.invariant.kept (ready c) (reply_calm i.transaction.value (world_of i.calls.items i.history.past) c.args.e c.args.r) c.is_unpromoted-sends.ensures
+-- it sends nothing where no promotion began, and is short then
+short : (c : After-entries) → not c.is_unpromoted-sends.result ≡ false → (has is_sent c.entries.result.now ≡ false) × (length c.entries.result.now ≤ 4)
+short c n =
+    let u = c.is_unpromoted-sends.result in
+    let kept = c.self.invariant.kept in
+    let calm = reply_calm c.self.inside.transaction.value (world_of c.self.inside.calls.items c.self.inside.history.past) c.args.e c.args.r in
+    (unsent_there u kept (ready c) calm c.is_unpromoted-sends.ensures n, few_there u kept (ready c) c.in_ok-reserve_for.ensures.same calm c.is_unpromoted-sends.ensures n)
 
-pub write_near-begins-requires-clause-starts : goal.write_near-begins-requires-clause-starts
-write_near-begins-requires-clause-starts c =
-    room_where_sent (not c.is_unpromoted-sends.result) (has is_sent c.entries.result.now) 64 c.reserve_for.new.self.start_room (unsent c) (λ n. (c.in_ok-reserve_for.ensures.sends n).0)
-
-pub write_near-begins-requires-clause-sends : goal.write_near-begins-requires-clause-sends
-write_near-begins-requires-clause-sends c =
-    room_where_sent (not c.is_unpromoted-sends.result) (has is_sent c.entries.result.now) 64 c.reserve_for.new.self.send_room (unsent c) (λ n. (c.in_ok-reserve_for.ensures.sends n).1)
-
--- and writes few entries then
-few : (c : After-entries) → not c.is_unpromoted-sends.result ≡ false → length c.entries.result.now + 1 ≤ 5
-few c n =
-    let i = c.self.inside in
-    let w = world_of i.calls.items i.history.past in
-    let four : length c.entries.result.now ≤ 4 =
-    few_there c.is_unpromoted-sends.result c.self.invariant.kept (ready c) c.in_ok-reserve_for.ensures.same (reply_calm i.transaction.value w c.args.e c.args.r) c.is_unpromoted-sends.ensures n in
-    omega (arith, four)
-
-pub write_near-begins-requires-clause-room : goal.write_near-begins-requires-clause-room
-write_near-begins-requires-clause-room c =
-    room_where_few (not c.is_unpromoted-sends.result) (length c.entries.result.now + 1) 5 65 c.reserve_for.new.self.room (few c) (omega (arith, c.entries.ensures.few))
-    (λ n. omega (arith, c.in_ok-reserve_for.ensures.room.0 n)) (omega (arith, c.in_ok-reserve_for.ensures.room.1))
-
-pub write_near-begins-requires-clause-written : goal.write_near-begins-requires-clause-written
-write_near-begins-requires-clause-written c = (ready c).written
-
-pub write_near-begins-requires-clause-sendable : goal.write_near-begins-requires-clause-sendable
-write_near-begins-requires-clause-sendable c = (ready c).sendable
-
-pub write_near-begins-requires-clause-stopped : goal.write_near-begins-requires-clause-stopped
-write_near-begins-requires-clause-stopped c = (ready c).stopped
-
-pub write_near-begins-requires-clause-runs : goal.write_near-begins-requires-clause-runs
-write_near-begins-requires-clause-runs c = (ready c).runs
+pub write_near-begins-requires : goal.write_near-begins-requires
+write_near-begins-requires c =
+    may_write_near (not c.is_unpromoted-sends.result) c.reserve_for.new.self (ready c) c.entries.ensures.few (short c) c.in_ok-reserve_for.ensures.room c.in_ok-reserve_for.ensures.sends
 
 pub invariant_of-self-2 : goal.invariant_of-self-2
 invariant_of-self-2 c =
