@@ -1,6 +1,6 @@
 //! Entering calls under the locks, in order and out of it, and what the board tells.
 ghost use Rattle.std.specs.Prelude.{◌≡◌};
-ghost use Rattle.thread_tests.specs.Fresh.{MayBegin};
+ghost use Rattle.tx_cells.specs.Fresh.{MayBegin};
 
 use crate::scripts::is_await;
 use crate::stages::{Stage, Start, sure_start};

@@ -1,6 +1,6 @@
 //! That threads go on beside each other: replies overlap, a write of the log lets other transactions go on, and a look at a board waits for nobody.
 ghost use Rattle.std.specs.Prelude.{◌≡◌, Some, true};
-ghost use Rattle.thread_tests.specs.Fresh.{MayBegin};
+ghost use Rattle.tx_cells.specs.Fresh.{MayBegin};
 ghost use Rattle.tx_cells.specs.Board.{board_of};
 ghost use Rattle.tx_threads.specs.Turning.{is_await_at};
 

@@ -2,7 +2,7 @@
 ghost use Rattle.std.specs.Prelude.{◌≡◌, ◌≤◌, IfOk};
 ghost use Rattle.coordinator_log.specs.declared.layout.TheConstants.{LOG_BYTES};
 ghost use Rattle.dtx_model.specs.Words.{has};
-ghost use Rattle.thread_tests.specs.Fresh.{IsFresh};
+ghost use Rattle.tx_cells.specs.Fresh.{IsFresh};
 ghost use Rattle.tx_cells.specs.Cell.{IsThreadable, is_do_line};
 ghost use Rattle.tx_threads.specs.Turning.{is_await_at};
 

@@ -1,6 +1,6 @@
 //! Where the threads of a test act: a run with no objects, its cells and the log that they share.
 ghost use Rattle.std.specs.Prelude.{◌≡◌, IfOk, Some, true};
-ghost use Rattle.thread_tests.specs.Fresh.{IsFresh, MayBegin};
+ghost use Rattle.tx_cells.specs.Fresh.{IsFresh, MayBegin};
 ghost use Rattle.tx_cells.specs.Board.{board_of};
 ghost use Rattle.tx_cells.specs.Cell.{IsThreadable};
 ghost use Rattle.tx_threads.specs.Turning.{is_await_at};

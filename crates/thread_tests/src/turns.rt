@@ -1,6 +1,6 @@
 //! Turns at the log, and a large run on one thread.
 ghost use Rattle.std.specs.Prelude.{◌≡◌};
-ghost use Rattle.thread_tests.specs.Fresh.{MayBegin};
+ghost use Rattle.tx_cells.specs.Fresh.{MayBegin};
 
 use crate::stages::{Stage, Start, sure_start};
 use dtx_values::{ActorNo, Answer, Body, Entry, LogNote, Outcome, TxNo};

@@ -2,6 +2,7 @@ pub mod Board
 pub mod Cell
 pub mod Entering
 pub mod Following
+pub mod Fresh
 pub mod LogAnswers
 pub mod LogCell
 pub mod LogEntering

@@ -1,5 +1,5 @@
 //! What lies under the log's lock.
-ghost use Rattle.std.specs.Prelude.{ℕ, ◌≡◌, ◌≤◌, ◌<◌, ◌-◌, ◌^◌, ◌⊎◌, List, [], None, Some, Ok, IfErr, IfOk, IsTrue, OnErr, false, true};
+ghost use Rattle.std.specs.Prelude.{ℕ, ◌≡◌, ◌≤◌, ◌<◌, ◌-◌, ◌⊎◌, List, [], None, Some, Ok, IfErr, IfOk, IsTrue, OnErr, false, true};
 ghost use Rattle.dtx_model.specs.Steps.{pending};
 ghost use Rattle.dtx_model.specs.Words.{kth, past_of};
 ghost use Rattle.coordinator_log.specs.Slots.{open_records};
@@ -7,7 +7,7 @@ ghost use Rattle.script_calls.specs.Rows.{are_entered};
 ghost use Rattle.script_calls.specs.SeenRow.{SeenRow};
 ghost use Rattle.dtx_values.specs.declared.number.ActorNo.{ActorNo};
 ghost use Rattle.script_calls.specs.declared.calls.LogCall.{LogCall};
-ghost use Rattle.tx_cells.specs.Cell.{IsThreadable};
+ghost use Rattle.tx_cells.specs.Fresh.{MayBegin};
 ghost use Rattle.tx_cells.specs.LogAnswers.{put_off_at_log};
 ghost use Rattle.tx_cells.specs.LogCell.{IsLogKept};
 ghost use Rattle.tx_cells.specs.LogEntering.{EntersLog, next_at_log};
@@ -62,14 +62,7 @@ impl<D: Disk, N: Run> LogState<D, N> {
     ///
     /// The log is handed back where memory ran out.
     fn over(alloc: Global, log: Log<D>, s: &Script) -> Result<Self, (AllocError, Log<D>)>
-        requires named { s.now ≡ N.script }
-        requires script { IsThreadable s.now }
-        requires up { IsTrue log.is_up }
-        requires empty { open_records log.slots ≡ [] }
-        requires unarmed { log.armed ≡ None }
-        requires life { log.life ≤ 2 ^ 62 }
-        requires honest { D.honest ≡ N.honest }
-        requires faults { N.faults ≤ D.faults log.disk }
+        requires { MayBegin N.script N.honest N.faults D.honest D.faults s.now log }
         ensures log { IfOk result (λ c. c.log ≡ log) }
         ensures blank { IfOk result (λ c. c.past ≡ []) }
         ensures back { IfErr result (λ e. e.1 ≡ log) }
@@ -243,14 +236,7 @@ impl<D: Disk, N: Run> SharedLog<D, N> {
     ///
     /// The log is handed back where memory ran out.
     pub fn over(alloc: Global, log: Log<D>, s: &Script) -> Result<Self, (AllocError, Log<D>)>
-        requires named { s.now ≡ N.script }
-        requires script { IsThreadable s.now }
-        requires up { IsTrue log.is_up }
-        requires empty { open_records log.slots ≡ [] }
-        requires unarmed { log.armed ≡ None }
-        requires life { log.life ≤ 2 ^ 62 }
-        requires honest { D.honest ≡ N.honest }
-        requires faults { N.faults ≤ D.faults log.disk }
+        requires { MayBegin N.script N.honest N.faults D.honest D.faults s.now log }
         ensures { IfErr result (λ e. e.1 ≡ log) }
     {
         match LogState::over(alloc, log, s) {
