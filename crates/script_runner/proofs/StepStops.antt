@@ -103,7 +103,7 @@ stopping_ties faults honest image a mid at d =
 pub stopping_lives : {D : Type 0} (faults : D → ℕ) (honest : Bool) (image : D → List ℕ → Type 0) (a : StepOf D) (mid : List Placed) → IsStep faults honest image a → IsStopping faults honest a mid
     → (u : TxNo) → has is_begin_sent (state_of u (worlds_after a)).world.past ≡ true → (state_of u (worlds_after a)).life ≡ a.to.life
 stopping_lives faults honest image a mid at d =
-    each_set (λ (x : TxState). has is_begin_sent x.world.past ≡ true → x.life ≡ a.to.life) a.run.worlds a.t a.y at.made d.did.goes.life (λ u begun. (at.holds.goes u).life begun ∙ sym at.life)
+    each_set (λ (x : TxState). has is_begin_sent x.world.past ≡ true → x.life ≡ a.to.life) a.run.worlds a.t a.y at.made d.did.goes.life (λ u begun. (at.holds.goes u).life begun ∙ sym at.leaves.later.life)
 
 -- Those that are hit are the others that were.
 hit_there : (t u : TxNo) (T : List Placed) → is_hit (stop_at t T) u ≡ (not (t.value == u.value) && is_hit T u)
@@ -167,8 +167,8 @@ stopped_holds {D} faults honest image a mid q at d down script objects worlds to
     let ties = stopping_ties faults honest image a mid at d in
     let log : at_log (past_of q.trace) ≡ Stopped ∷ at_log (past_of a.run.trace) = ap at_log told ∙ (log-put (λ u. Stopped) (hit (past_of mid)) (past_of mid) ∙ ap at_log d.noted) in
     let fits : IsTrue honest → (u : TxNo) → FitsLog image a.to (state_of u ws) =
-    λ h. fits_turn image a.run.worlds a.t a.y a.from a.to at.numbered at.made (at.kept h) at.still (answered_down faults (was a) a.from a.to d.did.does.step d.did.does.done.answered) (at.holds.fits h) in
-    let had : (u : TxNo) → IsHad (state_of u ws) a.to = had_turn a.run.worlds a.t a.y a.from a.to at.numbered at.made at.slots at.still at.holds.had in
+    λ h. fits_turn image a.run.worlds a.t a.y a.from a.to at.numbered at.made (at.leaves.kept h) at.leaves.later.still (answered_down faults (was a) a.from a.to d.did.does.step d.did.does.done.answered) (at.holds.fits h) in
+    let had : (u : TxNo) → IsHad (state_of u ws) a.to = had_turn a.run.worlds a.t a.y a.from a.to at.numbered at.made at.leaves.slots at.leaves.later.still at.holds.had in
     record {
       tied = λ u.
           subst (λ (s : List Line). IsTied s q.objects u (past_of q.trace) (state_of u q.worlds)) (sym script)
@@ -187,7 +187,7 @@ stopped_holds {D} faults honest image a mid q at d down script objects worlds to
       sound = λ h u.
           subst (λ (x : TxState). is_tied_history x.world.past ≡ true) (sym (worlds u))
           (halted_sound life (state_of u ws) (each_set (λ x. is_tied_history x.world.past ≡ true) a.run.worlds a.t a.y at.made (d.did.sound h) (at.holds.sound h) u));
-      named = λ h u. subst (λ (x : TxState). NamesPrepared x) (sym (worlds u)) (halted_named life (state_of u ws) (each_set NamesPrepared a.run.worlds a.t a.y at.made (at.named (at.holds.named h a.t)) (at.holds.named h) u));
+      named = λ h u. subst (λ (x : TxState). NamesPrepared x) (sym (worlds u)) (halted_named life (state_of u ws) (each_set NamesPrepared a.run.worlds a.t a.y at.made (at.leaves.named (at.holds.named h a.t)) (at.holds.named h) u));
     }
   where
     stands : (u : TxNo) → (c : Bool) × ((core (state_of u (worlds_after a)).world).stopped ≡ (has is_begin_sent (state_of u (worlds_after a)).world.past && c))
@@ -218,7 +218,7 @@ stopped_tells faults honest image start a mid at d up tells =
     let old = past_of a.run.trace in
     let calls : calls_by_trace a.t.value old ≡ act_calls (core (was a).world) = ap (λ (h : List Entry). if may_log (coordinate h) then 4 else 2) (sym d.did.tied.past) in
     tells_stopped faults honest image start a.from a.to old a.t (others a.t (hit old)) (at.holds.uncalled up) (step_log faults honest image a at)
-    (λ none. d.answered.cause refl (subst (λ n. stop_in n a.from.armed ≡ None) calls none)) (d.answered.used refl) at.unarmed tells
+    (λ none. d.answered.cause refl (subst (λ n. stop_in n a.from.armed ≡ None) calls none)) (d.answered.used refl) at.leaves.later.unarmed tells
 
 -- So where it stopped the log, after the others were told:
 pub step_stopped : {D : Type 0} (faults : D → ℕ) (honest : Bool) (image : D → List ℕ → Type 0) (a : StepOf D) (mid : List Placed) (q : RunState) → IsStep faults honest image a → IsStopping faults honest a mid

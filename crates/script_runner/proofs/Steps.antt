@@ -32,7 +32,8 @@ use Rattle.script_calls.proofs.RightReplies.{is_right}
 use Rattle.coordinator_log.specs.Slots.{open_records}
 use Rattle.coordinator_log.specs.State.{LogState}
 use Rattle.coordinator_log.specs.Stop.{after_calls, stop_in}
-use Rattle.tx_world.specs.AtLog.{Answered, IsHad, IsOurs, KeepsLog, KeepsSlots, act_calls, id_of}
+use Rattle.tx_world.specs.AtLog.{Answered, IsHad, IsOurs, act_calls, id_of}
+use Rattle.tx_world.specs.Leaves.{Leaves}
 use Rattle.tx_world.specs.Prepared.{NamesPrepared}
 use Rattle.tx_world.specs.State.{TxState, sends_begin, turned}
 use Rattle.tx_world.specs.Stepping.{IsAnswered}
@@ -85,14 +86,8 @@ pub record IsStepAt {D : Type 0} (faults : D → ℕ) (honest : Bool) (image : D
   pub may : MayGive a.run.script a.run.objects x.world a.k a.given
   pub does : DoesGiven faults a.given a.k x a.from a.y a.to
   pub nearer : steps_left a.y.world < steps_left x.world
-  pub kept : IsTrue honest → KeepsLog image x a.from a.y a.to
-  pub slots : KeepsSlots x a.from a.y a.to
-  pub life : a.to.life ≡ a.from.life
-  pub grows : faults a.from.disk ≤ faults a.to.disk
-  pub unarmed : a.from.armed ≡ None → a.to.armed ≡ None
-  pub still : IsTrue a.to.is_up → IsTrue a.from.is_up
+  pub leaves : Leaves honest image faults x a.from a.y a.to
   pub recorded : IsRecordKept a.y
-  pub named : NamesPrepared x → NamesPrepared a.y
 
 -- It was done.
 abbrev pub IsStep : {D : Type 0} → (D → ℕ) → Bool → (D → List ℕ → Type 0) → StepOf D → Type 0
@@ -137,7 +132,7 @@ did_step faults honest image a d =
       planned =
           right_written (plans_of a.run.script) (has_object a.run.script a.run.objects) a.from.is_up a.t.value z.world m
           (right_here faults a.run.script a.run.objects a.t (past_of a.run.trace) z a.given a.k a.from a.y a.to d.names tied own d.may d.does);
-      goes = goes_step faults a.t z a.y a.from a.to m own d.does.done d.life (d.holds.goes a.t) (named_turn z.world d.does.name m d.does.named);
+      goes = goes_step faults a.t z a.y a.from a.to m own d.does.done d.leaves.later.life (d.holds.goes a.t) (named_turn z.world d.does.name m d.does.named);
       in_replay = named_in_replay faults a.t z a.from a.to d.does.name m own d.does.named d.does.done.answered (d.holds.goes a.t);
       sound = λ h.
           subst (λ (w : World). is_tied_history w.past ≡ true) (sym d.does.done.world)
@@ -146,7 +141,7 @@ did_step faults honest image a d =
 
 -- What it leaves of the log.
 pub step_log : {D : Type 0} (faults : D → ℕ) (honest : Bool) (image : D → List ℕ → Type 0) (a : StepOf D) → IsStep faults honest image a → LogGoes faults honest image a.from a.to
-step_log faults honest image a d = goes_turn faults honest image (was a) a.y a.from a.to d.grows d.still (answered_down faults (was a) a.from a.to d.does.step d.does.done.answered) d.kept
+step_log faults honest image a d = goes_turn faults honest image (was a) a.y a.from a.to d.leaves.later.grows d.leaves.later.still (answered_down faults (was a) a.from a.to d.does.step d.does.done.answered) d.leaves.kept
 
 stays_up : {D : Type 0} (faults : D → ℕ) (x : TxState) (from to : LogState D) (m : Step) → IsAnswered faults x from to m → IsTrue from.is_up → from.armed ≡ None
     → IsTrue to.is_up ⊎ Rose (faults from.disk) (faults to.disk)
@@ -159,7 +154,7 @@ stays_up {D} faults x from to m e up none = inl (ap (λ (l : LogState D). l.is_u
 
 pub step_stays : {D : Type 0} (faults : D → ℕ) (honest : Bool) (image : D → List ℕ → Type 0) (a : StepOf D) → IsStep faults honest image a → LogStays faults a.from a.to
 step_stays faults honest image a d =
-    record { stays = λ up none. stays_up faults (was a) a.from a.to d.does.step d.does.done.answered up none; still = d.still; unarmed = d.unarmed; life = d.life }
+    record { stays = λ up none. stays_up faults (was a) a.from a.to d.does.step d.does.done.answered up none; still = d.leaves.later.still; unarmed = d.leaves.later.unarmed; life = d.leaves.later.life }
 
 -- No call was entered.
 pub step_calls : (ws : List TxState) (t : TxNo) (y : TxState) → t.value ≤ length ws → y.world.calls ≡ (state_of t ws).world.calls → HaveSameCalls ws (set ws (t.value - 1) y)
@@ -215,13 +210,13 @@ step_holds faults honest image a new at d same noted =
     record {
       tied = tied_noted a.run.script a.run.objects a.run.worlds old (past_of new) a.t a.y es at.made at.holds.tied noted d.past d.given d.planned;
       kept = each_set IsRecordKept a.run.worlds a.t a.y at.made at.recorded at.holds.kept;
-      goes = each_set (GoesWith a.to) a.run.worlds a.t a.y at.made d.goes (λ u. goes_as a.from a.to (state_of u a.run.worlds) at.life same (at.holds.goes u));
-      had = had_turn a.run.worlds a.t a.y a.from a.to at.numbered at.made at.slots at.still at.holds.had;
+      goes = each_set (GoesWith a.to) a.run.worlds a.t a.y at.made d.goes (λ u. goes_as a.from a.to (state_of u a.run.worlds) at.leaves.later.life same (at.holds.goes u));
+      had = had_turn a.run.worlds a.t a.y a.from a.to at.numbered at.made at.leaves.slots at.leaves.later.still at.holds.had;
       up = same ∙ (at.holds.up ∙ sym (log_up log));
-      uncalled = λ up. ap is_called log ∙ at.holds.uncalled (at.still up);
-      fits = λ h. fits_turn image a.run.worlds a.t a.y a.from a.to at.numbered at.made (at.kept h) at.still (answered_down faults (was a) a.from a.to d.does.step d.does.done.answered) (at.holds.fits h);
+      uncalled = λ up. ap is_called log ∙ at.holds.uncalled (at.leaves.later.still up);
+      fits = λ h. fits_turn image a.run.worlds a.t a.y a.from a.to at.numbered at.made (at.leaves.kept h) at.leaves.later.still (answered_down faults (was a) a.from a.to d.does.step d.does.done.answered) (at.holds.fits h);
       sound = λ h. each_set (λ x. is_tied_history x.world.past ≡ true) a.run.worlds a.t a.y at.made (d.sound h) (at.holds.sound h);
-      named = λ h. each_set NamesPrepared a.run.worlds a.t a.y at.made (at.named (at.holds.named h a.t)) (at.holds.named h);
+      named = λ h. each_set NamesPrepared a.run.worlds a.t a.y at.made (at.leaves.named (at.holds.named h a.t)) (at.holds.named h);
     }
   where
     log_up : at_log (past_of new) ≡ at_log (past_of a.run.trace) → is_log_up (past_of new) ≡ is_log_up (past_of a.run.trace)
@@ -374,7 +369,7 @@ pub step_done : {D : Type 0} (faults : D → ℕ) (honest : Bool) (image : D →
 step_done {D} faults honest image a new at stays written_down =
     let d = did_step faults honest image a at in
     let es = wrote faults honest a d in
-    let same : a.to.is_up ≡ a.from.is_up = same_up a.to.is_up a.from.is_up at.still stays in
+    let same : a.to.is_up ≡ a.from.is_up = same_up a.to.is_up a.from.is_up at.leaves.later.still stays in
     let noted : past_of new ≡ onto (past_of a.run.trace) (placed a.t es) = ap past_of (written_down es d.past) ∙ trace_noted a.run.trace a.t es in
     let here : state_of a.t (worlds_after a) ≡ a.y = state_here a.t a.run.worlds a.y at.made in
     record {

@@ -1,5 +1,5 @@
 //! Steps whose reply the object of a manager may give.
-ghost use Rattle.std.specs.Prelude.{◌-◌, ◌≡◌, ◌≤◌, ◌<◌, IfSome, IsTrue, None, OnErr, Option, Ok, Some, false, length, slice_get, slice_index_or, true};
+ghost use Rattle.std.specs.Prelude.{◌-◌, ◌≡◌, ◌<◌, IfSome, IsTrue, None, OnErr, Option, Ok, Some, false, length, slice_get, slice_index_or, true};
 ghost use Rattle.dtx_values.specs.declared.note.Note.{Note};
 ghost use Rattle.dtx_values.specs.declared.note.Reply.{Reply};
 ghost use Rattle.dtx_values.specs.declared.number.EnlNo.{EnlNo};
@@ -9,8 +9,8 @@ ghost use Rattle.dtx_model.specs.Replies.{fits};
 ghost use Rattle.dtx_model.specs.Steps.{pending};
 ghost use Rattle.dtx_model.specs.Words.{kth};
 ghost use Rattle.coordinator_log.specs.Slots.{open_records};
-ghost use Rattle.tx_world.specs.AtLog.{Fits, KeepsLog, KeepsSlots};
-ghost use Rattle.tx_world.specs.Prepared.{NamesPrepared};
+ghost use Rattle.tx_world.specs.AtLog.{Fits};
+ghost use Rattle.tx_world.specs.Leaves.{Leaves};
 ghost use Rattle.tx_world.specs.Stepping.{reply_in};
 ghost use Rattle.world_laws.specs.Left.{steps_left};
 ghost use Rattle.script_runner.specs.Objects.{DoesGiven, MayReply, fitting, reply_by};
@@ -70,13 +70,7 @@ pub fn do_kth<D: Disk>(
     ensures none { result ≡ Ok false → (kth (pending world.old.world) k ≡ None) × (world.new ≡ world.old) × (log.new ≡ log.old) }
     ensures some { result ≡ Ok true → DoesGiven D.faults reply k world.old log.old world.new log.new }
     ensures nearer { result ≡ Ok true → steps_left world.new.world < steps_left world.old.world }
-    ensures kept { IsTrue D.honest → KeepsLog D.image world.old log.old world.new log.new }
-    ensures slots { KeepsSlots world.old log.old world.new log.new }
-    ensures named { NamesPrepared world.old → NamesPrepared world.new }
-    ensures life { log.new.life ≡ log.old.life }
-    ensures grows { D.faults log.old.disk ≤ D.faults log.new.disk }
-    ensures unarmed { log.old.armed ≡ None → log.new.armed ≡ None }
-    ensures still { IsTrue log.new.is_up → IsTrue log.old.is_up }
+    ensures leaves { Leaves D.honest D.image D.faults world.old log.old world.new log.new }
     ensures memory { OnErr result ((world.new ≡ world.old) × (log.new ≡ log.old)) }
 {
     // A proof sees here that the world is a run, each step of which leaves fewer.

@@ -16,11 +16,11 @@ pub done_alone : (m : Step) (x y : TxState) → DoesAlone m x y → IsDone m x y
 done_alone m x y d = (
   true,
   0,
-  record { transaction = d.transaction; world = d.world ∙ turned_silent x.transaction.value x.world m; life = d.life ∙ sym (ap (λ b. if b then 0 else x.life) d.silent) },
+  record { transaction = d.transaction; world = d.world ∙ turned_silent x.transaction.value x.world m; life = d.life ∙ sym (ap (λ b. if b then 0 else x.life) d.silent); kept = d.kept },
 )
 
 pub done_over : {D : Type 0} (faults : D → ℕ) (from to : LogState D) (m : Step) (x y : TxState) → Does faults m x from y to → IsDone m x y
-done_over faults from to m x y d = (from.is_up, from.life, record { transaction = d.transaction; world = d.world; life = d.life })
+done_over faults from to m x y d = (from.is_up, from.life, record { transaction = d.transaction; world = d.world; life = d.life; kept = d.kept })
 
 more : (P Q : Step → TxState → TxState → Type 0) → ((m : Step) (x y : TxState) → P m x y → Q m x y) → (a : ActorNo) (n : ℕ) (r : Turned) (old new : Cell) → Enters P a n r old new → Enters Q a n r old new
 more P Q f a n r old new e =

@@ -23,7 +23,8 @@ use Rattle.coordinator_log.specs.State.{LogState}
 use Rattle.coordinator_log.specs.Stop.{stop_in}
 use Rattle.coordinator_log.specs.declared.stop.ArmedStop.{ArmedStop}
 use Rattle.script_calls.specs.Prefix.{lines_by}
-use Rattle.tx_world.specs.AtLog.{AreFit, AtMostOne, Fits, KeepsLog, Tie, act_calls, id_of, of_others}
+use Rattle.tx_world.specs.AtLog.{AreFit, AtMostOne, Fits, Tie, act_calls, id_of, of_others}
+use Rattle.tx_world.specs.Leaves.{Leaves}
 use Rattle.tx_world.specs.State.{TxState}
 use Rattle.tx_world.specs.Stepping.{IsAnswered}
 use Rattle.tx_cells.specs.Board.{transactions_of}
@@ -158,11 +159,7 @@ pub record StepsOver {D : Type 0} (faults : D → ℕ) (honest : Bool) (image : 
   pub same : y.transaction ≡ x.transaction
   pub sure : IsTrue honest → IsTrue from.is_up → AllHold (image from.disk) (open_records from.slots)
   pub tie : IsTrue from.is_up → Tie x.ours x.unsure (first_of (id_of x) (open_records from.slots))
-  pub keeps : IsTrue honest → KeepsLog image x from y to
-  pub grows : faults from.disk ≤ faults to.disk
-  pub life : to.life ≡ from.life
-  pub unarmed : from.armed ≡ None → to.armed ≡ None
-  pub still : IsTrue to.is_up → IsTrue from.is_up
+  pub leaves : Leaves honest image faults x from y to
   pub step : Step
   pub answered : IsAnswered faults x from to step
 
@@ -176,7 +173,7 @@ own_now faults honest image s x y from to k is o rs e f =
 
 held_step : {D : Type 0} (faults : D → ℕ) (honest : Bool) (image : D → List ℕ → Type 0) (s : List Line) (x y : TxState) (from to : LogState D) → StepsOver faults honest image s x y from to → (IsTrue honest → IsTrue from.is_up → AreOwn s (open_records from.slots))
     → IsTrue honest → IsTrue to.is_up → AreOwn s (open_records to.slots)
-held_step faults honest image s x y from to k held is up = own_now faults honest image s x y from to k is (held is (k.still up)) (open_records to.slots) (k.keeps is).others ((k.keeps is).fits up)
+held_step faults honest image s x y from to k held is up = own_now faults honest image s x y from to k is (held is (k.leaves.later.still up)) (open_records to.slots) (k.leaves.kept is).others ((k.leaves.kept is).fits up)
 
 both_ok : (s : List Line) (P Q : List CommitRecord → Type 0) (r : Result (List CommitRecord) ℕ) → ((rs : List CommitRecord) → P rs → Q rs → AreOwn s rs) → IfOk r P → IfOk r Q → IfOk r (AreOwn s)
 both_ok s P Q (Ok rs) f p q = f rs p q
@@ -188,8 +185,8 @@ imaged_step {D} faults honest image s x y from to k held imaged is = elim (cases
   | inl up ↦
       let fit : Fits x (open_records from.slots) = record { tie = k.tie up; one = (held is up).once (id_of x) } in
       let fit_before : AreFit (image from.disk) (Fits x) = λ c one. rw (k.sure is up c one) fit in
-      let fit_after : AreFit (image to.disk) (Fits y) = (k.keeps is).imaged fit_before in
-      λ c one. elim ((k.keeps is).others_imaged c one) [
+      let fit_after : AreFit (image to.disk) (Fits y) = (k.leaves.kept is).imaged fit_before in
+      λ c one. elim ((k.leaves.kept is).others_imaged c one) [
         | inl was ↦ imaged is c was
         | inr others ↦
             both_ok s (λ rs. of_others (id_of x) rs ≡ of_others (id_of x) (open_records from.slots)) (Fits y) (log_has c) (own_now faults honest image s x y from to k is (held is up)) others (fit_after c one)
@@ -213,11 +210,11 @@ kept_as faults honest image s tells before x y old to after k counted up uncalle
   counted = counted;
   up = up;
   uncalled = uncalled;
-  life = let le = c.life in let e = k.life in omega arith;
+  life = let le = c.life in let e = k.leaves.later.life in omega arith;
   unlike = λ is. like ∙ c.unlike is;
   held = held_step faults honest image s x y old.log to k c.held;
   imaged = imaged_step faults honest image s x y old.log to k c.held c.imaged;
-  logs = λ is. (k.keeps is).logs (c.logs is);
+  logs = λ is. (k.leaves.kept is).logs (c.logs is);
 }
 
 pub kept_step : {D : Type 0} (faults : D → ℕ) (honest : Bool) (image : D → List ℕ → Type 0) (s : List Line) (tells : Bool) (before : ℕ) (x y : TxState) (old : LogCell D) (to : LogState D) → StepsOver faults honest image s x y old.log to → (after : List Entry) → after ≡ stop_noted old.log.is_up to.is_up old.past
@@ -228,12 +225,12 @@ kept_step {D} faults honest image s tells before x y old to k after is c =
     by : (up now : Bool) → old.log.is_up ≡ up → to.is_up ≡ now → IsLogKept faults honest image s tells before (record { log = to; rows = old.rows; past = stop_noted up now old.past })
     by false now down e =
         let same : to ≡ old.log = step_down faults x old.log to k.step k.answered down in
-        kept_as faults honest image s tells before x y old to old.past k (counted_calm before (faults old.log.disk) (faults to.disk) old.log.armed to.armed old.past k.grows k.unarmed c.counted)
-        (c.up ∙ ap (λ (l : LogState D). l.is_up) (sym same)) (λ up. c.uncalled (k.still up)) (le_refl (length old.past)) refl (λ b. refl) c
+        kept_as faults honest image s tells before x y old to old.past k (counted_calm before (faults old.log.disk) (faults to.disk) old.log.armed to.armed old.past k.leaves.later.grows k.leaves.later.unarmed c.counted)
+        (c.up ∙ ap (λ (l : LogState D). l.is_up) (sym same)) (λ up. c.uncalled (k.leaves.later.still up)) (le_refl (length old.past)) refl (λ b. refl) c
     by true true up e =
-        kept_as faults honest image s tells before x y old to old.past k (counted_calm before (faults old.log.disk) (faults to.disk) old.log.armed to.armed old.past k.grows k.unarmed c.counted) (c.up ∙ (up ∙ sym e)) (λ now. c.uncalled up) (le_refl (length old.past)) refl
+        kept_as faults honest image s tells before x y old to old.past k (counted_calm before (faults old.log.disk) (faults to.disk) old.log.armed to.armed old.past k.leaves.later.grows k.leaves.later.unarmed c.counted) (c.up ∙ (up ∙ sym e)) (λ now. c.uncalled up) (le_refl (length old.past)) refl
         (λ b. refl) c
     by true false up e =
         let why = step_stopped faults x old.log to k.step k.answered up e in
-        kept_as faults honest image s tells before x y old to (Stopped ∷ old.past) k (counted_stopped before (faults old.log.disk) (faults to.disk) old.log.armed to.armed old.past (c.uncalled up) k.grows why.0 why.1 k.unarmed c.counted) (sym e)
+        kept_as faults honest image s tells before x y old to (Stopped ∷ old.past) k (counted_stopped before (faults old.log.disk) (faults to.disk) old.log.armed to.armed old.past (c.uncalled up) k.leaves.later.grows why.0 why.1 k.leaves.later.unarmed c.counted) (sym e)
         (λ now. refl) (omega arith) refl (λ b. refl) c

@@ -1,5 +1,5 @@
 //! The calls of a transaction's state that are lent the log's.
-ghost use Rattle.std.specs.Prelude.{◌≡◌, ◌⊎◌, ◌<◌, ◌≤◌, None, Ok, Some, IfErr, IfOk, IsTrue, false, true};
+ghost use Rattle.std.specs.Prelude.{◌≡◌, ◌⊎◌, ◌<◌, None, Ok, Some, IfErr, IfOk, false, true};
 ghost use Rattle.dtx_model.specs.Steps.{Replies, pending};
 ghost use Rattle.dtx_model.specs.Words.{kth};
 ghost use Rattle.tx_cells.specs.Cell.{MayReply};
@@ -7,6 +7,7 @@ ghost use Rattle.tx_cells.specs.Entering.{Enters, next_of, put_off};
 ghost use Rattle.tx_cells.specs.Ties.{IsCause, TiesWith};
 ghost use Rattle.tx_cells.specs.Turns.{unmarked, with_tx};
 ghost use Rattle.tx_cells.specs.declared.turns.Turned.{Turned};
+ghost use Rattle.tx_world.specs.Leaves.{IsLater};
 ghost use Rattle.tx_world.specs.Stepping.{Does, DoesKth};
 ghost use Rattle.world_laws.specs.Left.{steps_left};
 ghost use Rattle.turn_parts.specs.Marks.{is_due};
@@ -58,9 +59,7 @@ impl<N: Run> CellState<N> {
         ensures same { self.new ≡ with_tx self.new.tx self.old }
         ensures rows { log.new.rows ≡ log.old.rows }
         ensures stopped { log.new.past ≡ stop_noted log.old.log.is_up log.new.log.is_up log.old.past }
-        ensures life { log.new.log.life ≡ log.old.log.life }
-        ensures grows { D.faults log.old.log.disk ≤ D.faults log.new.log.disk }
-        ensures still { IsTrue log.new.log.is_up → IsTrue log.old.log.is_up }
+        ensures later { IsLater D.faults log.old.log log.new.log }
         ensures cause { IfErr result (λ e. ((e ≡ TurnError.Memory) ⊎ IsCause self.old.tx log.old.log e) × (self.new ≡ self.old) × (log.new ≡ log.old)) }
     {
         log.step(self, k)

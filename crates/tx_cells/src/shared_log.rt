@@ -15,6 +15,7 @@ ghost use Rattle.tx_cells.specs.Ties.{IsCause, TiesWith};
 ghost use Rattle.tx_cells.specs.Turns.{with_tx};
 ghost use Rattle.tx_cells.specs.declared.turns.Turned.{Turned};
 ghost use Rattle.tx_world.specs.AtLog.{AtMostOne};
+ghost use Rattle.tx_world.specs.Leaves.{IsLater};
 ghost use Rattle.tx_world.specs.Stepping.{DoesKth};
 ghost use Rattle.world_laws.specs.Left.{steps_left};
 ghost use Rattle.turn_parts.specs.Reopening.{restart_answer, stop_noted};
@@ -156,9 +157,7 @@ impl<D: Disk, N: Run> LogState<D, N> {
         ensures same { cell.new ≡ with_tx cell.new.tx cell.old }
         ensures rows { self.new.rows ≡ self.old.rows }
         ensures past { self.new.past ≡ stop_noted self.old.log.is_up self.new.log.is_up self.old.past }
-        ensures life { self.new.log.life ≡ self.old.log.life }
-        ensures grows { D.faults self.old.log.disk ≤ D.faults self.new.log.disk }
-        ensures still { IsTrue self.new.log.is_up → IsTrue self.old.log.is_up }
+        ensures later { IsLater D.faults self.old.log self.new.log }
         ensures cause { IfErr result (λ e. ((e ≡ TurnError.Memory) ⊎ IsCause cell.old.tx self.old.log e) × (cell.new ≡ cell.old) × (self.new ≡ self.old)) }
     {
         cell.is_named();

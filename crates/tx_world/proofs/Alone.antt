@@ -25,12 +25,12 @@ kth_alone k (Deliver c e) old new a at d = record { name = Delivery c e; step = 
 
 -- and with any log
 pub kth_beside : {D : Type 0} (faults : D → ℕ) (k : ℕ) (s : PendingStep) (old new : TxState) (log : LogState D) → is_alone_step s ≡ true → kth (pending old.world) k ≡ Some (name_of s)
-    → (new.ours ≡ old.ours) × (new.unsure ≡ old.unsure) → DoesAlone (step_of s) old new → DoesKth faults k old log new log
-kth_beside faults k (Reply e n r) old new log a at same d = absurd cc
-kth_beside faults k Act old new log a at same d = record { name = LocalAct; step = Acts; stands = at; named = refl; planned = tt; done = does_alone faults Acts old new log refl same d }
-kth_beside faults k Coordinate old new log a at same d = absurd cc
-kth_beside faults k (Deliver c e) old new log a at same d =
-    record { name = Delivery c e; step = Delivers c e; stands = at; named = refl; planned = tt; done = does_alone faults (Delivers c e) old new log refl same d }
+    → DoesAlone (step_of s) old new → DoesKth faults k old log new log
+kth_beside faults k (Reply e n r) old new log a at d = absurd cc
+kth_beside faults k Act old new log a at d = record { name = LocalAct; step = Acts; stands = at; named = refl; planned = tt; done = does_alone faults Acts old new log refl d }
+kth_beside faults k Coordinate old new log a at d = absurd cc
+kth_beside faults k (Deliver c e) old new log a at d =
+    record { name = Delivery c e; step = Delivers c e; stands = at; named = refl; planned = tt; done = does_alone faults (Delivers c e) old new log refl d }
 
 -- the k-th pending step leaves fewer steps
 pub alone_nearer : (k : ℕ) (old new : TxState) → IsOwnRun old.transaction.value old.world → DoesKthAlone k old new → steps_left new.world < steps_left old.world

@@ -15,7 +15,7 @@ use Rattle.coordinator_log.specs.Slots.{lowest_closed, open_records}
 use Rattle.coordinator_log.specs.State.{LogState}
 use Rattle.coordinator_log.specs.Stop.{after_calls, stop_in}
 use Rattle.coordinator_log.specs.declared.refusal.LogRefusal.{LogRefusal}
-use Rattle.coordinator_log.specs.declared.refusal.LogRefusal.TheVariants.{Stopped as Refused, StoppedNow as Broken, NoSuch}
+use Rattle.coordinator_log.specs.declared.refusal.LogRefusal.TheVariants.{Stopped as Refused, StoppedNow as Broken, Full as HasNone, NoSuch}
 use Rattle.tx_world.specs.AtLog.{Acts, Answered, Kept, act_calls, kept_after}
 
 -- an append may be answered in each way, and a free in each but that the log is full
@@ -229,6 +229,9 @@ unchanged_by {A} {L} r {old} {new} e differs a u =
 
 pub refused_unbroken : Refused ≡ Broken → ⊥
 refused_unbroken e = absurd cc
+
+pub full_unbroken : (slots : ℕ) → HasNone slots ≡ Broken → ⊥
+full_unbroken slots e = absurd cc
 
 pub lost_unbroken : (id : ℕ) → NoSuch id ≡ Broken → ⊥
 lost_unbroken id e = absurd cc

@@ -32,6 +32,7 @@ use Rattle.world_laws.specs.Carried.{are_sendable}
 use Rattle.world_laws.specs.Course.{is_far, is_written}
 use Rattle.tx_world.specs.Kept.{Kept, Whole, stop_if, stopped_if}
 use Rattle.tx_world.specs.Stepping.{Does}
+use Rattle.tx_world.specs.Leaves.{IsLater, Leaves, LeavesKept}
 use Rattle.tx_world.specs.Prepared.{Names, NamesPrepared}
 use Rattle.tx_world.specs.Tried.{IsTried}
 use Rattle.tx_world.proofs.Begun.{may_write}
@@ -227,6 +228,16 @@ acted_so {D} faults t w h k j n x y o p old from to acts kept did past lives was
     let so : P (seen_as t w x) = (acts.answer, did.may, acted_does faults t w h k j n x y o p from to acts kept did past lives) in
     subst P was so
 
+-- it lives on in its life
+pub acted_life : {D : Type 0} (faults : D → ℕ) (t : ℕ) (k j : Coordinated) (x y : LogKept) (o p : Outgoing) (from to : LogState D) → Acts faults t k x o from j y p to → y.life ≡ x.life
+acted_life faults t k j x y o p from to acts = ap (λ (z : LogKept). z.life) acts.kept ∙ by acts.answer
+  where
+    by : (a : LogAnswer) → (kept_after t k a x).life ≡ x.life
+    by Done = refl
+    by Full = refl
+    by StoppedNow = refl
+    by StoppedBefore = refl
+
 -- What it keeps of the log is what its history says, where it runs after its act,
 pub acted_sure : (t : TxNo) (h : Known) (j : CoreKept) (w : World) (x : LogKept) → Kept t w h j → IsOurs (identifier_of t.value) j.state x → j.state.stopped ≡ false → IsTried w.past x
 acted_sure t h j w x kept ours runs =
@@ -268,7 +279,7 @@ acted_tried t w h k j a n x y was did past ours had only d = by j.state.stopped 
         (acted_stopped t w h k j a x y was did (had stops) (tied_before w.past es n false past d))
 
 -- what its act keeps of the log the world keeps
-pub acted_keeps : {D : Type 0} (image : D → List ℕ → Type 0) (t : TxNo) (w v : World) (h : Known) (k : CoreKept) (x y : LogKept) (old : TxState) (from to : LogState D) → Kept t w h k
+acted_keeps : {D : Type 0} (image : D → List ℕ → Type 0) (t : TxNo) (w v : World) (h : Known) (k : CoreKept) (x y : LogKept) (old : TxState) (from to : LogState D) → Kept t w h k
     → Keeps image (identifier_of k.transaction.value) (IsFit (identifier_of k.transaction.value) x.ours x.unsure) (IsFit (identifier_of k.transaction.value) y.ours y.unsure) from to
     → seen_as t w x ≡ old → KeepsLog image old from (seen_as t v y) to
 acted_keeps image t w v h k x y old from to kept keeps was =
@@ -276,14 +287,14 @@ acted_keeps image t w v h k x y old from to kept keeps was =
     subst (λ (z : TxState). KeepsLog image z from (seen_as t v y) to) was (subst P (ap (λ (j : CoreKept). identifier_of j.transaction.value) kept.core) keeps)
 
 -- and what it leaves of the records that the log keeps in memory
-pub acted_slots : {D : Type 0} (t : TxNo) (w v : World) (h : Known) (k : CoreKept) (x y : LogKept) (old : TxState) (from to : LogState D) → Kept t w h k
+acted_slots : {D : Type 0} (t : TxNo) (w v : World) (h : Known) (k : CoreKept) (x y : LogKept) (old : TxState) (from to : LogState D) → Kept t w h k
     → LeavesSlots (identifier_of k.transaction.value) x.ours y.ours from to → seen_as t w x ≡ old → KeepsSlots old from (seen_as t v y) to
 acted_slots t w v h k x y old from to kept leaves was =
     let at_t : LeavesSlots (identifier_of t.value) x.ours y.ours from to = subst (λ (j : CoreKept). LeavesSlots (identifier_of j.transaction.value) x.ours y.ours from to) kept.core leaves in
     subst (λ (z : TxState). KeepsSlots z from (seen_as t v y) to) was (record { others = at_t.others; had = at_t.had })
 
 -- and the record that it keeps names who said PREPARED
-pub acted_named : (t : TxNo) (w : World) (h : Known) (k j : CoreKept) (a : LogAnswer) (n : List Entry) (x y : LogKept) (old : TxState) → Kept t w h k → Acted t w h k j a → n ≡ onto w.past (coordinates k.state a)
+acted_named : (t : TxNo) (w : World) (h : Known) (k j : CoreKept) (a : LogAnswer) (n : List Entry) (x y : LogKept) (old : TxState) → Kept t w h k → Acted t w h k j a → n ≡ onto w.past (coordinates k.state a)
     → (Names k.transaction.value x.ours k.state → Names k.transaction.value y.ours j.state) → seen_as t w x ≡ old → NamesPrepared old → NamesPrepared (seen_as t (record { calls = w.calls; past = n }) y)
 acted_named t w h k j a n x y old kept did past named was old_named =
     let v : World = record { calls = w.calls; past = n } in
@@ -292,6 +303,19 @@ acted_named t w h k j a n x y old kept did past named was old_named =
     let here : Names k.transaction.value x.ours k.state = subst (λ (i : CoreKept). Names i.transaction.value x.ours i.state) (sym kept.core) before in
     let there : Names k.transaction.value y.ours (core v) = subst (λ (c : Coordinated). Names k.transaction.value y.ours c) (core_is t v h j after_it) (named here) in
     subst (λ (u : TxNo). Names u.value y.ours (core v)) (core_transaction t w h k kept) there
+
+-- That is what the act leaves.
+pub acted_leaves : {D : Type 0} {honest : Bool} {image : D → List ℕ → Type 0} {faults : D → ℕ} (t : TxNo) (w : World) (h : Known) (k j : CoreKept) (a : LogAnswer) (n : List Entry) (x y : LogKept) (old : TxState) (from to : LogState D)
+    → Kept t w h k → Acted t w h k j a → n ≡ onto w.past (coordinates k.state a) → LeavesKept honest image k.transaction.value k.state x from j.state y to → IsLater faults from to → seen_as t w x ≡ old
+    → Leaves honest image faults old from (seen_as t (record { calls = w.calls; past = n }) y) to
+acted_leaves {D} {honest} {image} {faults} t w h k j a n x y old from to kept did past leaves later was =
+    let v : World = record { calls = w.calls; past = n } in
+    record {
+      kept = λ is. acted_keeps image t w v h k x y old from to kept (leaves.kept is) was;
+      slots = acted_slots t w v h k x y old from to kept leaves.slots was;
+      named = acted_named t w h k j a n x y old kept did past leaves.named was;
+      later = later;
+    }
 
 -- A coordinator that is told what an opening of the log found: where it still runs it stops first.
 told_state : (k : CoreKept) (found : Bool) → follow (stopped_if (not k.state.stopped) k).state (Restarted found) ≡ follow_all k.state (restarted k.state.stopped found)

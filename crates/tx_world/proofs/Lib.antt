@@ -23,6 +23,7 @@ pub mod FreedRecords
 pub mod AtTheLog
 pub mod CallsOn
 pub mod Settling
+pub mod Leaves
 pub mod LeftSteps
 pub mod Nearer
 pub mod Chained

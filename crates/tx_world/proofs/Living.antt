@@ -91,12 +91,12 @@ abbrev pub seen_as : TxNo → World → LogKept → TxState
 seen_as t w x = record { transaction = t; world = w; ours = x.ours; unsure = x.unsure; life = x.life }
 
 -- the step of the local side was done
-does_near : (m : Step) (t : TxNo) (w v : World) (x y : LogKept) (up begins sends : Bool) (life : ℕ) → v ≡ turned up t.value w m → sends ≡ sends_begin t.value w m
+does_near : (m : Step) (t : TxNo) (w v : World) (x y : LogKept) (up begins sends : Bool) (life : ℕ) → is_apart m ≡ true → v ≡ turned up t.value w m → sends ≡ sends_begin t.value w m
     → y ≡ record { ours = x.ours; unsure = x.unsure; life = (if begins then life else x.life) } → begins ≡ sends → DoesAt up life m (seen_as t w x) (seen_as t v y)
-does_near m t w v x y up begins sends life same is lives sent =
+does_near m t w v x y up begins sends life apart same is lives sent =
     let P : LogKept → Type 0 = λ z. DoesAt up life m (seen_as t w x) (seen_as t v z) in
     let lived : (if begins then life else x.life) ≡ (if sends then life else x.life) = ap (λ (b : Bool). if b then life else x.life) sent in
-    subst P (sym lives) (does_step m t w v x.ours x.unsure x.life (if begins then life else x.life) up life sends same is lived)
+    subst P (sym lives) (does_step m t w v x.ours x.unsure x.life (if begins then life else x.life) up life sends apart same is lived)
 
 -- A step of the local side was written: these calls and this history are left, the coordinator stops where BEGIN is sent while the log isn't up, and it lives in this life of the
 -- log where BEGIN is sent. Then the world holds.
@@ -123,11 +123,11 @@ near_whole {t} {w} {m} {f} {g} {k} {h} {xs} up life {j} {x} {y} {ks} {n} r was a
 
 -- and the step was done
 pub near_done : {t : TxNo} {w : World} {m : Step} {g : Known} {k : CoreKept} {h xs : List Entry} (x y : LogKept) (old : TxState) (up begins : Bool) (life : ℕ) {ks : List EnteredCall} {n : List Entry}
-    → Ready t w m g k h xs → ks ≡ entered m w.calls → n ≡ stop_if (has is_begin_sent xs && not up) (onto h xs)
+    → Ready t w m g k h xs → is_apart m ≡ true → ks ≡ entered m w.calls → n ≡ stop_if (has is_begin_sent xs && not up) (onto h xs)
     → y ≡ record { ours = x.ours; unsure = x.unsure; life = (if begins then life else x.life) } → begins ≡ has is_begin_sent xs → seen_as t w x ≡ old
     → DoesAt up life m old (seen_as t (record { calls = ks; past = n }) y)
-near_done {t} {w} {m} {g} {k} {h} {xs} x y old up begins life {ks} {n} r calls past lives begun was =
+near_done {t} {w} {m} {g} {k} {h} {xs} x y old up begins life {ks} {n} r apart calls past lives begun was =
     let sends = has is_begin_sent xs in
     let v : World = record { calls = ks; past = n } in
     subst (λ (z : TxState). DoesAt up life m z (seen_as t v y)) was
-    (does_near m t w v x y up begins sends life (world_written t.value w m up sends ks (onto h xs) n calls r.sends r.past past) r.sends lives begun)
+    (does_near m t w v x y up begins sends life apart (world_written t.value w m up sends ks (onto h xs) n calls r.sends r.past past) r.sends lives begun)

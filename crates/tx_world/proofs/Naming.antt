@@ -38,7 +38,7 @@ use Rattle.tx_world.specs.Stepping.{DoesAt}
 use Rattle.tx_world.proofs.Keeping.{is_elsewhere, stage_same, stopped_same as stop_same}
 use Rattle.tx_world.proofs.Living.{own_ours, seen_as}
 use Rattle.tx_world.proofs.Onward.{turned_past}
-use Rattle.tx_world.proofs.StillTied.{block_elsewhere, is_apart}
+use Rattle.tx_world.proofs.StillTied.{block_elsewhere, is_apart, kept_apart}
 use Rattle.tx_world.proofs.Unlogged.{at_alone}
 
 -- the enlistments that said PREPARED, by these desks
@@ -147,8 +147,8 @@ names_on t w v x b es o wires el past n = λ s.
 
 -- the same of a transaction as its users see it
 pub named_does : (up : Bool) (life : ℕ) (m : Step) (old new : TxState) → is_apart m ≡ true → IsOurs (id_of old) (core old.world) (record { ours = old.ours; unsure = old.unsure; life = old.life })
-    → IsOwnRun new.transaction.value new.world → new.ours ≡ old.ours → DoesAt up life m old new → NamesPrepared old → NamesPrepared new
-named_does up life m old new apart o ran same d n =
+    → IsOwnRun new.transaction.value new.world → DoesAt up life m old new → NamesPrepared old → NamesPrepared new
+named_does up life m old new apart o ran d n =
     let t = old.transaction in
     let b = sends_begin t.value old.world m && not up in
     let es = block_at t.value old.world m in
@@ -158,25 +158,25 @@ named_does up life m old new apart o ran same d n =
     (block_elsewhere t.value old.world m apart) past n in
     let P : TxNo → Type 0 = λ u. Names u.value new.ours (core new.world) in
     let Q : Option CommitRecord → Type 0 = λ p. Names t.value p (core new.world) in
-    subst P (sym d.transaction) (subst Q (sym same) there)
+    subst P (sym d.transaction) (subst Q (sym (kept_apart m old new apart d.kept)) there)
 
 -- of a call, or a step, that may fail
 pub named_ok : {A E : Type 0} (r : Result A E) (up : Bool) (life : ℕ) (m : Step) (old new : TxState) → is_apart m ≡ true → IsOurs (id_of old) (core old.world) (record { ours = old.ours; unsure = old.unsure; life = old.life })
-    → IsOwnRun new.transaction.value new.world → new.ours ≡ old.ours → OnOk r (DoesAt up life m old new) → OnErr r (new ≡ old) → NamesPrepared old → NamesPrepared new
-named_ok (Ok a) up life m old new apart o ran same d e n = named_does up life m old new apart o ran same d n
-named_ok (Err f) up life m old new apart o ran same d e n = subst (λ (x : TxState). NamesPrepared x) (sym e) n
+    → IsOwnRun new.transaction.value new.world → OnOk r (DoesAt up life m old new) → OnErr r (new ≡ old) → NamesPrepared old → NamesPrepared new
+named_ok (Ok a) up life m old new apart o ran d e n = named_does up life m old new apart o ran d n
+named_ok (Err f) up life m old new apart o ran d e n = subst (λ (x : TxState). NamesPrepared x) (sym e) n
 
 -- and of a step that was written
 pub named_near : {t : TxNo} {w v : World} {f g : Known} {k j : CoreKept} (up : Bool) (life : ℕ) (m : Step) (x y : LogKept) (old : TxState) → Whole t w f k x → Whole t v g j y → is_apart m ≡ true → seen_as t w x ≡ old
-    → y.ours ≡ x.ours → DoesAt up life m old (seen_as t v y) → NamesPrepared old → NamesPrepared (seen_as t v y)
-named_near {t} {w} {v} {f} {g} {k} {j} up life m x y old was is apart seen same d n =
+    → DoesAt up life m old (seen_as t v y) → NamesPrepared old → NamesPrepared (seen_as t v y)
+named_near {t} {w} {v} {f} {g} {k} {j} up life m x y old was is apart seen d n =
     let P : TxState → Type 0 = λ z. DoesAt up life m z (seen_as t v y) → NamesPrepared z → NamesPrepared (seen_as t v y) in
-    let here : P (seen_as t w x) = named_does up life m (seen_as t w x) (seen_as t v y) apart (own_ours t w f k x was) is.kept.ran same in
+    let here : P (seen_as t w x) = named_does up life m (seen_as t w x) (seen_as t v y) apart (own_ours t w f k x was) is.kept.ran in
     subst P seen here d n
 
 pub named_alone : {t : TxNo} {w v : World} {f g : Known} {k j : CoreKept} (m : Step) (x : LogKept) (old : TxState) → Whole t w f k x → Whole t v g j x → is_apart m ≡ true → seen_as t w x ≡ old
     → DoesAlone m old (seen_as t v x) → NamesPrepared old → NamesPrepared (seen_as t v x)
-named_alone {t} {w} {v} m x old was is apart seen d n = named_near true 0 m x x old was is apart seen refl (at_alone true 0 m old (seen_as t v x) d) n
+named_alone {t} {w} {v} m x old was is apart seen d n = named_near true 0 m x x old was is apart seen (at_alone true 0 m old (seen_as t v x) d) n
 
 -- The coordinator's act keeps the very record that it writes,
 pub named_logged : (t : ℕ) (k : Coordinated) (r : CommitRecord) → r ≡ record_for t k → Names t (Some r) (follow_all k (Logged ∷ commit_sends (follow k Logged)))

@@ -1,5 +1,5 @@
--- What comes right before a call lets it be entered, and then it is done; and of the log it keeps what the steps before it kept.
-use Rattle.std.proofs.Common.{◌≡◌, ◌≤◌, ◌∙◌, ℕ, Bool, true, List, Option, None, Result, Ok, Err, IfOk, OnOk, OnErr, refl, sym, ap, subst, ◌&&◌, ◌==◌, not, is_some, arith}
+-- What comes right before a call lets it be entered, and then it is done.
+use Rattle.std.proofs.Common.{◌≡◌, ◌≤◌, ◌∙◌, ℕ, Bool, true, List, None, Result, Ok, Err, IfOk, OnOk, OnErr, refl, sym, ap, subst, ◌&&◌, ◌==◌, not, is_some, arith}
 use Rattle.dtx_values.specs.declared.call.Call.{Call}
 use Rattle.dtx_values.specs.declared.call.Call.TheVariants.{Await, Do}
 use Rattle.dtx_values.specs.declared.entry.Answer.{Answer}
@@ -7,15 +7,12 @@ use Rattle.dtx_values.specs.declared.number.ActorNo.{ActorNo}
 use Rattle.dtx_values.specs.declared.number.TxNo.{TxNo}
 use Rattle.dtx_model.specs.declared.waiting.EnteredCall.{EnteredCall}
 use Rattle.dtx_model.specs.Words.{has, kth}
-use Rattle.dtx_model.specs.Log.{CommitRecord}
 use Rattle.dtx_model.specs.Outcome.{is_empty}
-use Rattle.dtx_model.specs.Promotes.{identifier_of}
 use Rattle.dtx_model.specs.World.{answer_at, half}
 use Rattle.dtx_model.specs.Steps.{Step, StepName, Calls, pending}
 use Rattle.dtx_model.specs.Caused.{HasDone, MayAnswer, made_by}
 use Rattle.dtx_model.proofs.Bools.{or_right}
 use Rattle.coordinator_log.specs.State.{LogState}
-use Rattle.tx_world.specs.AtLog.{Fits, HasKept, IsFit, KeepsSlots, id_of}
 use Rattle.tx_world.specs.State.{TxState, is_maker, may_enter}
 use Rattle.tx_world.specs.Stepping.{Does, Settles, SomeSteps, Stepped}
 use Rattle.tx_world.specs.OwnCalls.{DoesCall, Prepares, Repeats, place_of}
@@ -110,18 +107,8 @@ pub entered_there : {D A E : Type 0} (faults : D → ℕ) (step : Step) (mid new
 entered_there faults step mid new to (Ok a) done same = done.transaction
 entered_there faults step mid new to (Err e) done same = ap (λ (x : TxState). x.transaction) same
 
--- what is said of the records that fit is said of those that fit a state with the same transaction, the same record, and as sure
-pub fits_there : (P : (List CommitRecord → Type 0) → Type 0) (mid new : TxState) → new.transaction ≡ mid.transaction → (new.ours ≡ mid.ours) × (new.unsure ≡ mid.unsure) → P (Fits mid) → P (Fits new)
-fits_there P mid new there same p =
-    let sure : P (IsFit (id_of mid) mid.ours new.unsure) = subst (λ (u : Bool). P (IsFit (id_of mid) mid.ours u)) (sym same.1) p in
-    let ours : P (IsFit (id_of mid) new.ours new.unsure) = subst (λ (o : Option CommitRecord). P (IsFit (id_of mid) o new.unsure)) (sym same.0) sure in
-    subst (λ (t : TxNo). P (IsFit (identifier_of t.value) new.ours new.unsure)) (sym there) ours
-
--- and so is what is left of the records that the log keeps in memory
-pub slots_there : {D : Type 0} (old mid new : TxState) (from to : LogState D) → new.transaction ≡ mid.transaction → (new.ours ≡ mid.ours) × (new.unsure ≡ mid.unsure) → KeepsSlots old from mid to → KeepsSlots old from new to
-slots_there old mid new from to there same k =
-    let H : ℕ → Option CommitRecord → Type 0 = λ id o. HasKept id o to in
-    record {
-      others = k.others;
-      had = λ h. subst (λ (t : TxNo). H (identifier_of t.value) new.ours) (sym there) (subst (H (id_of mid)) (sym same.0) (k.had h));
-    }
+-- and keeps the record that is kept
+pub entered_kept : {D A E : Type 0} (faults : D → ℕ) (n : ℕ) (a : ActorNo) (c : Call) (m : ℕ) (mid new : TxState) (to : LogState D) (r : Result A E) → OnOk r (Does faults (Calls n a c m) mid to new to) → OnErr r (new ≡ mid)
+    → (new.ours ≡ mid.ours) × (new.unsure ≡ mid.unsure)
+entered_kept faults n a c m mid new to (Ok x) done same = done.kept
+entered_kept faults n a c m mid new to (Err e) done same = (ap (λ (x : TxState). x.ours) same, ap (λ (x : TxState). x.unsure) same)

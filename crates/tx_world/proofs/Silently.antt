@@ -57,7 +57,7 @@ written_whole {t} {w} {m} s was = whole_on t w m was s.apart (silent_kept t w m 
 -- the step was done,
 pub written_done : {t : TxNo} {w : World} {m : Step} {g : Known} {j : CoreKept} {ks : List EnteredCall} {n : List Entry} (x : LogKept) (old : TxState) → IsWritten t w m g j ks n → seen_as t w x ≡ old
     → DoesAlone m old (seen_as t (record { calls = ks; past = n }) x)
-written_done {t} {w} {m} x old s was = alone_done t w m x old s.silent s.calls s.past was
+written_done {t} {w} {m} x old s was = alone_done t w m x old s.apart s.silent s.calls s.past was
 
 -- and the record that is kept names who said PREPARED.
 pub written_named : {t : TxNo} {w : World} {m : Step} {f g : Known} {k j : CoreKept} {ks : List EnteredCall} {n : List Entry} (x : LogKept) (old : TxState) → IsWritten t w m g j ks n → Whole t w f k x

@@ -35,7 +35,7 @@ use Rattle.outcome_law.proofs.QuietBlocks.{is_quiet, q_coordinates}
 use Rattle.std.specs.Prelude.{is_some}
 use Rattle.coordinator_log.specs.State.{LogState}
 use Rattle.tx_world.specs.State.{TxState, sends_begin, turned}
-use Rattle.tx_world.specs.Stepping.{DoesKth, Stepped}
+use Rattle.tx_world.specs.Stepping.{DoesKth, IsKeptAfter, Stepped}
 use Rattle.tx_world.proofs.Keeping.{is_elsewhere}
 
 -- the blocks of calls, replies, deliveries and the local act have no entry of the log
@@ -93,6 +93,15 @@ is_apart (Coordinates a) = false
 is_apart Stops = false
 is_apart (Restarts found) = false
 is_apart _ = true
+
+-- such a step keeps the record that is kept, and how sure that is
+pub apart_kept : (m : Step) (old new : TxState) → is_apart m ≡ true → (new.ours ≡ old.ours) × (new.unsure ≡ old.unsure) → IsKeptAfter old new m
+apart_kept (Coordinates a) old new i same = absurd cc
+apart_kept m old new i same = same
+
+pub kept_apart : (m : Step) (old new : TxState) → is_apart m ≡ true → IsKeptAfter old new m → new.ours ≡ old.ours
+kept_apart (Coordinates a) old new i kept = absurd cc
+kept_apart m old new i kept = kept.0
 
 -- the step is a restart
 abbrev pub is_restarting : Step → Bool

@@ -20,10 +20,11 @@ use Rattle.coordinator_core.specs.Kept.{Kept as CoreKept}
 use Rattle.tx_world.specs.AtLog.{Kept as LogKept}
 use Rattle.tx_world.specs.Kept.{Kept}
 use Rattle.tx_world.specs.State.{TxState, sends_begin, turned}
-use Rattle.tx_world.specs.Stepping.{Does, DoesAt, IsAnswered, IsKeptAfter}
+use Rattle.tx_world.specs.Stepping.{Does, DoesAt, IsAnswered}
 use Rattle.tx_world.specs.OwnCalls.{DoesAlone, is_do}
 use Rattle.tx_world.proofs.CallsOn.{did_is}
 use Rattle.tx_world.proofs.Living.{seen_as}
+use Rattle.tx_world.proofs.StillTied.{apart_kept, is_apart}
 use Rattle.tx_world.proofs.Written.{world_written}
 
 -- a step that sends no BEGIN leaves the world after it, whether the log is up or not
@@ -31,9 +32,9 @@ pub turned_silent : (up : Bool) (t : ℕ) (w : World) (m : Step) → sends_begin
 turned_silent up t w m s = ap (λ b. if b && not up then after t (after t w m) Stops else after t w m) s
 
 -- A step that sends no BEGIN was written: these calls and this history are left. It was done, whatever the log is.
-pub alone_done : (t : TxNo) (w : World) (m : Step) (x : LogKept) (old : TxState) {ks : List EnteredCall} {n : List Entry} → false ≡ sends_begin t.value w m
+pub alone_done : (t : TxNo) (w : World) (m : Step) (x : LogKept) (old : TxState) {ks : List EnteredCall} {n : List Entry} → is_apart m ≡ true → false ≡ sends_begin t.value w m
     → ks ≡ entered m w.calls → n ≡ onto w.past (block_at t.value w m) → seen_as t w x ≡ old → DoesAlone m old (seen_as t (record { calls = ks; past = n }) x)
-alone_done t w m x old {ks} {n} silent calls past was =
+alone_done t w m x old {ks} {n} apart silent calls past was =
     let v : World = record { calls = ks; past = n } in
     let done : v ≡ turned true t.value w m = world_written t.value w m true false ks (onto w.past (block_at t.value w m)) n calls silent refl past in
     let alone : DoesAlone m (seen_as t w x) (seen_as t v x) = record {
@@ -41,6 +42,7 @@ alone_done t w m x old {ks} {n} silent calls past was =
       world = done ∙ turned_silent true t.value w m (sym silent);
       silent = sym silent;
       life = refl;
+      kept = apart_kept m (seen_as t w x) (seen_as t v x) apart (refl, refl);
     } in
     subst (λ (y : TxState). DoesAlone m y (seen_as t v x)) was alone
 
@@ -50,6 +52,7 @@ at_alone up life m old new d = record {
   transaction = d.transaction;
   world = d.world ∙ sym (turned_silent up old.transaction.value old.world m d.silent);
   life = d.life ∙ ap (λ b. if b then life else old.life) (sym d.silent);
+  kept = d.kept;
 }
 
 -- and one that was done with some log was done alone
@@ -59,21 +62,22 @@ alone_at up life m old new silent d = record {
   world = d.world ∙ turned_silent up old.transaction.value old.world m silent;
   silent = silent;
   life = d.life ∙ ap (λ b. if b then life else old.life) silent;
+  kept = d.kept;
 }
 
 -- a step that was done where the log is up and lives so was done with that log, where it isn't the coordinator's act
 pub does_at : {D : Type 0} (faults : D → ℕ) (up : Bool) (life : ℕ) (m : Step) (old new : TxState) (log : LogState D) → up ≡ log.is_up → life ≡ log.life → IsAnswered faults old log log m
-    → IsKeptAfter old new m → DoesAt up life m old new → Does faults m old log new log
-does_at faults up life m old new log is lives answered kept d = record {
+    → DoesAt up life m old new → Does faults m old log new log
+does_at faults up life m old new log is lives answered d = record {
   transaction = d.transaction;
   world = d.world ∙ ap (λ b. turned b old.transaction.value old.world m) is;
   life = d.life ∙ ap (λ n. if sends_begin old.transaction.value old.world m then n else old.life) lives;
   answered = answered;
-  kept = kept;
+  kept = d.kept;
 }
 
-pub does_alone : {D : Type 0} (faults : D → ℕ) (m : Step) (old new : TxState) (log : LogState D) → IsAnswered faults old log log m → IsKeptAfter old new m → DoesAlone m old new → Does faults m old log new log
-does_alone faults m old new log answered kept d = does_at faults log.is_up log.life m old new log refl refl answered kept (at_alone log.is_up log.life m old new d)
+pub does_alone : {D : Type 0} (faults : D → ℕ) (m : Step) (old new : TxState) (log : LogState D) → IsAnswered faults old log log m → DoesAlone m old new → Does faults m old log new log
+does_alone faults m old new log answered d = does_at faults log.is_up log.life m old new log refl refl answered (at_alone log.is_up log.life m old new d)
 
 -- the same of a call's answer
 pub ok_at_alone : {A E : Type 0} (r : Result A E) (up : Bool) (life : ℕ) (m : Step) (old new : TxState) → OnOk r (DoesAlone m old new) → OnOk r (DoesAt up life m old new)
@@ -86,9 +90,9 @@ ok_alone_at (Ok x) up life m old new silent d = alone_at up life m old new silen
 ok_alone_at (Err e) up life m old new silent d = tt
 
 pub ok_does_at : {D A E : Type 0} (faults : D → ℕ) (r : Result A E) (up : Bool) (life : ℕ) (m : Step) (old new : TxState) (log : LogState D) → up ≡ log.is_up → life ≡ log.life
-    → IsAnswered faults old log log m → IsKeptAfter old new m → OnOk r (DoesAt up life m old new) → OnOk r (Does faults m old log new log)
-ok_does_at faults (Ok x) up life m old new log is lives answered kept d = does_at faults up life m old new log is lives answered kept d
-ok_does_at faults (Err e) up life m old new log is lives answered kept d = tt
+    → IsAnswered faults old log log m → OnOk r (DoesAt up life m old new) → OnOk r (Does faults m old log new log)
+ok_does_at faults (Ok x) up life m old new log is lives answered d = does_at faults up life m old new log is lives answered d
+ok_does_at faults (Err e) up life m old new log is lives answered d = tt
 
 -- what a `do` is answered, which has no facts
 pub did_answer : (t : TxNo) (w : World) (h : Known) (k : CoreKept) (c : Call) (m : ℕ) (x : Answer) → Kept t w h k → is_do c ≡ true → x ≡ if_begun h.half.seen.limit (Did m) → x ≡ answer_at t.value w c m

@@ -24,8 +24,9 @@ use Rattle.outcome_law.proofs.CoreStages.{stopped_same}
 use Rattle.outcome_law.proofs.Scans.{each_more}
 use Rattle.local_half.specs.Half.{Known, after as known_after, fits_due}
 use Rattle.coordinator_core.specs.Kept.{Kept as CoreKept}
-use Rattle.tx_world.specs.State.{sends_begin, turned}
+use Rattle.tx_world.specs.State.{TxState, sends_begin, turned}
 use Rattle.tx_world.specs.Stepping.{DoesAt}
+use Rattle.tx_world.proofs.StillTied.{apart_kept, is_apart}
 use Rattle.world_laws.specs.Carried.{are_sendable}
 use Rattle.world_laws.specs.Course.{is_far, is_near, is_written}
 use Rattle.tx_world.specs.Kept.{Kept, stop_if, stopped_if}
@@ -87,13 +88,12 @@ written_kept t w m up begins g k j calls past n kept runs same sends block wrote
 
 -- the step was done
 pub does_step : (m : Step) (t : TxNo) (w v : World) (ours : Option CommitRecord) (unsure : Bool) (life now : ℕ) (up : Bool) (log_life : ℕ) (begins : Bool)
-    → v ≡ turned up t.value w m → begins ≡ sends_begin t.value w m → now ≡ (if begins then log_life else life)
+    → is_apart m ≡ true → v ≡ turned up t.value w m → begins ≡ sends_begin t.value w m → now ≡ (if begins then log_life else life)
     → DoesAt up log_life m (record { transaction = t; world = w; ours = ours; unsure = unsure; life = life }) (record { transaction = t; world = v; ours = ours; unsure = unsure; life = now })
-does_step m t w v ours unsure life now up log_life begins same sends lives = record {
-  transaction = refl;
-  world = same;
-  life = lives ∙ ap (λ b. if b then log_life else life) sends;
-}
+does_step m t w v ours unsure life now up log_life begins apart same sends lives =
+    let old : TxState = record { transaction = t; world = w; ours = ours; unsure = unsure; life = life } in
+    let new : TxState = record { transaction = t; world = v; ours = ours; unsure = unsure; life = now } in
+    record { transaction = refl; world = same; life = lives ∙ ap (λ b. if b then log_life else life) sends; kept = apart_kept m old new apart (refl, refl) }
 
 -- A step of the local side is ready to be written after h, which is its past with what came: its half took it, and with these entries its block is whole.
 pub record Ready (t : TxNo) (w : World) (m : Step) (g : Known) (k : CoreKept) (h xs : List Entry) : Type 0 where

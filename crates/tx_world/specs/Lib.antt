@@ -9,5 +9,6 @@ pub mod Names
 pub mod Managers
 pub mod OwnCalls
 pub mod Prepared
+pub mod Leaves
 pub mod Recorded
 pub mod Sending

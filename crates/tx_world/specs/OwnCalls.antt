@@ -18,7 +18,7 @@ use Rattle.dtx_model.specs.Caused.{IsNamed}
 use Rattle.coordinator_log.specs.State.{LogState}
 use Rattle.local_half.specs.Half.{fits_due}
 use Rattle.tx_world.specs.State.{TxState, sends_begin}
-use Rattle.tx_world.specs.Stepping.{Does, IsToPlan, is_to_promote, Settles, Stepped}
+use Rattle.tx_world.specs.Stepping.{Does, IsKeptAfter, IsToPlan, is_to_promote, Settles, Stepped}
 
 -- the status of a transaction that was decided so, or wasn't decided
 abbrev pub status_of : Option Outcome → Status
@@ -57,6 +57,7 @@ pub record DoesAlone (m : Step) (old new : TxState) : Type 0 where
   pub world : new.world ≡ after old.transaction.value old.world m
   pub silent : sends_begin old.transaction.value old.world m ≡ false
   pub life : new.life ≡ old.life
+  pub kept : IsKeptAfter old new m
 
 -- the reply fits the note to which one is due, where one is, and that isn't one to promote
 abbrev pub may_reply_alone : Reply → Option Note → Bool

@@ -51,6 +51,7 @@ pub record DoesAt (up : Bool) (log_life : ℕ) (m : Step) (old new : TxState) : 
   pub transaction : new.transaction ≡ old.transaction
   pub world : new.world ≡ turned up old.transaction.value old.world m
   pub life : new.life ≡ life_after log_life old.transaction.value old.world m old.life
+  pub kept : IsKeptAfter old new m
 
 -- this step was done, while the log went from one state to the other
 pub record Does {D : Type 0} (faults : D → ℕ) (m : Step) (old : TxState) (from : LogState D) (new : TxState) (to : LogState D) : Type 0 where

@@ -1,5 +1,5 @@
 //! What a coordinator keeps of the log, and its act there.
-ghost use Rattle.std.specs.Prelude.{ℕ, ◌≡◌, ◌≤◌, ◌⊎◌, ◌↔◌, ◌||◌, ◌∷◌, [], Option, Some, None, IsOk, IfErr, IsTrue, true, false, is_some};
+ghost use Rattle.std.specs.Prelude.{ℕ, ◌≡◌, ◌⊎◌, ◌↔◌, ◌||◌, ◌∷◌, [], Option, Some, None, IsOk, IfErr, IsTrue, true, false, is_some};
 ghost use Rattle.std.specs.Option.{option_map};
 ghost use Rattle.dtx_values.specs.Outgoing.{written};
 ghost use Rattle.dtx_values.specs.declared.entry.Entry.TheVariants.{Freed, Restarted, Stopped};
@@ -11,8 +11,8 @@ ghost use Rattle.dtx_model.specs.Promotes.{identifier_of};
 ghost use Rattle.coordinator_core.specs.Acting.{record_for};
 ghost use Rattle.coordinator_core.specs.Kept.{HasRoom, HasRoomFor};
 ghost use Rattle.coordinator_log.specs.Slots.{open_records};
-ghost use Rattle.tx_world.specs.AtLog.{Acts, IsFit, IsOurs, Keeps, LeavesSlots, Tie};
-ghost use Rattle.tx_world.specs.Prepared.{Names};
+ghost use Rattle.tx_world.specs.AtLog.{Acts, IsFit, IsOurs, Tie};
+ghost use Rattle.tx_world.specs.Leaves.{IsLater, LeavesKept};
 
 use coordinator_core::{Core, CoreAct};
 use coordinator_log::{Log, LogRefusal};
@@ -119,16 +119,8 @@ impl AtLog {
         requires room { HasRoomFor 41 out.old }
         ensures transaction { core.new.transaction ≡ core.old.transaction }
         ensures acts { Acts D.faults core.old.transaction.value core.old.state self.old out.old log.old core.new.state self.new out.new log.new }
-        ensures ours { IsOurs (identifier_of core.old.transaction.value) core.new.state self.new }
-        ensures life { (self.new.life ≡ self.old.life) × (log.new.life ≡ log.old.life) }
-        ensures kept { IsTrue D.honest → Keeps D.image (identifier_of core.old.transaction.value) (IsFit (identifier_of core.old.transaction.value) self.old.ours self.old.unsure)
-            (IsFit (identifier_of core.old.transaction.value) self.new.ours self.new.unsure) log.old log.new }
-        ensures slots { LeavesSlots (identifier_of core.old.transaction.value) self.old.ours self.new.ours log.old log.new }
-        ensures named { Names core.old.transaction.value self.old.ours core.old.state → Names core.old.transaction.value self.new.ours core.new.state }
-        ensures had { core.new.state.stopped ≡ true → is_some self.old.ours ≡ true → is_some self.new.ours ≡ true }
-        ensures grows { D.faults log.old.disk ≤ D.faults log.new.disk }
-        ensures unarmed { log.old.armed ≡ None → log.new.armed ≡ None }
-        ensures still { IsTrue log.new.is_up → IsTrue log.old.is_up }
+        ensures leaves { LeavesKept D.honest D.image core.old.transaction.value core.old.state self.old log.old core.new.state self.new log.new }
+        ensures later { IsLater D.faults log.old log.new }
     {
         match log.append(self.life, &kept) {
             Ok(_) => {
@@ -180,16 +172,8 @@ impl AtLog {
         requires room { HasRoomFor 41 out.old }
         ensures transaction { core.new.transaction ≡ core.old.transaction }
         ensures acts { Acts D.faults core.old.transaction.value core.old.state self.old out.old log.old core.new.state self.new out.new log.new }
-        ensures ours { IsOurs (identifier_of core.old.transaction.value) core.new.state self.new }
-        ensures life { (self.new.life ≡ self.old.life) × (log.new.life ≡ log.old.life) }
-        ensures kept { IsTrue D.honest → Keeps D.image (identifier_of core.old.transaction.value) (IsFit (identifier_of core.old.transaction.value) self.old.ours self.old.unsure)
-            (IsFit (identifier_of core.old.transaction.value) self.new.ours self.new.unsure) log.old log.new }
-        ensures slots { LeavesSlots (identifier_of core.old.transaction.value) self.old.ours self.new.ours log.old log.new }
-        ensures named { Names core.old.transaction.value self.old.ours core.old.state → Names core.old.transaction.value self.new.ours core.new.state }
-        ensures had { core.new.state.stopped ≡ true → is_some self.old.ours ≡ true → is_some self.new.ours ≡ true }
-        ensures grows { D.faults log.old.disk ≤ D.faults log.new.disk }
-        ensures unarmed { log.old.armed ≡ None → log.new.armed ≡ None }
-        ensures still { IsTrue log.new.is_up → IsTrue log.old.is_up }
+        ensures leaves { LeavesKept D.honest D.image core.old.transaction.value core.old.state self.old log.old core.new.state self.new log.new }
+        ensures later { IsLater D.faults log.old log.new }
     {
         match log.free(self.life, id) {
             Ok(()) => self.freed(core, out),
@@ -218,16 +202,8 @@ impl AtLog {
         requires room { HasRoomFor 41 out.old }
         ensures transaction { core.new.transaction ≡ core.old.transaction }
         ensures acts { Acts D.faults core.old.transaction.value core.old.state self.old out.old log.old core.new.state self.new out.new log.new }
-        ensures ours { IsOurs (identifier_of core.old.transaction.value) core.new.state self.new }
-        ensures life { (self.new.life ≡ self.old.life) × (log.new.life ≡ log.old.life) }
-        ensures kept { IsTrue D.honest → Keeps D.image (identifier_of core.old.transaction.value) (IsFit (identifier_of core.old.transaction.value) self.old.ours self.old.unsure)
-            (IsFit (identifier_of core.old.transaction.value) self.new.ours self.new.unsure) log.old log.new }
-        ensures slots { LeavesSlots (identifier_of core.old.transaction.value) self.old.ours self.new.ours log.old log.new }
-        ensures named { Names core.old.transaction.value self.old.ours core.old.state → Names core.old.transaction.value self.new.ours core.new.state }
-        ensures had { core.new.state.stopped ≡ true → is_some self.old.ours ≡ true → is_some self.new.ours ≡ true }
-        ensures grows { D.faults log.old.disk ≤ D.faults log.new.disk }
-        ensures unarmed { log.old.armed ≡ None → log.new.armed ≡ None }
-        ensures still { IsTrue log.new.is_up → IsTrue log.old.is_up }
+        ensures leaves { LeavesKept D.honest D.image core.old.transaction.value core.old.state self.old log.old core.new.state self.new log.new }
+        ensures later { IsLater D.faults log.old log.new }
     {
         match core.act() {
             Some(CoreAct::WriteRecord(record)) => self.append(record, core, log, out),

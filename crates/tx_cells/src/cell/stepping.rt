@@ -1,11 +1,12 @@
 //! Doing a pending step.
-ghost use Rattle.std.specs.Prelude.{◌≡◌, ◌<◌, ◌≤◌, None, Ok, IfErr, IfOk, OnOk, IsTrue, true, false};
+ghost use Rattle.std.specs.Prelude.{◌≡◌, ◌<◌, None, Ok, IfErr, IfOk, OnOk, IsTrue, true, false};
 ghost use Rattle.coordinator_log.specs.Slots.{open_records};
 ghost use Rattle.dtx_model.specs.Steps.{pending};
 ghost use Rattle.dtx_model.specs.Words.{kth};
 ghost use Rattle.tx_cells.specs.Ties.{IsCause, TiesWith};
 ghost use Rattle.tx_cells.specs.Turns.{with_tx};
-ghost use Rattle.tx_world.specs.AtLog.{AtMostOne, KeepsLog, KeepsSlots, id_of};
+ghost use Rattle.tx_world.specs.AtLog.{AtMostOne, id_of};
+ghost use Rattle.tx_world.specs.Leaves.{IsLater, Leaves};
 ghost use Rattle.tx_world.specs.OwnCalls.{DoesKthAlone};
 ghost use Rattle.tx_world.specs.Stepping.{DoesKth, needs_log};
 ghost use Rattle.world_laws.specs.Left.{steps_left};
@@ -61,12 +62,8 @@ impl<N: Run> CellState<N> {
         ensures some { result ≡ Ok true → DoesKth D.faults k self.old.tx log.old self.new.tx log.new }
         ensures nearer { result ≡ Ok true → steps_left self.new.tx.world < steps_left self.old.tx.world }
         ensures same { self.new ≡ with_tx self.new.tx self.old }
-        ensures kept { OnOk result (IsTrue D.honest → KeepsLog D.image self.old.tx log.old self.new.tx log.new) }
-        ensures slots { KeepsSlots self.old.tx log.old self.new.tx log.new }
-        ensures life { log.new.life ≡ log.old.life }
-        ensures grows { D.faults log.old.disk ≤ D.faults log.new.disk }
-        ensures unarmed { log.old.armed ≡ None → log.new.armed ≡ None }
-        ensures still { IsTrue log.new.is_up → IsTrue log.old.is_up }
+        ensures leaves { OnOk result (Leaves D.honest D.image D.faults self.old.tx log.old self.new.tx log.new) }
+        ensures later { IsLater D.faults log.old log.new }
         ensures cause { IfErr result (λ e. IsCause self.old.tx log.old e × (self.new ≡ self.old) × (log.new ≡ log.old)) }
     {
         if let Err(differs) = self.world.ties(log) {

@@ -53,7 +53,6 @@ impl TxWorld {
         requires answers { MayAnswer self.old.transaction.value self.old.world c.now 0 }
         ensures answer { IfOk result (λ a. a ≡ answer_at self.old.transaction.value self.old.world c.now 0) }
         ensures done { OnOk result (DoesAlone (Calls line actor c.now 0) self.old self.new) }
-        ensures ours { (self.new.ours ≡ self.old.ours) × (self.new.unsure ≡ self.old.unsure) }
         ensures named { NamesPrepared self.old → NamesPrepared self.new }
         ensures memory { OnErr result (self.new ≡ self.old) }
     {
@@ -81,7 +80,6 @@ impl TxWorld {
         requires alone { is_to_promote (due_of (half self.old.world).seen e.value) ≡ false }
         ensures due { IfOk result (λ b. b ≡ is_some (due_of (half self.old.world).seen e.value)) }
         ensures done { result ≡ Ok true → DoesAlone (Replies e r) self.old self.new }
-        ensures ours { (self.new.ours ≡ self.old.ours) × (self.new.unsure ≡ self.old.unsure) }
         ensures named { NamesPrepared self.old → NamesPrepared self.new }
         ensures unchanged { result ≡ Ok false → self.new ≡ self.old }
         ensures memory { OnErr result (self.new ≡ self.old) }

@@ -1,5 +1,5 @@
 //! The coordinator at the log: its act there, what an opening of the log says to it, and whether what it keeps ties with what the log has.
-ghost use Rattle.std.specs.Prelude.{ℕ, ◌≡◌, ◌≤◌, ◌&&◌, ◌||◌, ◌∷◌, ◌↔◌, ◌⊎◌, not, nat_le, Option, None, Ok, IfOk, OnOk, OnErr, IfErr, IsOk, IsTrue, true, false, is_some};
+ghost use Rattle.std.specs.Prelude.{ℕ, ◌≡◌, ◌&&◌, ◌||◌, ◌∷◌, ◌↔◌, ◌⊎◌, not, nat_le, Option, Ok, IfOk, OnOk, OnErr, IfErr, IsOk, IsTrue, true, false, is_some};
 ghost use Rattle.std.specs.Option.{option_map};
 ghost use Rattle.dtx_values.specs.declared.record.Differs.{Differs};
 ghost use Rattle.dtx_values.specs.declared.record.LogRecord.{LogRecord};
@@ -11,8 +11,9 @@ ghost use Rattle.dtx_model.specs.Steps.{LogAnswer, Coordinates, Restarts, after}
 ghost use Rattle.dtx_model.specs.Caused.{may_coordinate};
 ghost use Rattle.coordinator_log.specs.Slots.{open_records};
 ghost use Rattle.tx_world.specs.State.{is_reached_by};
-ghost use Rattle.tx_world.specs.AtLog.{Fits, KeepsLog, IsHad, KeepsSlots, Tie, id_of};
+ghost use Rattle.tx_world.specs.AtLog.{Fits, IsHad, Tie, id_of};
 ghost use Rattle.tx_world.specs.Stepping.{Does};
+ghost use Rattle.tx_world.specs.Leaves.{Leaves};
 ghost use Rattle.tx_world.specs.Prepared.{NamesPrepared};
 
 use super::{TxWorld, identifier};
@@ -39,13 +40,7 @@ impl TxWorld {
         requires fits { IsTrue D.honest → IsTrue log.old.is_up → Fits self.old (open_records log.old.slots) }
         ensures due { IfOk result (λ b. b ≡ (may_log (core self.old.world) || may_free (core self.old.world))) }
         ensures done { result ≡ Ok true → (a : LogAnswer) × (may_coordinate (core self.old.world) a ≡ true) × Does D.faults (Coordinates a) self.old log.old self.new log.new }
-        ensures kept { IsTrue D.honest → KeepsLog D.image self.old log.old self.new log.new }
-        ensures slots { KeepsSlots self.old log.old self.new log.new }
-        ensures named { NamesPrepared self.old → NamesPrepared self.new }
-        ensures life { log.new.life ≡ log.old.life }
-        ensures grows { D.faults log.old.disk ≤ D.faults log.new.disk }
-        ensures unarmed { log.old.armed ≡ None → log.new.armed ≡ None }
-        ensures still { IsTrue log.new.is_up → IsTrue log.old.is_up }
+        ensures leaves { Leaves D.honest D.image D.faults self.old log.old self.new log.new }
         ensures unchanged { result ≡ Ok false → (self.new ≡ self.old) × (log.new ≡ log.old) }
         ensures memory { OnErr result ((self.new ≡ self.old) × (log.new ≡ log.old)) }
     {

@@ -56,7 +56,6 @@ impl TxWorld {
         requires answers { MayAnswer self.old.transaction.value self.old.world c.now done }
         ensures answer { IfOk result (λ a. a ≡ answer_at self.old.transaction.value self.old.world c.now done) }
         ensures done { OnOk result (Does D.faults (Calls line actor c.now done) self.old log.now self.new log.now) }
-        ensures ours { (self.new.ours ≡ self.old.ours) × (self.new.unsure ≡ self.old.unsure) }
         ensures named { NamesPrepared self.old → NamesPrepared self.new }
         ensures memory { OnErr result (self.new ≡ self.old) }
     {
@@ -81,7 +80,6 @@ impl TxWorld {
         requires answers { MayAnswer self.old.transaction.value self.old.world c.now done }
         ensures answer { IfOk result (λ a. a ≡ answer_at self.old.transaction.value self.old.world c.now done) }
         ensures done { OnOk result (DoesAt up life (Calls line actor c.now done) self.old self.new) }
-        ensures ours { (self.new.ours ≡ self.old.ours) × (self.new.unsure ≡ self.old.unsure) }
         ensures memory { OnErr result (self.new ≡ self.old) }
     {
         if self.is_near(c) {
@@ -136,7 +134,6 @@ impl TxWorld {
         requires far { is_near self.old.world c.now ≡ false }
         requires fine { answer_at self.old.transaction.value self.old.world c.now done ≡ Fine }
         ensures done { OnOk result (DoesAlone (Calls line actor c.now done) self.old self.new) }
-        ensures ours { (self.new.ours ≡ self.old.ours) × (self.new.unsure ≡ self.old.unsure) }
         ensures memory { OnErr result (self.new ≡ self.old) }
     {
         match *c {
@@ -162,7 +159,6 @@ impl TxWorld {
         requires answer { answer ≡ answer_at self.old.transaction.value self.old.world c.now done }
         requires alone { has_facts answer ≡ false }
         ensures done { OnOk result (DoesAlone (Calls line actor c.now done) self.old self.new) }
-        ensures ours { (self.new.ours ≡ self.old.ours) × (self.new.unsure ≡ self.old.unsure) }
         ensures memory { OnErr result (self.new ≡ self.old) }
     {
         reserve_call(&mut self.calls)?;

@@ -16,7 +16,6 @@ impl TxWorld {
     pub(super) fn deliver_up(&mut self, out: &mut Outbox, c: Conn) -> Result<bool, WorldError>
         ensures left { IfOk result (λ b. b ≡ has_left c Up self.old.world.past) }
         ensures done { result ≡ Ok true → DoesAlone (Delivers c Up) self.old self.new }
-        ensures ours { (self.new.ours ≡ self.old.ours) × (self.new.unsure ≡ self.old.unsure) }
         ensures named { NamesPrepared self.old → NamesPrepared self.new }
         ensures unchanged { result ≡ Ok false → self.new ≡ self.old }
         ensures memory { OnErr result (self.new ≡ self.old) }
@@ -35,7 +34,6 @@ impl TxWorld {
     pub(super) fn deliver_down(&mut self, out: &mut Outbox, c: Conn) -> Result<bool, WorldError>
         ensures left { IfOk result (λ b. b ≡ has_left c Down self.old.world.past) }
         ensures done { result ≡ Ok true → DoesAlone (Delivers c Down) self.old self.new }
-        ensures ours { (self.new.ours ≡ self.old.ours) × (self.new.unsure ≡ self.old.unsure) }
         ensures named { NamesPrepared self.old → NamesPrepared self.new }
         ensures unchanged { result ≡ Ok false → self.new ≡ self.old }
         ensures memory { OnErr result (self.new ≡ self.old) }

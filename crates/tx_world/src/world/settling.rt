@@ -1,13 +1,13 @@
 //! Doing the pending steps, one or all.
-ghost use Rattle.std.specs.Prelude.{◌≡◌, ◌≤◌, ◌<◌, Ok, None, IfOk, OnErr, IsTrue, true, false};
+ghost use Rattle.std.specs.Prelude.{◌≡◌, ◌<◌, Ok, None, IfOk, OnErr, IsTrue, true, false};
 ghost use Rattle.dtx_model.specs.Words.{kth};
 ghost use Rattle.dtx_model.specs.Steps.{pending};
 ghost use Rattle.coordinator_log.specs.Slots.{open_records};
-ghost use Rattle.tx_world.specs.AtLog.{Fits, KeepsLog, KeepsSlots};
+ghost use Rattle.tx_world.specs.AtLog.{Fits};
 ghost use Rattle.world_laws.specs.Left.{steps_left};
 ghost use Rattle.tx_world.specs.OwnCalls.{Repeats};
 ghost use Rattle.tx_world.specs.Stepping.{DoesKth, Settles, SomeSteps};
-ghost use Rattle.tx_world.specs.Prepared.{NamesPrepared};
+ghost use Rattle.tx_world.specs.Leaves.{Leaves};
 
 use super::TxWorld;
 use crate::refusal::WorldError;
@@ -31,13 +31,7 @@ impl TxWorld {
         ensures none { result ≡ Ok false → (kth (pending self.old.world) k ≡ None) × (self.new ≡ self.old) × (log.new ≡ log.old) }
         ensures some { result ≡ Ok true → DoesKth D.faults k self.old log.old self.new log.new }
         ensures nearer { result ≡ Ok true → steps_left self.new.world < steps_left self.old.world }
-        ensures kept { IsTrue D.honest → KeepsLog D.image self.old log.old self.new log.new }
-        ensures slots { KeepsSlots self.old log.old self.new log.new }
-        ensures named { NamesPrepared self.old → NamesPrepared self.new }
-        ensures life { log.new.life ≡ log.old.life }
-        ensures grows { D.faults log.old.disk ≤ D.faults log.new.disk }
-        ensures unarmed { log.old.armed ≡ None → log.new.armed ≡ None }
-        ensures still { IsTrue log.new.is_up → IsTrue log.old.is_up }
+        ensures leaves { Leaves D.honest D.image D.faults self.old log.old self.new log.new }
         ensures memory { OnErr result ((self.new ≡ self.old) × (log.new ≡ log.old)) }
     {
         self.is_own_run();
@@ -56,14 +50,7 @@ impl TxWorld {
         ensures repeated { IfOk result (λ m. Repeats D.faults k n m self.old log.old self.new log.new) }
         ensures memory { OnErr result (SomeSteps D.faults k self.old log.old self.new log.new) }
         ensures transaction { self.new.transaction ≡ self.old.transaction }
-        ensures fits { IsTrue D.honest → IsTrue log.new.is_up → Fits self.new (open_records log.new.slots) }
-        ensures kept { IsTrue D.honest → KeepsLog D.image self.old log.old self.new log.new }
-        ensures slots { KeepsSlots self.old log.old self.new log.new }
-        ensures named { NamesPrepared self.old → NamesPrepared self.new }
-        ensures life { log.new.life ≡ log.old.life }
-        ensures grows { D.faults log.old.disk ≤ D.faults log.new.disk }
-        ensures unarmed { log.old.armed ≡ None → log.new.armed ≡ None }
-        ensures still { IsTrue log.new.is_up → IsTrue log.old.is_up }
+        ensures leaves { Leaves D.honest D.image D.faults self.old log.old self.new log.new }
     {
         let mut count = 0;
         while count < n {
@@ -85,14 +72,7 @@ impl TxWorld {
         ensures settled { IfOk result (λ n. Settles D.faults n self.old log.old self.new log.new) }
         ensures memory { OnErr result (SomeSteps D.faults 1 self.old log.old self.new log.new) }
         ensures transaction { self.new.transaction ≡ self.old.transaction }
-        ensures fits { IsTrue D.honest → IsTrue log.new.is_up → Fits self.new (open_records log.new.slots) }
-        ensures kept { IsTrue D.honest → KeepsLog D.image self.old log.old self.new log.new }
-        ensures slots { KeepsSlots self.old log.old self.new log.new }
-        ensures named { NamesPrepared self.old → NamesPrepared self.new }
-        ensures life { log.new.life ≡ log.old.life }
-        ensures grows { D.faults log.old.disk ≤ D.faults log.new.disk }
-        ensures unarmed { log.old.armed ≡ None → log.new.armed ≡ None }
-        ensures still { IsTrue log.new.is_up → IsTrue log.old.is_up }
+        ensures leaves { Leaves D.honest D.image D.faults self.old log.old self.new log.new }
     {
         let count = self.repeat(log, out, 1, u32::MAX)?;
         if count == u32::MAX {

@@ -34,7 +34,6 @@ impl TxWorld {
         requires fits { fits_due r (due_of (half self.old.world).seen e.value) ≡ true }
         ensures due { IfOk result (λ b. b ≡ is_some (due_of (half self.old.world).seen e.value)) }
         ensures done { result ≡ Ok true → Does D.faults (Replies e r) self.old log.now self.new log.now }
-        ensures ours { (self.new.ours ≡ self.old.ours) × (self.new.unsure ≡ self.old.unsure) }
         ensures named { NamesPrepared self.old → NamesPrepared self.new }
         ensures unchanged { result ≡ Ok false → self.new ≡ self.old }
         ensures memory { OnErr result (self.new ≡ self.old) }
@@ -54,7 +53,6 @@ impl TxWorld {
         requires fits { fits_due r (due_of (half self.old.world).seen e.value) ≡ true }
         ensures due { IfOk result (λ b. b ≡ is_some (due_of (half self.old.world).seen e.value)) }
         ensures done { result ≡ Ok true → DoesAt up life (Replies e r) self.old self.new }
-        ensures ours { (self.new.ours ≡ self.old.ours) × (self.new.unsure ≡ self.old.unsure) }
         ensures named { NamesPrepared self.old → NamesPrepared self.new }
         ensures unchanged { result ≡ Ok false → self.new ≡ self.old }
         ensures memory { OnErr result (self.new ≡ self.old) }
@@ -74,7 +72,6 @@ impl TxWorld {
     pub(super) fn act_first(&mut self, out: &mut Outbox) -> Result<bool, WorldError>
         ensures first { result ≡ Ok true → kth (pending self.old.world) 1 ≡ Some LocalAct }
         ensures done { result ≡ Ok true → DoesAlone Acts self.old self.new }
-        ensures ours { (self.new.ours ≡ self.old.ours) × (self.new.unsure ≡ self.old.unsure) }
         ensures named { NamesPrepared self.old → NamesPrepared self.new }
         ensures unchanged { result ≡ Ok false → self.new ≡ self.old }
         ensures memory { OnErr result (self.new ≡ self.old) }
@@ -89,7 +86,6 @@ impl TxWorld {
     pub(super) fn act(&mut self, out: &mut Outbox) -> Result<bool, WorldError>
         ensures due { IfOk result (λ b. b ≡ not (is_empty (act_entries (half self.old.world)))) }
         ensures done { result ≡ Ok true → DoesAlone Acts self.old self.new }
-        ensures ours { (self.new.ours ≡ self.old.ours) × (self.new.unsure ≡ self.old.unsure) }
         ensures named { NamesPrepared self.old → NamesPrepared self.new }
         ensures unchanged { result ≡ Ok false → self.new ≡ self.old }
         ensures memory { OnErr result (self.new ≡ self.old) }

@@ -1,12 +1,13 @@
 //! The pending steps, and doing the k-th.
-ghost use Rattle.std.specs.Prelude.{◌≡◌, ◌≤◌, Ok, Some, None, IfOk, IfSome, OnOk, OnErr, IsTrue, true, false, length};
+ghost use Rattle.std.specs.Prelude.{◌≡◌, Ok, Some, None, IfOk, IfSome, OnOk, OnErr, IsTrue, true, false, length};
 ghost use Rattle.dtx_model.specs.Words.{kth};
 ghost use Rattle.dtx_model.specs.Steps.{pending};
 ghost use Rattle.coordinator_log.specs.Slots.{open_records};
-ghost use Rattle.tx_world.specs.AtLog.{Fits, KeepsLog, KeepsSlots};
+ghost use Rattle.tx_world.specs.AtLog.{Fits};
 ghost use Rattle.tx_world.specs.OwnCalls.{DoesAlone};
 ghost use Rattle.tx_world.specs.Pending.{IsAt, IsDueAt, IsDueIn, is_alone_step, name_of, step_of};
 ghost use Rattle.tx_world.specs.Stepping.{DoesKth, needs_log, reply_in};
+ghost use Rattle.tx_world.specs.Leaves.{Leaves};
 ghost use Rattle.tx_world.specs.Prepared.{NamesPrepared};
 
 use super::TxWorld;
@@ -113,13 +114,7 @@ impl TxWorld {
         requires fits { IsTrue D.honest → IsTrue log.old.is_up → Fits self.old (open_records log.old.slots) }
         ensures none { result ≡ Ok false → (kth (pending self.old.world) k ≡ None) × (self.new ≡ self.old) × (log.new ≡ log.old) }
         ensures some { result ≡ Ok true → DoesKth D.faults k self.old log.old self.new log.new }
-        ensures kept { IsTrue D.honest → KeepsLog D.image self.old log.old self.new log.new }
-        ensures slots { KeepsSlots self.old log.old self.new log.new }
-        ensures named { NamesPrepared self.old → NamesPrepared self.new }
-        ensures life { log.new.life ≡ log.old.life }
-        ensures grows { D.faults log.old.disk ≤ D.faults log.new.disk }
-        ensures unarmed { log.old.armed ≡ None → log.new.armed ≡ None }
-        ensures still { IsTrue log.new.is_up → IsTrue log.old.is_up }
+        ensures leaves { Leaves D.honest D.image D.faults self.old log.old self.new log.new }
         ensures memory { OnErr result ((self.new ≡ self.old) × (log.new ≡ log.old)) }
     {
         if k == 1 && self.act_first(out)? {

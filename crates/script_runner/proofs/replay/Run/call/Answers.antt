@@ -56,7 +56,7 @@ returns g c =
     let did : Entered g.D.Disk.faults log t c.args.n c.args.actor c.args.c.now c.args.done x y old new =
     entered_at_place g.D.Disk.faults log t c.args.n c.args.actor c.args.c.now c.args.done x y old new ws numbered made here same (ap (λ (r : RunState). r.script) c.self.view_is)
     (ap (λ (r : RunState). r.objects) c.self.view_is)
-    (ap (λ k. set ws k y) place) c.is_own_run.ensures.run c.in_ok-enter.ensures.done c.in_ok-enter.ensures.ours
+    (ap (λ k. set ws k y) place) c.is_own_run.ensures.run c.in_ok-enter.ensures.done c.in_ok-enter.ensures.done.kept
     (record { own = c.is_own_run-2.ensures.run; once = c.is_own_run-2.ensures.once; ours = c.is_own_run-2.ensures.ours; tried = c.is_own_run-2.ensures.tried })
     (noted ∙ ap (λ (r : RunState). r.trace ++ placed t (written log.is_up t.value x.world step)) c.self.view_is) in
     record {

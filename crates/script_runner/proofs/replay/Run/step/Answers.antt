@@ -83,14 +83,8 @@ done g c =
       may = may_give g c;
       does = subst (λ (j : ℕ). DoesGiven g.D.Disk.faults c.asked-reply.result j x c.args.log.now y c.do_kth.new.log) c.from-2.ensures (c.in_ok-do_kth.ensures.some did);
       nearer = c.in_ok-do_kth.ensures.nearer did;
-      kept = c.do_kth.ensures.kept;
-      slots = c.do_kth.ensures.slots;
-      life = c.do_kth.ensures.life;
-      grows = c.do_kth.ensures.grows;
-      unarmed = c.do_kth.ensures.unarmed;
-      still = c.do_kth.ensures.still;
+      leaves = c.do_kth.ensures.leaves;
       recorded = record { own = c.is_own_run-2.ensures.run; once = c.is_own_run-2.ensures.once; ours = c.is_own_run-2.ensures.ours; tried = c.is_own_run-2.ensures.tried };
-      named = c.do_kth.ensures.named;
     })
 
 -- the run after it, as its parts stand then

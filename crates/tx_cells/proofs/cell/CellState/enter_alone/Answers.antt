@@ -38,5 +38,5 @@ pub returns-clause-entered : goal.returns-clause-entered
 returns-clause-entered g c = λ due.
     let b : IsBefore g.N.Run.script g.N.Run.objects g.N.Run.honest c.self.inside.world c.self.inside.rows c.self.inside.out.items c.args.self.now c.args.a c.args.line c.in-Ok.call =
     record { view = c.self.view_is; kept = c.self.invariant.1; due = c.in-Ok.ensures.due.0; next = c.in-Ok.ensures.due.1 } in
-    enters_here DoesAlone g.N.Run.script g.N.Run.objects g.N.Run.honest c.self.inside.world c.self.inside.rows c.self.inside.out.items c.args.self.now c.args.a c.args.line c.in-Ok.call c.call_alone.new.self c.advance.new.self c.in_ok-answer.answer b c.in_ok-answer.ensures.answer c.in_ok-answer.ensures.done c.in_ok-answer.ensures.ours
+    enters_here DoesAlone g.N.Run.script g.N.Run.objects g.N.Run.honest c.self.inside.world c.self.inside.rows c.self.inside.out.items c.args.self.now c.args.a c.args.line c.in-Ok.call c.call_alone.new.self c.advance.new.self c.in_ok-answer.answer b c.in_ok-answer.ensures.answer c.in_ok-answer.ensures.done c.in_ok-answer.ensures.done.kept
     c.advance.ensures.here c.advance.ensures.others

@@ -31,4 +31,4 @@ returns-clause-entered g c = λ due.
     let b : IsBefore g.N.Run.script g.N.Run.objects g.N.Run.honest c.self.inside.world c.self.inside.rows c.self.inside.out.items c.args.self.now c.args.a c.args.line c.in-Ok.call =
     record { view = c.self.view_is; kept = c.self.invariant.1; due = c.in-Ok.ensures.due.0; next = c.in-Ok.ensures.due.1 } in
     enters_here (λ (m : Step) (x y : TxState). Does g.D.Disk.faults m x c.args.log.now y c.args.log.now) g.N.Run.script g.N.Run.objects g.N.Run.honest c.self.inside.world c.self.inside.rows c.self.inside.out.items c.args.self.now c.args.a c.args.line c.in-Ok.call c.enter.new.self c.advance.new.self c.in_ok-answer.answer b c.in_ok-answer.ensures.answer
-    c.in_ok-answer.ensures.done c.in_ok-answer.ensures.ours c.advance.ensures.here c.advance.ensures.others
+    c.in_ok-answer.ensures.done c.in_ok-answer.ensures.done.kept c.advance.ensures.here c.advance.ensures.others

@@ -18,11 +18,7 @@ invariant_of-self-2 g c =
       same = d.done.transaction;
       sure = c.is_up-was_up.ensures.images;
       tie = c.in_ok-do_step_over.ensures.tied;
-      keeps = c.in_ok-do_step_over.ensures.kept;
-      grows = c.do_step_over.ensures.grows;
-      life = c.do_step_over.ensures.life;
-      unarmed = c.do_step_over.ensures.unarmed;
-      still = c.do_step_over.ensures.still;
+      leaves = c.in_ok-do_step_over.ensures.leaves;
       step = d.step;
       answered = d.done.answered;
     } in

@@ -9,43 +9,20 @@ use Rattle.std.specs.Option.{option_map}
 use Rattle.dtx_model.specs.Coordinated.{Coordinated}
 use Rattle.dtx_model.specs.Steps.{StoppedNow, StoppedBefore}
 use Rattle.coordinator_log.specs.declared.refusal.LogRefusal.{LogRefusal}
-use Rattle.coordinator_log.specs.declared.refusal.LogRefusal.TheVariants.{Stopped as Refused}
+use Rattle.coordinator_log.specs.declared.refusal.LogRefusal.TheVariants.{Full as HasNone, Stopped as Refused}
 use Rattle.tx_world.specs.AtLog.{Kept}
 use Rattle.coordinator_log.specs.Slots.{lowest_closed}
-use Rattle.tx_world.proofs.Answering.{acts_before, acts_now, appending, broken_refused, kept_tried, may_append, never_both, none_refused, refused_unbroken, unchanged_by, was_up}
-use Rattle.tx_world.proofs.Fitting.{keeps_appended, keeps_stopped, none_found, slots_appended, slots_stopped}
+use Rattle.tx_world.proofs.Answering.{acts_before, acts_now, appending, broken_refused, full_unbroken, kept_tried, may_append, never_both, none_refused, refused_unbroken, unchanged_by, was_up}
+use Rattle.tx_world.proofs.Fitting.{keeps_appended, keeps_same, keeps_stopped, none_found, slots_appended, slots_same, slots_stopped}
 use Rattle.tx_world.proofs.Keeping.{none_kept, ours_full, ours_logged, ours_stopped, runs_then}
 use Rattle.tx_world.specs.Prepared.{Names}
 use Rattle.tx_world.proofs.Naming.{named_logged, named_stopped, named_tried, names_none}
 
--- the identifier, and that nothing is kept and nothing unsure
--- src/at_log.rt
 pub stop-requires-clause-up : goal.stop-requires-clause-up
 stop-requires-clause-up g c = runs_then c.args.core.now.state c.requires.votes
 
 pub stop-requires-in-Err-Stopped-clause-up : goal.stop-requires-in-Err-Stopped-clause-up
 stop-requires-in-Err-Stopped-clause-up g c = runs_then c.args.core.now.state c.requires.votes
-
-pub returns-in-Ok-clause-ours : goal.returns-in-Ok-clause-ours
-returns-in-Ok-clause-ours g c =
-    let id = identifier_of c.args.core.now.transaction.value in
-    let sure = ap (λ (x : Kept). x.unsure) c.self.view_is ∙ (none_kept id c.args.core.now.state c.args.self.now c.requires.votes c.requires.ours).1 in
-    let P : Coordinated → Type 0 = λ j. IsOurs id j (record { ours = Some (record_of c.args.kept); unsure = c.self.inside.unsure; life = c.self.inside.life }) in
-    subst P (sym c.logged.ensures.state) (ours_logged id c.args.core.now.state (record_of c.args.kept) c.self.inside.unsure c.self.inside.life c.requires.own sure)
-
-pub returns-in-Ok-clause-kept : goal.returns-in-Ok-clause-kept
-returns-in-Ok-clause-kept g c = λ honest.
-    let id = identifier_of c.args.core.now.transaction.value in
-    let none = none_kept id c.args.core.now.state c.args.self.now c.requires.votes c.requires.ours in
-    let up = was_up c.args.log.now.is_up (λ d. none_refused c.append.result c.in-Ok.field-0 c.in-Ok.is (c.append.ensures.stopped.1 (inl d))) in
-    keeps_appended g.D.Disk.image id c.in-Ok.field-0 (record_of c.args.kept) c.args.self.now.ours c.args.self.now.unsure c.self.inside.unsure c.args.log.now c.append.new.self c.requires.own
-    (none_found id c.args.self.now.ours c.args.self.now.unsure (open_records c.args.log.now.slots) none.0 none.1 (c.requires.fits honest up)) c.in-Ok.ensures.records (c.in-Ok.ensures.durable honest)
-
-pub returns-in-Err-Full-clause-ours : goal.returns-in-Err-Full-clause-ours
-returns-in-Err-Full-clause-ours g c =
-    let id = identifier_of c.args.core.now.transaction.value in
-    let P : Coordinated → Type 0 = λ j. IsOurs id j c.args.self.now in
-    subst P (sym c.log_full.ensures.state) (ours_full id c.args.core.now.state c.args.self.now c.requires.ours)
 
 pub returns-in-Err-StoppedNow-clause-acts : goal.returns-in-Err-StoppedNow-clause-acts
 returns-in-Err-StoppedNow-clause-acts g c =
@@ -58,23 +35,6 @@ returns-in-Err-StoppedNow-clause-acts g c =
     (λ x. broken_refused c.append.result broken (c.append.ensures.stopped.1 x)) (c.append.ensures.stopped_now broken).0 (appending c.args.core.now.state c.requires.votes)
     (c.append.ensures.cause broken) (c.append.ensures.used broken) (kept_tried c.args.core.now.transaction.value c.args.core.now.state inside (record_of c.args.kept) c.requires.votes c.requires.written))
 
-pub returns-in-Err-StoppedNow-clause-ours : goal.returns-in-Err-StoppedNow-clause-ours
-returns-in-Err-StoppedNow-clause-ours g c =
-    let id = identifier_of c.args.core.now.transaction.value in
-    let kept : Kept = record { ours = Some (record_of c.args.kept); unsure = true; life = c.self.inside.life } in
-    let P : Coordinated → Type 0 = λ j. IsOurs id j kept in
-    subst P (sym c.stop.ensures.state) (ours_stopped id c.args.core.now.state kept c.requires.own)
-
-pub returns-in-Err-StoppedNow-clause-kept : goal.returns-in-Err-StoppedNow-clause-kept
-returns-in-Err-StoppedNow-clause-kept g c = λ honest.
-    let id = identifier_of c.args.core.now.transaction.value in
-    let broken = c.in-Err-StoppedNow.is ∙ ap (λ (e : LogRefusal). Err e) c.in-Err-StoppedNow.field-0-is in
-    let none = none_kept id c.args.core.now.state c.args.self.now c.requires.votes c.requires.ours in
-    let up = was_up c.args.log.now.is_up (λ d. broken_refused c.append.result broken (c.append.ensures.stopped.1 (inl d))) in
-    keeps_stopped g.D.Disk.image id (lowest_closed c.args.log.now.slots) (record_of c.args.kept) c.args.self.now.ours c.args.self.now.unsure c.args.log.now c.append.new.self c.requires.own
-    (none_found id c.args.self.now.ours c.args.self.now.unsure (open_records c.args.log.now.slots) none.0 none.1 (c.requires.fits honest up)) (c.append.ensures.stopped_now broken).1
-    (λ u. never_both c.append.new.self.is_up u (c.append.ensures.stopped_now broken).0) (c.append.ensures.images honest up).images
-
 pub returns-in-Err-Stopped-clause-acts : goal.returns-in-Err-Stopped-clause-acts
 returns-in-Err-Stopped-clause-acts g c =
     let refused = c.in-Err-Stopped.is ∙ ap (λ (e : LogRefusal). Err e) c.in-Err-Stopped.field-0-is in
@@ -84,42 +44,82 @@ returns-in-Err-Stopped-clause-acts g c =
     (may_append c.args.core.now.state StoppedBefore c.requires.votes) c.stop-in-Err-Stopped.ensures.state c.stop-in-Err-Stopped.ensures.out (c.append.ensures.stopped.0 refused)
     (unchanged_by c.append.result Refused refused_unbroken refused c.append.ensures.unchanged) refl)
 
-pub returns-in-Err-Stopped-clause-ours : goal.returns-in-Err-Stopped-clause-ours
-returns-in-Err-Stopped-clause-ours g c =
-    let id = identifier_of c.args.core.now.transaction.value in
-    let P : Coordinated → Type 0 = λ j. IsOurs id j c.args.self.now in
-    subst P (sym c.stop-in-Err-Stopped.ensures.state) (ours_stopped id c.args.core.now.state c.args.self.now c.requires.ours.named)
+pub returns-in-Ok-clause-leaves : goal.returns-in-Ok-clause-leaves
+returns-in-Ok-clause-leaves g c =
+    record {
+      ours =
+          let id = identifier_of c.args.core.now.transaction.value in
+          let sure = ap (λ (x : Kept). x.unsure) c.self.view_is ∙ (none_kept id c.args.core.now.state c.args.self.now c.requires.votes c.requires.ours).1 in
+          let P : Coordinated → Type 0 = λ j. IsOurs id j (record { ours = Some (record_of c.args.kept); unsure = c.self.inside.unsure; life = c.self.inside.life }) in
+          subst P (sym c.logged.ensures.state) (ours_logged id c.args.core.now.state (record_of c.args.kept) c.self.inside.unsure c.self.inside.life c.requires.own sure);
+      had = λ stops some. refl;
+      kept = λ honest.
+          let id = identifier_of c.args.core.now.transaction.value in
+          let none = none_kept id c.args.core.now.state c.args.self.now c.requires.votes c.requires.ours in
+          let up = was_up c.args.log.now.is_up (λ d. none_refused c.append.result c.in-Ok.field-0 c.in-Ok.is (c.append.ensures.stopped.1 (inl d))) in
+          keeps_appended g.D.Disk.image id c.in-Ok.field-0 (record_of c.args.kept) c.args.self.now.ours c.args.self.now.unsure c.self.inside.unsure c.args.log.now c.append.new.self c.requires.own
+          (none_found id c.args.self.now.ours c.args.self.now.unsure (open_records c.args.log.now.slots) none.0 none.1 (c.requires.fits honest up)) c.in-Ok.ensures.records (c.in-Ok.ensures.durable honest);
+      slots =
+          slots_appended (identifier_of c.args.core.now.transaction.value) c.in-Ok.field-0 (record_of c.args.kept) c.args.self.now.ours c.args.log.now c.append.new.self c.requires.own c.in-Ok.ensures.records;
+      named = λ was.
+          let t = c.args.core.now.transaction.value in
+          let P : Coordinated → Type 0 = λ j. Names t (Some (record_of c.args.kept)) j in
+          subst P (sym c.logged.ensures.state) (named_logged t c.args.core.now.state (record_of c.args.kept) c.requires.written);
+    }
 
--- what is left of the records in memory
-pub returns-in-Ok-clause-slots : goal.returns-in-Ok-clause-slots
-returns-in-Ok-clause-slots g c =
-    slots_appended (identifier_of c.args.core.now.transaction.value) c.in-Ok.field-0 (record_of c.args.kept) c.args.self.now.ours c.args.log.now c.append.new.self c.requires.own c.in-Ok.ensures.records
+pub returns-in-Err-Full-clause-leaves : goal.returns-in-Err-Full-clause-leaves
+returns-in-Err-Full-clause-leaves g c =
+    record {
+      ours =
+          let id = identifier_of c.args.core.now.transaction.value in
+          let P : Coordinated → Type 0 = λ j. IsOurs id j c.args.self.now in
+          subst P (sym c.log_full.ensures.state) (ours_full id c.args.core.now.state c.args.self.now c.requires.ours);
+      had = λ stops some. some;
+      kept = λ honest. keeps_same g.D.Disk.image (identifier_of c.args.core.now.transaction.value) c.args.self.now.ours c.args.self.now.unsure c.args.log.now c.append.new.self (unchanged_by c.append.result (HasNone c.in-Err-Full.field-0-0) (full_unbroken c.in-Err-Full.field-0-0) (c.in-Err-Full.is ∙ ap (λ (e : LogRefusal). Err e) c.in-Err-Full.field-0-is) c.append.ensures.unchanged) (c.requires.fits honest);
+      slots = slots_same (identifier_of c.args.core.now.transaction.value) c.args.self.now.ours c.args.log.now c.append.new.self (unchanged_by c.append.result (HasNone c.in-Err-Full.field-0-0) (full_unbroken c.in-Err-Full.field-0-0) (c.in-Err-Full.is ∙ ap (λ (e : LogRefusal). Err e) c.in-Err-Full.field-0-is) c.append.ensures.unchanged);
+      named = λ was.
+          names_none c.args.core.now.transaction.value c.args.self.now.ours c.log_full.new.self.state
+          (none_kept (identifier_of c.args.core.now.transaction.value) c.args.core.now.state c.args.self.now c.requires.votes c.requires.ours).0;
+    }
 
-pub returns-in-Err-StoppedNow-clause-slots : goal.returns-in-Err-StoppedNow-clause-slots
-returns-in-Err-StoppedNow-clause-slots g c =
-    let broken = c.in-Err-StoppedNow.is ∙ ap (λ (e : LogRefusal). Err e) c.in-Err-StoppedNow.field-0-is in
-    slots_stopped (identifier_of c.args.core.now.transaction.value) c.args.self.now.ours (Some (record_of c.args.kept)) c.args.log.now c.append.new.self (c.append.ensures.stopped_now broken).1
-    (λ u. never_both c.append.new.self.is_up u (c.append.ensures.stopped_now broken).0)
+pub returns-in-Err-StoppedNow-clause-leaves : goal.returns-in-Err-StoppedNow-clause-leaves
+returns-in-Err-StoppedNow-clause-leaves g c =
+    record {
+      ours =
+          let id = identifier_of c.args.core.now.transaction.value in
+          let kept : Kept = record { ours = Some (record_of c.args.kept); unsure = true; life = c.self.inside.life } in
+          let P : Coordinated → Type 0 = λ j. IsOurs id j kept in
+          subst P (sym c.stop.ensures.state) (ours_stopped id c.args.core.now.state kept c.requires.own);
+      had = λ stops some. refl;
+      kept = λ honest.
+          let id = identifier_of c.args.core.now.transaction.value in
+          let broken = c.in-Err-StoppedNow.is ∙ ap (λ (e : LogRefusal). Err e) c.in-Err-StoppedNow.field-0-is in
+          let none = none_kept id c.args.core.now.state c.args.self.now c.requires.votes c.requires.ours in
+          let up = was_up c.args.log.now.is_up (λ d. broken_refused c.append.result broken (c.append.ensures.stopped.1 (inl d))) in
+          keeps_stopped g.D.Disk.image id (lowest_closed c.args.log.now.slots) (record_of c.args.kept) c.args.self.now.ours c.args.self.now.unsure c.args.log.now c.append.new.self c.requires.own
+          (none_found id c.args.self.now.ours c.args.self.now.unsure (open_records c.args.log.now.slots) none.0 none.1 (c.requires.fits honest up)) (c.append.ensures.stopped_now broken).1
+          (λ u. never_both c.append.new.self.is_up u (c.append.ensures.stopped_now broken).0) (c.append.ensures.images honest up).images;
+      slots =
+          let broken = c.in-Err-StoppedNow.is ∙ ap (λ (e : LogRefusal). Err e) c.in-Err-StoppedNow.field-0-is in
+          slots_stopped (identifier_of c.args.core.now.transaction.value) c.args.self.now.ours (Some (record_of c.args.kept)) c.args.log.now c.append.new.self (c.append.ensures.stopped_now broken).1
+          (λ u. never_both c.append.new.self.is_up u (c.append.ensures.stopped_now broken).0);
+      named = λ was.
+          let t = c.args.core.now.transaction.value in
+          let P : Coordinated → Type 0 = λ j. Names t (Some (record_of c.args.kept)) j in
+          subst P (sym c.stop.ensures.state) (named_tried t c.args.core.now.state (record_of c.args.kept) c.requires.written);
+    }
 
--- the record that is kept names who said PREPARED
-pub returns-in-Ok-clause-named : goal.returns-in-Ok-clause-named
-returns-in-Ok-clause-named g c = λ was.
-    let t = c.args.core.now.transaction.value in
-    let P : Coordinated → Type 0 = λ j. Names t (Some (record_of c.args.kept)) j in
-    subst P (sym c.logged.ensures.state) (named_logged t c.args.core.now.state (record_of c.args.kept) c.requires.written)
-
-pub returns-in-Err-Full-clause-named : goal.returns-in-Err-Full-clause-named
-returns-in-Err-Full-clause-named g c = λ was.
-    names_none c.args.core.now.transaction.value c.args.self.now.ours c.log_full.new.self.state
-    (none_kept (identifier_of c.args.core.now.transaction.value) c.args.core.now.state c.args.self.now c.requires.votes c.requires.ours).0
-
-pub returns-in-Err-StoppedNow-clause-named : goal.returns-in-Err-StoppedNow-clause-named
-returns-in-Err-StoppedNow-clause-named g c = λ was.
-    let t = c.args.core.now.transaction.value in
-    let P : Coordinated → Type 0 = λ j. Names t (Some (record_of c.args.kept)) j in
-    subst P (sym c.stop.ensures.state) (named_tried t c.args.core.now.state (record_of c.args.kept) c.requires.written)
-
-pub returns-in-Err-Stopped-clause-named : goal.returns-in-Err-Stopped-clause-named
-returns-in-Err-Stopped-clause-named g c = λ was.
-    let P : Coordinated → Type 0 = λ j. Names c.args.core.now.transaction.value c.args.self.now.ours j in
-    subst P (sym c.stop-in-Err-Stopped.ensures.state) (named_stopped c.args.core.now.transaction.value c.args.self.now.ours c.args.core.now.state was)
+pub returns-in-Err-Stopped-clause-leaves : goal.returns-in-Err-Stopped-clause-leaves
+returns-in-Err-Stopped-clause-leaves g c =
+    record {
+      ours =
+          let id = identifier_of c.args.core.now.transaction.value in
+          let P : Coordinated → Type 0 = λ j. IsOurs id j c.args.self.now in
+          subst P (sym c.stop-in-Err-Stopped.ensures.state) (ours_stopped id c.args.core.now.state c.args.self.now c.requires.ours.named);
+      had = λ stops some. some;
+      kept = λ honest. keeps_same g.D.Disk.image (identifier_of c.args.core.now.transaction.value) c.args.self.now.ours c.args.self.now.unsure c.args.log.now c.append.new.self (unchanged_by c.append.result Refused refused_unbroken (c.in-Err-Stopped.is ∙ ap (λ (e : LogRefusal). Err e) c.in-Err-Stopped.field-0-is) c.append.ensures.unchanged) (c.requires.fits honest);
+      slots = slots_same (identifier_of c.args.core.now.transaction.value) c.args.self.now.ours c.args.log.now c.append.new.self (unchanged_by c.append.result Refused refused_unbroken (c.in-Err-Stopped.is ∙ ap (λ (e : LogRefusal). Err e) c.in-Err-Stopped.field-0-is) c.append.ensures.unchanged);
+      named = λ was.
+          let P : Coordinated → Type 0 = λ j. Names c.args.core.now.transaction.value c.args.self.now.ours j in
+          subst P (sym c.stop-in-Err-Stopped.ensures.state) (named_stopped c.args.core.now.transaction.value c.args.self.now.ours c.args.core.now.state was);
+    }

@@ -8,7 +8,7 @@ use Rattle.dtx_model.specs.Tied.{tied}
 use Rattle.world_laws.specs.Carried.{are_sendable}
 use Rattle.world_laws.specs.Course.{is_written}
 use Rattle.tx_world.specs.Tried.{IsTried}
-use Rattle.tx_world.proofs.AtTheLog.{Acted, acted, acted_keeps, acted_named, acted_slots, acted_so, acted_tried, acted_whole, stop_only, written_only}
+use Rattle.tx_world.proofs.AtTheLog.{Acted, acted, acted_leaves, acted_life, acted_so, acted_tried, acted_whole, stop_only, written_only}
 use Rattle.tx_world.proofs.Written.{block_of, stopped_is, world_of}
 use Rattle.tx_world.proofs.world.TxWorld.act_at_log.Given.{Over}
 use Rattle.tx_world.proofs.world.TxWorld.act_at_log.Goals.{After-act, After-entries, After-stop, After-write}
@@ -21,13 +21,19 @@ did g c =
     let acts = c.act.ensures.acts in
     acted i.transaction (world_of i.calls.items i.history.past) i.half i.core c.act.new.core acts.answer c.self.invariant.kept acts.may c.act.ensures.transaction acts.state
 
+-- it lives on in its life,
+lived : (g : Over) (c : After-act g) → c.act.new.self.life ≡ c.self.inside.at_log.life
+lived g c =
+    let i = c.self.inside in
+    acted_life g.D.Disk.faults i.core.transaction.value i.core.state c.act.new.core.state i.at_log c.act.new.self c.clear.new.self c.act.new.out c.args.log.now c.act.new.log c.act.ensures.acts
+
 -- and what is kept then is what the history says
 tried : (g : Over) (c : After-act g) (n : List Entry) → n ≡ onto c.self.inside.history.past (coordinates c.self.inside.core.state c.act.ensures.acts.answer) → tied n ≡ true → IsTried n c.act.new.self
 tried g c n past =
     let i = c.self.inside in
     let acts = c.act.ensures.acts in
     let d = did g c in
-    acted_tried i.transaction (world_of i.calls.items i.history.past) i.half i.core c.act.new.core acts.answer n i.at_log c.act.new.self c.self.invariant d past c.act.ensures.ours c.act.ensures.had
+    acted_tried i.transaction (world_of i.calls.items i.history.past) i.half i.core c.act.new.core acts.answer n i.at_log c.act.new.self c.self.invariant d past c.act.ensures.leaves.ours c.act.ensures.leaves.had
     (λ stops. stop_only i.core.state acts.answer d.running (ap (λ (s : Coordinated). s.stopped) (sym acts.state) ∙ stops))
 
 -- where that stopped it, the stop alone comes onto the past
@@ -52,7 +58,7 @@ pub invariant_of-self-then-is_stopped : goal.invariant_of-self-then-is_stopped
 invariant_of-self-then-is_stopped g c =
     let i = c.self.inside in
     let d = did g (goal.at.invariant_of-self-then-is_stopped g c).After-act in
-    acted_whole i.transaction (world_of i.calls.items i.history.past) i.half i.core c.act.new.core c.act.ensures.acts.answer c.stop.new.self.past c.act.new.self d (stop_past g c d) c.act.ensures.transaction c.act.ensures.ours
+    acted_whole i.transaction (world_of i.calls.items i.history.past) i.half i.core c.act.new.core c.act.ensures.acts.answer c.stop.new.self.past c.act.new.self d (stop_past g c d) c.act.ensures.transaction c.act.ensures.leaves.ours
     (tried g (goal.at.invariant_of-self-then-is_stopped g c).After-act c.stop.new.self.past (stop_past g c d))
 
 pub write-requires-clause-written : goal.write-requires-clause-written
@@ -74,57 +80,32 @@ invariant_of-self-else-is_stopped g c =
     let i = c.self.inside in
     let at = goal.at.invariant_of-self-else-is_stopped g c in
     acted_whole i.transaction (world_of i.calls.items i.history.past) i.half i.core c.act.new.core c.act.ensures.acts.answer c.write.new.self.past c.act.new.self (did g at.After-act) (write_past g c (block g at.After-entries))
-    c.act.ensures.transaction c.act.ensures.ours (tried g at.After-act c.write.new.self.past (write_past g c (block g at.After-entries)))
+    c.act.ensures.transaction c.act.ensures.leaves.ours (tried g at.After-act c.write.new.self.past (write_past g c (block g at.After-entries)))
 
 pub returns-then-is_stopped-clause-done : goal.returns-then-is_stopped-clause-done
 returns-then-is_stopped-clause-done g c = λ ok.
     let i = c.self.inside in
     let d = did g (goal.at.returns-then-is_stopped-clause-done g c).After-act in
     acted_so g.D.Disk.faults i.transaction (world_of i.calls.items i.history.past) i.half i.core c.act.new.core c.stop.new.self.past i.at_log c.act.new.self c.clear.new.self c.act.new.out c.args.self.now c.args.log.now
-    c.act.new.log c.act.ensures.acts c.self.invariant.kept d (stop_past g c d) c.act.ensures.life.0 c.self.view_is
+    c.act.new.log c.act.ensures.acts c.self.invariant.kept d (stop_past g c d) (lived g (goal.at.returns-then-is_stopped-clause-done g c).After-act) c.self.view_is
 
 pub returns-else-is_stopped-clause-done : goal.returns-else-is_stopped-clause-done
 returns-else-is_stopped-clause-done g c = λ ok.
     let i = c.self.inside in
     let at = goal.at.returns-else-is_stopped-clause-done g c in
     acted_so g.D.Disk.faults i.transaction (world_of i.calls.items i.history.past) i.half i.core c.act.new.core c.write.new.self.past i.at_log c.act.new.self c.clear.new.self c.act.new.out c.args.self.now c.args.log.now
-    c.act.new.log c.act.ensures.acts c.self.invariant.kept (did g at.After-act) (write_past g c (block g at.After-entries)) c.act.ensures.life.0 c.self.view_is
+    c.act.new.log c.act.ensures.acts c.self.invariant.kept (did g at.After-act) (write_past g c (block g at.After-entries)) (lived g at.After-act) c.self.view_is
 
-pub returns-then-is_stopped-clause-kept : goal.returns-then-is_stopped-clause-kept
-returns-then-is_stopped-clause-kept g c = λ honest.
+pub returns-then-is_stopped-clause-leaves : goal.returns-then-is_stopped-clause-leaves
+returns-then-is_stopped-clause-leaves g c =
     let i = c.self.inside in
-    acted_keeps g.D.Disk.image i.transaction (world_of i.calls.items i.history.past) (world_of i.calls.items c.stop.new.self.past) i.half i.core i.at_log c.act.new.self c.args.self.now c.args.log.now c.act.new.log
-    c.self.invariant.kept (c.act.ensures.kept honest) c.self.view_is
+    let d = did g (goal.at.returns-then-is_stopped-clause-leaves g c).After-act in
+    acted_leaves i.transaction (world_of i.calls.items i.history.past) i.half i.core c.act.new.core c.act.ensures.acts.answer c.stop.new.self.past i.at_log c.act.new.self c.args.self.now c.args.log.now c.act.new.log
+    c.self.invariant.kept d (stop_past g c d) c.act.ensures.leaves c.act.ensures.later c.self.view_is
 
-pub returns-else-is_stopped-clause-kept : goal.returns-else-is_stopped-clause-kept
-returns-else-is_stopped-clause-kept g c = λ honest.
+pub returns-else-is_stopped-clause-leaves : goal.returns-else-is_stopped-clause-leaves
+returns-else-is_stopped-clause-leaves g c =
     let i = c.self.inside in
-    acted_keeps g.D.Disk.image i.transaction (world_of i.calls.items i.history.past) (world_of i.calls.items c.write.new.self.past) i.half i.core i.at_log c.act.new.self c.args.self.now c.args.log.now c.act.new.log
-    c.self.invariant.kept (c.act.ensures.kept honest) c.self.view_is
-
-pub returns-then-is_stopped-clause-slots : goal.returns-then-is_stopped-clause-slots
-returns-then-is_stopped-clause-slots g c =
-    let i = c.self.inside in
-    acted_slots i.transaction (world_of i.calls.items i.history.past) (world_of i.calls.items c.stop.new.self.past) i.half i.core i.at_log c.act.new.self c.args.self.now c.args.log.now c.act.new.log
-    c.self.invariant.kept c.act.ensures.slots c.self.view_is
-
-pub returns-else-is_stopped-clause-slots : goal.returns-else-is_stopped-clause-slots
-returns-else-is_stopped-clause-slots g c =
-    let i = c.self.inside in
-    acted_slots i.transaction (world_of i.calls.items i.history.past) (world_of i.calls.items c.write.new.self.past) i.half i.core i.at_log c.act.new.self c.args.self.now c.args.log.now c.act.new.log
-    c.self.invariant.kept c.act.ensures.slots c.self.view_is
-
--- the record that is kept names who said PREPARED
-pub returns-then-is_stopped-clause-named : goal.returns-then-is_stopped-clause-named
-returns-then-is_stopped-clause-named g c =
-    let i = c.self.inside in
-    let d = did g (goal.at.returns-then-is_stopped-clause-named g c).After-act in
-    acted_named i.transaction (world_of i.calls.items i.history.past) i.half i.core c.act.new.core c.act.ensures.acts.answer c.stop.new.self.past i.at_log c.act.new.self c.args.self.now c.self.invariant.kept d (stop_past g c d)
-    c.act.ensures.named c.self.view_is
-
-pub returns-else-is_stopped-clause-named : goal.returns-else-is_stopped-clause-named
-returns-else-is_stopped-clause-named g c =
-    let i = c.self.inside in
-    let at = goal.at.returns-else-is_stopped-clause-named g c in
-    acted_named i.transaction (world_of i.calls.items i.history.past) i.half i.core c.act.new.core c.act.ensures.acts.answer c.write.new.self.past i.at_log c.act.new.self c.args.self.now c.self.invariant.kept (did g at.After-act)
-    (write_past g c (block g at.After-entries)) c.act.ensures.named c.self.view_is
+    let at = goal.at.returns-else-is_stopped-clause-leaves g c in
+    acted_leaves i.transaction (world_of i.calls.items i.history.past) i.half i.core c.act.new.core c.act.ensures.acts.answer c.write.new.self.past i.at_log c.act.new.self c.args.self.now c.args.log.now c.act.new.log
+    c.self.invariant.kept (did g at.After-act) (write_past g c (block g at.After-entries)) c.act.ensures.leaves c.act.ensures.later c.self.view_is

@@ -16,4 +16,4 @@ returns-clause-done c =
 pub returns-clause-named : goal.returns-clause-named
 returns-clause-named c =
     named_ok c.enter_at-answered.result true 0 (Calls c.args.line c.args.actor c.args.c.now 0) c.args.self.now c.enter_at-answered.new.self refl c.is_own_run.ensures.ours c.is_own_run-2.ensures.run
-    c.enter_at-answered.ensures.ours.0 c.enter_at-answered.ensures.done c.enter_at-answered.ensures.memory
+    c.enter_at-answered.ensures.done c.enter_at-answered.ensures.memory

@@ -29,4 +29,4 @@ returns-clause-named c =
     let m = Calls c.args.line c.args.actor c.args.c.now c.args.m in
     let new = c.write_alone-entered.new.self in
     named_ok c.write_alone-entered.result true 0 m c.args.self.now new refl c.is_own_run.ensures.ours c.is_own_run-2.ensures.run
-    c.write_alone-entered.ensures.ours.0 (ok_at_alone c.write_alone-entered.result true 0 m c.args.self.now new c.write_alone-entered.ensures.done) c.write_alone-entered.ensures.memory
+    (ok_at_alone c.write_alone-entered.result true 0 m c.args.self.now new c.write_alone-entered.ensures.done) c.write_alone-entered.ensures.memory

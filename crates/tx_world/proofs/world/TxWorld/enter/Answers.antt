@@ -7,10 +7,10 @@ use Rattle.tx_world.proofs.world.TxWorld.enter.Goals as goal
 pub returns-clause-done : goal.returns-clause-done
 returns-clause-done g c =
     ok_does_at g.D.Disk.faults c.enter_at-answered.result c.is_up.result c.life.result (Calls c.args.line c.args.actor c.args.c.now c.args.done) c.args.self.now c.enter_at-answered.new.self c.args.log.now c.is_up.ensures.up c.life.ensures refl
-    c.enter_at-answered.ensures.ours c.enter_at-answered.ensures.done
+    c.enter_at-answered.ensures.done
 
 -- the record that is kept names who said PREPARED
 pub returns-clause-named : goal.returns-clause-named
 returns-clause-named g c =
     named_ok c.enter_at-answered.result c.is_up.result c.life.result (Calls c.args.line c.args.actor c.args.c.now c.args.done) c.args.self.now c.enter_at-answered.new.self refl c.is_own_run.ensures.ours c.is_own_run-2.ensures.run
-    c.enter_at-answered.ensures.ours.0 c.enter_at-answered.ensures.done c.enter_at-answered.ensures.memory
+    c.enter_at-answered.ensures.done c.enter_at-answered.ensures.memory

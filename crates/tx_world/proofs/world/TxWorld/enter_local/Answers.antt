@@ -106,5 +106,5 @@ pub returns-clause-done : goal.returns-clause-done
 returns-clause-done c =
     let b = (goal.at.returns-clause-done c).After-entries in
     let e = c.write_near-begins.ensures in
-    near_done c.self.inside.at_log c.live.new.at_log c.args.self.now c.args.up c.write_near-begins.result c.args.life (ready b) (calls b) e.past c.live.ensures
+    near_done c.self.inside.at_log c.live.new.at_log c.args.self.now c.args.up c.write_near-begins.result c.args.life (ready b) refl (calls b) e.past c.live.ensures
     e.begins c.self.view_is

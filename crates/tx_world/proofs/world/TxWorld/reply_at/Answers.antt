@@ -9,7 +9,6 @@ use Rattle.tx_world.proofs.Living.{near_done, near_whole}
 use Rattle.tx_world.proofs.Onward.{half_is}
 use Rattle.tx_world.proofs.Written.{Ready, reply_ready, world_of}
 use Rattle.tx_world.proofs.Naming.{named_near}
-use Rattle.tx_world.specs.AtLog.{Kept as LogKept}
 use Rattle.tx_world.specs.Sending.{is_sent}
 use Rattle.dtx_model.specs.Words.{has}
 use Rattle.tx_world.proofs.Sending.{reply_calm, room_where_few, room_where_sent, unsent_there}
@@ -76,7 +75,7 @@ invariant_of-self-2 c =
 pub returns-clause-done : goal.returns-clause-done
 returns-clause-done c d =
     let e = c.write_near-begins.ensures in
-    near_done c.self.inside.at_log c.live.new.at_log c.args.self.now c.args.up c.write_near-begins.result c.args.life (ready (goal.at.returns-clause-done c).After-entries) refl e.past c.live.ensures
+    near_done c.self.inside.at_log c.live.new.at_log c.args.self.now c.args.up c.write_near-begins.result c.args.life (ready (goal.at.returns-clause-done c).After-entries) refl refl e.past c.live.ensures
     e.begins c.self.view_is
 
 -- the record that is kept names who said PREPARED
@@ -85,5 +84,5 @@ returns-clause-named c = λ n.
     let e = c.write_near-begins.ensures in
     let r = ready (goal.at.returns-clause-named c).After-entries in
     let whole = near_whole c.args.up _ r c.self.invariant refl refl e.past e.core c.live.ensures in
-    let done = near_done c.self.inside.at_log c.live.new.at_log c.args.self.now c.args.up c.write_near-begins.result c.args.life r refl e.past c.live.ensures e.begins c.self.view_is in
-    named_near c.args.up c.args.life (Replies c.args.e c.args.r) c.self.inside.at_log c.live.new.at_log c.args.self.now c.self.invariant whole refl c.self.view_is (ap (λ (x : LogKept). x.ours) c.live.ensures) done n
+    let done = near_done c.self.inside.at_log c.live.new.at_log c.args.self.now c.args.up c.write_near-begins.result c.args.life r refl refl e.past c.live.ensures e.begins c.self.view_is in
+    named_near c.args.up c.args.life (Replies c.args.e c.args.r) c.self.inside.at_log c.live.new.at_log c.args.self.now c.self.invariant whole refl c.self.view_is done n
