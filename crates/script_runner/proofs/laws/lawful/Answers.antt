@@ -3,7 +3,7 @@ use Rattle.dtx_model.specs.Words.{past_of}
 use Rattle.script_runner.proofs.laws.lawful.Goals as goal
 
 pub returns : goal.returns
-returns g c honest s k trace named caused settled tied unlike =
+returns c honest s k trace named caused settled tied unlike =
     let T = past_of trace in
     record {
       tied = tied;
