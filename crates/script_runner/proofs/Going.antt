@@ -7,7 +7,7 @@ use Rattle.dtx_model.specs.Words.{each}
 use Rattle.coordinator_log.specs.State.{LogState}
 use Rattle.tx_world.specs.State.{TxState}
 use Rattle.script_runner.specs.LogRun.{LogGoes, LogStays}
-use Rattle.script_runner.specs.RunState.{AreBelow, HaveSameCalls, Holds, RunState, RunsOn}
+use Rattle.script_runner.specs.RunState.{AreBelow, HaveSameCalls, Holds, RunState, RunsOn, StepsGo}
 
 -- a log that nothing touched
 pub goes_same : {D : Type 0} (faults : D → ℕ) (honest : Bool) (image : D → List ℕ → Type 0) (log : LogState D) → LogGoes faults honest image log log
@@ -49,6 +49,20 @@ runs_then faults honest image a b c p q r first second =
 -- no part entered a call
 pub calls_then : (a b c : List TxState) → HaveSameCalls a b → HaveSameCalls b c → HaveSameCalls a c
 calls_then a b c p q = λ t. q t ∙ p t
+
+-- steps that were none, and steps of two parts in a row
+pub steps_same : {D : Type 0} (faults : D → ℕ) (honest : Bool) (image : D → List ℕ → Type 0) (log : LogState D) (r : RunState) → StepsGo faults honest image log log r r
+steps_same faults honest image log r = record { contexts = refl; calls = λ t. refl; log = goes_same faults honest image log; stays = stays_same faults log }
+
+pub steps_then : {D : Type 0} (faults : D → ℕ) (honest : Bool) (image : D → List ℕ → Type 0) (a b c : LogState D) (p q r : RunState) → StepsGo faults honest image a b p q → StepsGo faults honest image b c q r
+    → StepsGo faults honest image a c p r
+steps_then faults honest image a b c p q r first second =
+    record {
+      contexts = second.contexts ∙ first.contexts;
+      calls = calls_then p.worlds q.worlds r.worlds first.calls second.calls;
+      log = goes_then faults honest image a b c first.log second.log;
+      stays = stays_then faults a b c first.log.grows second.log.grows first.stays second.stays;
+    }
 
 -- where no call was entered, the calls are still those of the lines before
 pub below_same : (n : ℕ) (old new : List TxState) → HaveSameCalls old new → AreBelow n old → AreBelow n new

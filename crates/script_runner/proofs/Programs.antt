@@ -8,10 +8,9 @@ use Rattle.std.specs.Prelude.{Result, Ok, Err, IfOk}
 use Rattle.outside.specs.Faults.{Rose}
 use Rattle.dtx_values.specs.declared.script.Line.{Line}
 use Rattle.dtx_values.specs.declared.script.BadCause.{BadCause}
-use Rattle.dtx_model.specs.AtLog.{at_log, has_log_line, is_log_up}
+use Rattle.dtx_model.specs.AtLog.{has_log_line, is_log_up}
 use Rattle.dtx_model.specs.Faults.{Bad}
 use Rattle.dtx_model.specs.Grammar.{Reads}
-use Rattle.dtx_model.specs.History.{HasOneOutcome, IsComplete}
 use Rattle.dtx_model.specs.Log.{CommitRecord, is_record_of, log_has}
 use Rattle.dtx_model.specs.Outcome.{is_empty}
 use Rattle.dtx_model.specs.Promotes.{identifier_of}
@@ -23,13 +22,12 @@ use Rattle.coordinator_log.specs.State.{LogState}
 use Rattle.program_words.specs.declared.command.Command.TheVariants.{Replay, Make, Demo, Threads}
 use Rattle.program_words.specs.declared.command.Form.{Form}
 use Rattle.tx_world.specs.AtLog.{AreLogs}
-use Rattle.thread_runs.specs.Run.{AreTied, EachHolds}
-use Rattle.tx_cells.specs.LogAnswers.{is_no_log_answer}
+use Rattle.thread_runs.specs.Run.{EachHolds}
 use Rattle.script_runner.specs.Ending.{AreOfTransactions, AreOwnLogs, AreRecorded, EndsAs, HasNone, IsLog, IsLogOf, MayBeRecorded}
 use Rattle.script_runner.specs.LogRun.{AreForeignSame, IsForeignKept, LogGoes, LogStays, MetNoFault}
+use Rattle.script_runner.specs.Lawful.{IsLawful}
 use Rattle.script_runner.specs.Program.{HasNoLogLine, IsReplayOf}
 use Rattle.script_runner.specs.Run.{IsRunOf}
-use Rattle.script_runner.specs.Waits.{AreWaitsAnswered}
 
 -- a script in the bytes that are read ends before they do, so they are all
 pub length-read : (b : List ℕ) (s : List Line) → Reads (take 1048577 b) s → length b ≤ 1048576
@@ -134,27 +132,20 @@ is_run_of s k a b from to honest rs T e f none run =
 
 -- What run_replay says of its trace is what a replay over a log without a record promises, at the disk that is taken back.
 pub is_replay : {D : Type 0} (faults : D → ℕ) (honest : Bool) (image : D → List ℕ → Type 0) (k : ℕ) (s : List Line) (end : D) (old new : LogState D) (T : List Placed) → end ≡ new.disk → open_records old.slots ≡ []
-    → IsRunOf s k (faults old.disk) (faults new.disk) (honest && is_empty (open_records old.slots)) T → (IsTrue honest → AreTied T) → (AreTied T → HasOneOutcome T) → (AreTied T → IsComplete s T)
-    → (AreTied T → AreWaitsAnswered s T) → new.is_up ≡ is_log_up (past_of T) → (IsTrue honest → EndsAs image (open_records old.slots) new (past_of T))
-    → (IsTrue honest → has is_no_log_answer (at_log (past_of T)) ≡ false) → IsReplayOf k (faults old.disk) (faults end) honest (image end) s T
-is_replay faults honest image k s end old new T same empty run tied outcome complete waited up ended unlike =
+    → IsRunOf s k (faults old.disk) (faults new.disk) (honest && is_empty (open_records old.slots)) T → IsLawful honest s T → new.is_up ≡ is_log_up (past_of T)
+    → (IsTrue honest → EndsAs image (open_records old.slots) new (past_of T)) → IsReplayOf k (faults old.disk) (faults end) honest (image end) s T
+is_replay faults honest image k s end old new T same empty run lawful up ended =
     record {
       run = is_run_of s k (faults old.disk) (faults end) (faults old.disk) (faults new.disk) honest (open_records old.slots) T refl (sym (ap faults same)) empty run;
-      tied = tied;
-      outcome = outcome;
-      complete = complete;
-      waited = waited;
+      lawful = lawful;
       log = λ h. subst (λ d. IsLogOf (image d) T) (sym same) (is_log_of image (open_records old.slots) new T empty up (ended h));
-      unlike = unlike;
     }
 
 pub is_replay_if : {D : Type 0} (faults : D → ℕ) (honest : Bool) (image : D → List ℕ → Type 0) (k : ℕ) (s : List Line) (end : D) (old new : LogState D) {E : Type 0} (r : Result (List Placed) E) → end ≡ new.disk → open_records old.slots ≡ []
-    → IfOk r (λ T. IsRunOf s k (faults old.disk) (faults new.disk) (honest && is_empty (open_records old.slots)) T) → (IsTrue honest → IfOk r (λ T. AreTied T)) → IfOk r (λ T. AreTied T → HasOneOutcome T)
-    → IfOk r (λ T. AreTied T → IsComplete s T) → IfOk r (λ T. AreTied T → AreWaitsAnswered s T) → IfOk r (λ T. new.is_up ≡ is_log_up (past_of T))
-    → (IsTrue honest → IfOk r (λ T. EndsAs image (open_records old.slots) new (past_of T))) → (IsTrue honest → IfOk r (λ T. has is_no_log_answer (at_log (past_of T)) ≡ false))
-    → IfOk r (λ T. IsReplayOf k (faults old.disk) (faults end) honest (image end) s T)
-is_replay_if faults honest image k s end old new (Ok T) same empty run tied outcome complete waited up ended unlike = is_replay faults honest image k s end old new T same empty run tied outcome complete waited up ended unlike
-is_replay_if faults honest image k s end old new (Err e) same empty run tied outcome complete waited up ended unlike = run
+    → IfOk r (λ T. IsRunOf s k (faults old.disk) (faults new.disk) (honest && is_empty (open_records old.slots)) T) → IfOk r (IsLawful honest s) → IfOk r (λ T. new.is_up ≡ is_log_up (past_of T))
+    → (IsTrue honest → IfOk r (λ T. EndsAs image (open_records old.slots) new (past_of T))) → IfOk r (IsReplayOf k (faults old.disk) (faults end) honest (image end) s)
+is_replay_if faults honest image k s end old new (Ok T) same empty run lawful up ended = is_replay faults honest image k s end old new T same empty run lawful up ended
+is_replay_if faults honest image k s end old new (Err e) same empty run lawful up ended = run
 
 -- nothing is left after a script
 pub left-none : (given left : Option (List ℕ)) (bytes : List ℕ) (s : List Line) → IsFront given bytes → Reads bytes s → ForSome given (λ b. left ≡ Some (drop 1048577 b))

@@ -222,23 +222,21 @@ stopped_tells faults honest image start a mid at d up tells =
 
 -- So where it stopped the log, after the others were told:
 pub step_stopped : {D : Type 0} (faults : D → ℕ) (honest : Bool) (image : D → List ℕ → Type 0) (a : StepOf D) (mid : List Placed) (q : RunState) → IsStep faults honest image a → IsStopping faults honest a mid
-    → IsTrue a.from.is_up → IsFalse a.to.is_up → q.script ≡ a.run.script → q.objects ≡ a.run.objects → HaveSameCalls (worlds_after a) q.worlds
+    → IsTrue a.from.is_up → IsFalse a.to.is_up → q.script ≡ a.run.script → q.objects ≡ a.run.objects → q.contexts ≡ a.run.contexts → HaveSameCalls (worlds_after a) q.worlds
     → ((u : TxNo) → state_of u q.worlds ≡ halted a.to.life (state_of u (worlds_after a))) → past_of q.trace ≡ put_at (λ u. Stopped) (hit (past_of mid)) (past_of mid)
     → (((u : TxNo) → IsRecordKept (state_of u (worlds_after a))) → (u : TxNo) → IsRecordKept (state_of u q.worlds)) → IsStepped faults honest image a q
-step_stopped {D} faults honest image a mid q at d up down script objects calls worlds told kept =
+step_stopped {D} faults honest image a mid q at d up down script objects contexts calls worlds told kept =
     let trace : past_of q.trace ≡ after_stop a.t (past_of a.run.trace) = stopped_trace faults honest a mid (past_of q.trace) d told in
     let here : state_of a.t q.worlds ≡ a.y =
     worlds a.t ∙ (ap (halted a.to.life) (state_here a.t a.run.worlds a.y at.made) ∙ halted_here a.to.life a.y d.stopped) in
     record {
-      log = step_log faults honest image a at;
-      stays = step_stays faults honest image a at;
+      goes = record { contexts = contexts; calls = λ u. calls u ∙ step_calls a.run.worlds a.t a.y at.made d.did.calls u; log = step_log faults honest image a at; stays = step_stays faults honest image a at };
       runs = record {
         script = script;
         objects = objects;
         holds = stopped_holds faults honest image a mid q at d down script objects worlds told kept;
         tells = λ start tells. subst (λ (T : List Placed). Tells faults honest image start a.to T) (sym trace) (stopped_tells faults honest image start a mid at d up tells);
       };
-      calls = λ u. calls u ∙ step_calls a.run.worlds a.t a.y at.made d.did.calls u;
       did = record {
         stepped = one_more faults honest a (state_of a.t q.worlds) d.did here;
         some = stopped_advances faults honest a mid q.trace d trace;

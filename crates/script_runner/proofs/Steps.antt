@@ -44,7 +44,7 @@ use Rattle.tx_cells.specs.Cell.{untouched}
 use Rattle.tx_cells.proofs.Kept.{turned_calls}
 use Rattle.script_runner.specs.LogRun.{LogGoes, LogStays}
 use Rattle.script_runner.specs.Objects.{DoesGiven}
-use Rattle.script_runner.specs.RunState.{Advances, AreNumbered, GoesWith, HaveSameCalls, Holds, IsRecordKept, IsTied, RunState, RunsOn, StepsOn, Tells, state_of}
+use Rattle.script_runner.specs.RunState.{Advances, AreNumbered, GoesWith, HaveSameCalls, Holds, IsRecordKept, IsTied, RunState, RunsOn, StepsGo, StepsOn, Tells, state_of}
 use Rattle.script_runner.proofs.Deeds.{is_done, untelling_block, untelling_commit}
 use Rattle.script_runner.proofs.Fitting.{fits_turn, goes_turn, had_turn}
 use Rattle.script_runner.proofs.Goes.{MayTurn, acts_running, answered_down, answered_up, goes_step, named_in_replay, named_turn}
@@ -352,10 +352,8 @@ none_beyond r t k tied more = untouched_pending r.script r.objects r.worlds (pas
 
 -- What a step makes of a run.
 pub record IsStepped {D : Type 0} (faults : D → ℕ) (honest : Bool) (image : D → List ℕ → Type 0) (a : StepOf D) (q : RunState) : Type 0 where
-  pub log : LogGoes faults honest image a.from a.to
-  pub stays : LogStays faults a.from a.to
+  pub goes : StepsGo faults honest image a.from a.to a.run q
   pub runs : RunsOn faults honest image a.from a.to a.run q
-  pub calls : HaveSameCalls a.run.worlds q.worlds
   pub did : StepsOn a.t a.k a.from.is_up a.to.is_up a.run q
 
 -- one more step was done of the transaction, as it is now
@@ -375,8 +373,7 @@ step_done {D} faults honest image a new at stays written_down =
     let noted : past_of new ≡ onto (past_of a.run.trace) (placed a.t es) = ap past_of (written_down es d.past) ∙ trace_noted a.run.trace a.t es in
     let here : state_of a.t (worlds_after a) ≡ a.y = state_here a.t a.run.worlds a.y at.made in
     record {
-      log = step_log faults honest image a at;
-      stays = step_stays faults honest image a at;
+      goes = record { contexts = refl; calls = step_calls a.run.worlds a.t a.y at.made d.calls; log = step_log faults honest image a at; stays = step_stays faults honest image a at };
       runs = record {
         script = refl;
         objects = refl;
@@ -384,7 +381,6 @@ step_done {D} faults honest image a new at stays written_down =
         tells = λ start tells.
             subst (λ (T : List Placed). Tells faults honest image start a.to T) (sym noted) (step_tells faults honest image start a at d same (past_of a.run.trace) tells);
       };
-      calls = step_calls a.run.worlds a.t a.y at.made d.calls;
       did = record {
         stepped = one_more faults honest a (state_of a.t (worlds_after a)) d here;
         some = step_advances faults honest image a new at d same noted;

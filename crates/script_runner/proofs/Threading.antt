@@ -1,5 +1,5 @@
 -- Runs on threads, and replays that stand in their place.
-use Rattle.std.proofs.Common.{◌≡◌, ℕ, ◌+◌, ◌-◌, ◌≤◌, Bool, true, false, ◌&&◌, ◌||◌, IsTrue, List, [], ◌∷◌, Option, Some, None, arith, refl, subst}
+use Rattle.std.proofs.Common.{◌≡◌, ℕ, ◌+◌, ◌-◌, ◌≤◌, Bool, true, false, ◌&&◌, ◌||◌, List, [], ◌∷◌, Option, Some, None, arith, refl, subst}
 use Rattle.std.specs.Prelude.{Result, Ok, Err, IfOk, is_some}
 use Rattle.std.proofs.lemmas.Bool.Decides.{nat_tests}
 use Rattle.dtx_values.specs.declared.entry.Entry.{Entry}
@@ -7,20 +7,17 @@ use Rattle.dtx_values.specs.declared.entry.Entry.TheVariants.{Voted, PromoteRepl
 use Rattle.dtx_values.specs.declared.note.Plan.{Plan}
 use Rattle.dtx_values.specs.declared.number.RmNo.{RmNo}
 use Rattle.dtx_values.specs.declared.script.Line.{Line}
-use Rattle.dtx_model.specs.AtLog.{at_log}
 use Rattle.dtx_model.specs.Caused.{Caused, calls_in, has_object, is_as_planned, is_up_to, plans_of, is_vote_planned, is_promotion_planned, is_outcome_planned, is_request_planned}
-use Rattle.dtx_model.specs.History.{HasOneOutcome, IsComplete}
 use Rattle.dtx_model.specs.Plans.{manager_of}
 use Rattle.dtx_model.specs.Replay.{due_calls}
 use Rattle.dtx_model.specs.Traces.{Placed, calls, history}
-use Rattle.dtx_model.specs.Words.{always, has, past_of}
+use Rattle.dtx_model.specs.Words.{always, past_of}
 use Rattle.dtx_model.proofs.Bools.{and_both, and_left, and_right}
 use Rattle.call_order.specs.InOrder.{AreInActorOrder}
-use Rattle.thread_runs.specs.Run.{AreTied, EndsOnThreads, IsRunOnThreads}
-use Rattle.tx_cells.specs.LogAnswers.{is_no_log_answer}
+use Rattle.thread_runs.specs.Run.{EndsOnThreads, IsRunOnThreads}
+use Rattle.script_runner.specs.Ending.{IsLogOf}
 use Rattle.script_runner.specs.Program.{IsReplayOf, IsThreadsOf}
 use Rattle.script_runner.specs.Run.{IsRunOf}
-use Rattle.script_runner.specs.Waits.{AreWaitsAnswered}
 
 -- what holds of each value of a result, where it is this one
 pub of_ok : {A E : Type 0} (r : Result A E) (x : A) (P : A → Type 0) → r ≡ Ok x → IfOk r P → P x
@@ -86,14 +83,9 @@ replay_on_threads order s k a from to honest T le run = record {
   };
 }
 
-pub all_on_threads : HasOrder → {E : Type 0} (r : Result (List Placed) E) (s : List Line) (k a from to : ℕ) (honest : Bool) (image : List ℕ → Type 0) → a ≤ from → IfOk r (λ T. IsReplayOf 0 from to honest image s T)
-    → IfOk r (λ T. IsRunOnThreads s k a to T)
-all_on_threads order r s k a from to honest image le = if_ok r (λ T. IsReplayOf 0 from to honest image s T) (λ T. IsRunOnThreads s k a to T) (λ T x. replay_on_threads order s k a from to honest T le x.run)
-
--- What the call of a run on threads says of its trace is what one promises.
-pub is_on_threads : {E : Type 0} (r : Result (List Placed) E) (k from to : ℕ) (honest : Bool) (image : List ℕ → Type 0) (s : List Line) → IfOk r (λ T. IsRunOnThreads s k from to T) → (IsTrue honest → IfOk r (λ T. AreTied T))
-    → IfOk r (λ T. AreTied T → HasOneOutcome T) → IfOk r (λ T. AreTied T → IsComplete s T) → IfOk r (λ T. AreTied T → AreWaitsAnswered s T) → (IsTrue honest → IfOk r (λ T. EndsOnThreads s image T))
-    → (IsTrue honest → IfOk r (λ T. has is_no_log_answer (at_log (past_of T)) ≡ false)) → IfOk r (λ T. IsThreadsOf k from to honest image s T)
-is_on_threads (Ok T) k from to honest image s run tied outcome complete waited ended unlike =
-    record { run = run; tied = tied; outcome = outcome; complete = complete; waited = waited; log = ended; unlike = unlike }
-is_on_threads (Err e) k from to honest image s run tied outcome complete waited ended unlike = run
+-- So the replay that stands in place of a run on threads is what one promises, over a log that ends as that of the replay.
+pub all_on_threads : HasOrder → {E : Type 0} (r : Result (List Placed) E) (s : List Line) (k a from to : ℕ) (honest : Bool) (image : List ℕ → Type 0) → a ≤ from
+    → ((T : List Placed) → ((t : TxNo) → Caused s 0 t.value (history t.value (past_of T))) → IsLogOf image T → EndsOnThreads s image T) → IfOk r (IsReplayOf 0 from to honest image s) → IfOk r (IsThreadsOf k a to honest image s)
+all_on_threads order r s k a from to honest image le ends =
+    if_ok r (IsReplayOf 0 from to honest image s) (IsThreadsOf k a to honest image s)
+    (λ T x. record { run = replay_on_threads order s k a from to honest T le x.run; lawful = x.lawful; log = λ h. ends T x.run.caused (x.log h) })

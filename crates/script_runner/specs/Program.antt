@@ -2,26 +2,23 @@
 use Rattle.std.specs.Prelude.{ℕ, ◌≡◌, ◌⊎◌, Bool, false, List, ◌++◌, Option, Some, IsTrue}
 use Rattle.std.specs.Option.{ForSome}
 use Rattle.dtx_values.specs.declared.script.Line.{Line}
-use Rattle.dtx_model.specs.AtLog.{at_log, has_log_line}
+use Rattle.dtx_model.specs.AtLog.{has_log_line}
 use Rattle.dtx_model.specs.Grammar.{IsScript, Reads}
-use Rattle.dtx_model.specs.History.{HasOneOutcome, IsComplete}
 use Rattle.dtx_model.specs.Traces.{Placed}
 use Rattle.dtx_model.specs.TraceText.{trace_text}
-use Rattle.dtx_model.specs.Words.{has, past_of}
 use Rattle.program_words.specs.Commands.{Asks}
 use Rattle.program_words.specs.declared.command.Command.{Command}
 use Rattle.program_words.specs.declared.command.Command.TheVariants.{Replay, Threads}
 use Rattle.program_words.specs.declared.command.Form.{Form}
 use Rattle.program_words.specs.declared.command.Form.TheVariants.{Plain, Wire, Json, Summary}
-use Rattle.thread_runs.specs.Run.{AreTied, EndsOnThreads, IsRunOnThreads}
+use Rattle.thread_runs.specs.Run.{EndsOnThreads, IsRunOnThreads}
 use Rattle.trace_text.specs.Forms.{json_text, wire_text}
 use Rattle.trace_text.specs.Summary.{summary_text}
 use Rattle.tx_cells.specs.Cell.{IsThreadable}
-use Rattle.tx_cells.specs.LogAnswers.{is_no_log_answer}
 use Rattle.script_runner.specs.Ending.{IsLogOf}
+use Rattle.script_runner.specs.Lawful.{IsLawful}
 use Rattle.script_runner.specs.Run.{IsRunOf}
 use Rattle.script_runner.specs.Transfer.{IsPartWritten}
-use Rattle.script_runner.specs.Waits.{AreWaitsAnswered}
 
 -- the words ask for a replay
 abbrev pub AsksReplay : List (List ℕ) → Type 0
@@ -43,46 +40,35 @@ form_text Json T = json_text T
 form_text Summary T = summary_text T
 
 -- T is a run of the script s in the order of a replay in which the first k managers have an object, over a disk that is honest or not, whose count of faults was `from` before and is `to` now. Where each restart found what may be found, as on an honest disk and in each run without a restart, it is a
--- settled history of the script; what is told is just, nobody is told the opposite of what another is told, and who comes back learns the logged outcome; each transaction that can commit is committed; where commit was asked, the client was told an outcome, or
--- there is something that the transaction waits for (`told`); and each call that was answered `wait` got its answer, or an enlistment that was asked to promote stays silent.
--- Where the disk is honest, each restart finds a log, and the log that each image holds has the records that the trace says.
+-- settled history of the script. It keeps the laws of every run. Where the disk is honest, the log that each image holds has the records that the trace says.
 pub record IsReplayOf (k from to : ℕ) (honest : Bool) (image : List ℕ → Type 0) (s : List Line) (T : List Placed) : Type 0 where
   pub run : IsRunOf s k from to honest T
-  pub tied : IsTrue honest → AreTied T
-  pub outcome : AreTied T → HasOneOutcome T
-  pub complete : AreTied T → IsComplete s T
-  pub waited : AreTied T → AreWaitsAnswered s T
+  pub lawful : IsLawful honest s T
   pub log : IsTrue honest → IsLogOf image T
-  pub unlike : IsTrue honest → has is_no_log_answer (at_log (past_of T)) ≡ false
 
 -- The same of a run on threads: each actor's calls are in the order of its lines, at each place, and those of two actors come in any order; all else is as in a replay. The log that each image holds has, where the trace leaves it up, one record of
 -- each transaction that has one by the trace; and whether it is up or not, the script's transactions alone, each at most once.
 pub record IsThreadsOf (k from to : ℕ) (honest : Bool) (image : List ℕ → Type 0) (s : List Line) (T : List Placed) : Type 0 where
   pub run : IsRunOnThreads s k from to T
-  pub tied : IsTrue honest → AreTied T
-  pub outcome : AreTied T → HasOneOutcome T
-  pub complete : AreTied T → IsComplete s T
-  pub waited : AreTied T → AreWaitsAnswered s T
+  pub lawful : IsLawful honest s T
   pub log : IsTrue honest → EndsOnThreads s image T
-  pub unlike : IsTrue honest → has is_no_log_answer (at_log (past_of T)) ≡ false
 
--- There is a run as P says, of the script that the source gave, where it tells its bytes, and of some script where it tells nothing; and the sink, where it tells what was written, gained exactly the text of its trace in this form.
-pub record IsTextWritten (P : List Line → List Placed → Type 0) (f : Form) (given before after : Option (List ℕ)) : Type 0 where
+-- There is a run as P says, of the script that the source gave, where it tells its bytes, and of some script where it tells nothing; and this holds of its trace.
+pub record HasRun (P : List Line → List Placed → Type 0) (given : Option (List ℕ)) (holds : List Placed → Type 0) : Type 0 where
   pub lines : List Line
   pub trace : List Placed
   pub read : ForSome given (λ b. Reads b lines)
   pub script : IsScript lines
   pub ran : P lines trace
-  pub gained : ForSome before (λ w. after ≡ Some (w ++ form_text f trace))
+  pub gained : holds trace
+
+-- there is such a run, and the sink, where it tells what was written, gained exactly the text of its trace in this form
+abbrev pub IsTextWritten : (P : List Line → List Placed → Type 0) → Form → (given before after : Option (List ℕ)) → Type 0
+IsTextWritten P f given before after = HasRun P given (λ T. ForSome before (λ w. after ≡ Some (w ++ form_text f T)))
 
 -- the same, but the sink gained a part of the text and not all of it
-pub record IsTextCutShort (P : List Line → List Placed → Type 0) (f : Form) (given before after : Option (List ℕ)) : Type 0 where
-  pub lines : List Line
-  pub trace : List Placed
-  pub read : ForSome given (λ b. Reads b lines)
-  pub script : IsScript lines
-  pub ran : P lines trace
-  pub gained : ForSome before (λ w. IsPartWritten w (form_text f trace) after)
+abbrev pub IsTextCutShort : (P : List Line → List Placed → Type 0) → Form → (given before after : Option (List ℕ)) → Type 0
+IsTextCutShort P f given before after = HasRun P given (λ T. ForSome before (λ w. IsPartWritten w (form_text f T) after))
 
 -- the headline: the text of a replay was written; or a part of it
 abbrev pub IsWritten : Form → (k from to : ℕ) (honest : Bool) (image : List ℕ → Type 0) (given before after : Option (List ℕ)) → Type 0

@@ -1,5 +1,5 @@
 -- A replay under way.
-use Rattle.std.specs.Prelude.{ℕ, suc, ◌-◌, ◌<◌, ◌≤◌, ◌≡◌, ◌≢◌, nat_lt, Bool, true, false, ◌&&◌, not, List, [], length, Option, Some, is_some, IsTrue, slice_index_or, if◌then◌else◌}
+use Rattle.std.specs.Prelude.{ℕ, suc, ◌-◌, ◌<◌, ◌≤◌, ◌≡◌, ◌≢◌, nat_lt, Bool, true, false, ◌&&◌, not, List, [], length, Option, None, Some, is_some, IsTrue, slice_index_or, if◌then◌else◌}
 use Rattle.dtx_values.specs.declared.entry.Entry.{Entry}
 use Rattle.dtx_values.specs.declared.number.ActorNo.{ActorNo}
 use Rattle.dtx_values.specs.declared.number.TxNo.{TxNo}
@@ -26,7 +26,7 @@ use Rattle.tx_world.specs.State.{TxState, is_hit_by, is_reached_by}
 use Rattle.tx_world.specs.Tried.{IsTried}
 use Rattle.tx_cells.specs.Cell.{untouched}
 use Rattle.tx_cells.specs.LogAnswers.{is_no_log_answer}
-use Rattle.script_runner.specs.LogRun.{IsCounted, IsForeignKept}
+use Rattle.script_runner.specs.LogRun.{IsCounted, IsForeignKept, LogGoes, LogStays}
 
 -- its script, how many managers have an object, the transactions by number up to the last that was called, the contexts of its actors, and its trace
 pub record RunState : Type 0 where
@@ -110,6 +110,20 @@ AreBelow n ws = (t : TxNo) → IsBelow n (state_of t ws)
 -- no call was entered
 abbrev pub HaveSameCalls : List TxState → List TxState → Type 0
 HaveSameCalls old new = (t : TxNo) → (state_of t new).world.calls ≡ (state_of t old).world.calls
+
+-- How steps of a run go, over a log that was `from` before them and is `to` now, whether memory ran out or not: they are no line's own, so the contexts stay and no call is entered; and the log goes on as where no line arms a stop or opens it again.
+pub record StepsGo {D : Type 0} (faults : D → ℕ) (honest : Bool) (image : D → List ℕ → Type 0) (from to : LogState D) (old new : RunState) : Type 0 where
+  pub contexts : new.contexts ≡ old.contexts
+  pub calls : HaveSameCalls old.worlds new.worlds
+  pub log : LogGoes faults honest image from to
+  pub stays : LogStays faults from to
+
+-- no k-th step of t is pending, neither by its world nor by the trace, and nothing was done
+pub record HasNoStep {D : Type 0} (t : TxNo) (k : ℕ) (from to : LogState D) (old new : RunState) : Type 0 where
+  pub none : kth (pending (state_of t old.worlds).world) k ≡ None
+  pub none_here : kth (pending (world_at old.script t (past_of old.trace))) k ≡ None
+  pub run : new ≡ old
+  pub log : to ≡ from
 
 -- the k-th pending step of t was done
 pub record Advances (s : List Line) (t : TxNo) (k : ℕ) (old new : List Placed) : Type 0 where

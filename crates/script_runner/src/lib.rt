@@ -4,6 +4,7 @@
 mod exit;
 mod formatting;
 mod judging;
+mod laws;
 mod objects;
 mod program;
 mod replay;

@@ -13,6 +13,7 @@ ghost use Rattle.trace_text.specs.OneTrace.{is_carried_at, is_typed_at, named_at
 ghost use Rattle.coordinator_log.specs.declared.layout.TheConstants.{LOG_BYTES};
 ghost use Rattle.script_runner.specs.Program.{AsksReplay, AsksRun, AsksThreads, CanBeDone, HasNoLogLine, IsCutShort, IsCutShortOnThreads, IsTextCutShort, IsTextWritten, IsWritten, IsWrittenOnThreads};
 ghost use Rattle.script_runner.specs.Ending.{AreOwnLogs, IsLog};
+ghost use Rattle.script_runner.specs.Faults.{TellsFaults};
 ghost use Rattle.script_runner.specs.Judged.{HasDoAt, IsJudged};
 ghost use Rattle.script_runner.specs.LogRun.{MetNoFault};
 ghost use Rattle.script_runner.specs.Refusal.{IsGoodFor, IsOnThreads, IsRunBy};
@@ -35,25 +36,23 @@ use script_text::{BadCause, reads_exactly};
 use std::alloc::Global;
 use std::sync::Wait;
 use std::thread::Threads;
+use thread_runs::Setting;
 use trace_text::one_trace;
 
 /// Reads the script from the source, formats the log on the disk, runs the script this way, and writes the trace in this form to the sink.
 fn run_in<S: Source, K: Sink, D: Disk + Send, G: Gate + Sync, R: Threads + Wait + Sync>(
-    rt: &R,
-    alloc: Global,
     way: Way,
     form: Form,
     source: &mut S,
     sink: &mut K,
     disk: D,
-    gate: &G,
-    resources: Vec<Box<dyn Resource + Send>>,
+    setting: Setting<G, R>,
 ) -> (Exit, D)
     requires { LOG_BYTES ≤ D.size disk }
 
     // The headline; the log at the end is in it, in each image that a crash can leave. A fault after the log was formatted stops the log, which the trace says, and
     // is no answer of its own.
-    ensures headline { result.0 ≡ Exit.Fine → IsTextWritten (IsRunBy way (vec_len resources) (D.faults disk) (D.faults result.1) D.honest (D.image result.1)) form (S.left source.old) (K.written sink.old) (K.written sink.new) }
+    ensures headline { result.0 ≡ Exit.Fine → IsTextWritten (IsRunBy way (vec_len setting.resources) (D.faults disk) (D.faults result.1) D.honest (D.image result.1)) form (S.left source.old) (K.written sink.old) (K.written sink.new) }
     ensures read { result.0 ≡ Exit.Fine → ForSome (S.left source.old) (λ b. S.left source.new ≡ Some []) }
 
     ensures accepted { result.0 ≢ Exit.Usage }
@@ -66,17 +65,12 @@ fn run_in<S: Source, K: Sink, D: Disk + Send, G: Gate + Sync, R: Threads + Wait 
     ensures judged { IsJudged result.0 → ForSome (S.left source.old) (λ b. S.left source.new ≡ Some (drop (SCRIPT_BYTES + 1) b)) }
 
     // Faults are those of the source, of the disk while the log was formatted, and of the sink in this call; and each is answered as that fault. Where none came, all was done that can be.
-    ensures read_fault { result.0 ≡ Exit.ReadFault → Rose (S.faults source.old) (S.faults source.new) }
-    ensures log_fault { result.0 ≡ Exit.LogFault → Rose (D.faults disk) (D.faults result.1) }
-    ensures write_fault { result.0 ≡ Exit.WriteFault → Rose (K.faults sink.old) (K.faults sink.new) }
-    ensures read_smooth { result.0 ≢ Exit.ReadFault → S.faults source.new ≡ S.faults source.old }
-    ensures log_grows { result.0 ≢ Exit.LogFault → D.faults disk ≤ D.faults result.1 }
-    ensures write_smooth { result.0 ≢ Exit.WriteFault → K.faults sink.new ≡ K.faults sink.old }
+    ensures faults { TellsFaults result.0 (S.faults source.old) (S.faults source.new) (D.faults disk) (D.faults result.1) (K.faults sink.old) (K.faults sink.new) }
     ensures done { IsGoodFor way (S.left source.old) → (Rose (S.faults source.old) (S.faults source.new) → ⊥) → (Rose (D.faults disk) (D.faults result.1) → ⊥) → (Rose (K.faults sink.old) (K.faults sink.new) → ⊥) → (result.0 ≡ Exit.Fine) ⊎ (result.0 ≡ Exit.Memory) }
 
     // What was written: the whole text with Fine, above; else a part of it, or nothing. The disk is touched only where the script is run.
-    ensures cut_short { result.0 ≡ Exit.WriteFault → IsTextCutShort (IsRunBy way (vec_len resources) (D.faults disk) (D.faults result.1) D.honest (D.image result.1)) form (S.left source.old) (K.written sink.old) (K.written sink.new) }
-    ensures memory { result.0 ≡ Exit.Memory → (sink.new ≡ sink.old) ⊎ IsTextCutShort (IsRunBy way (vec_len resources) (D.faults disk) (D.faults result.1) D.honest (D.image result.1)) form (S.left source.old) (K.written sink.old) (K.written sink.new) }
+    ensures cut_short { result.0 ≡ Exit.WriteFault → IsTextCutShort (IsRunBy way (vec_len setting.resources) (D.faults disk) (D.faults result.1) D.honest (D.image result.1)) form (S.left source.old) (K.written sink.old) (K.written sink.new) }
+    ensures memory { result.0 ≡ Exit.Memory → (sink.new ≡ sink.old) ⊎ IsTextCutShort (IsRunBy way (vec_len setting.resources) (D.faults disk) (D.faults result.1) D.honest (D.image result.1)) form (S.left source.old) (K.written sink.old) (K.written sink.new) }
     ensures unwritten { (result.0 ≡ Exit.ReadFault) ⊎ ((result.0 ≡ Exit.LogFault) ⊎ IsJudged result.0) → sink.new ≡ sink.old }
     ensures room { LOG_BYTES ≤ D.size result.1 }
     ensures logs { IsTrue D.honest → result.0 ≢ Exit.LogFault → (result.1 ≡ disk) ⊎ AreOwnLogs (D.image result.1) }
@@ -88,11 +82,12 @@ fn run_in<S: Source, K: Sink, D: Disk + Send, G: Gate + Sync, R: Threads + Wait 
     reads_exactly();
     // Nor does this. It brings in that the text which is written has one trace, up to what a message's line leaves out.
     one_trace();
+    let alloc = setting.alloc;
     let script = match script_from(alloc, way, source) {
         Ok(script) => script,
         Err(exit) => return (exit, disk),
     };
-    let (traced, disk) = traced_anew(rt, alloc, way, &script, disk, gate, resources);
+    let (traced, disk) = traced_anew(way, &script, disk, setting);
     match traced {
         Ok(trace) => (written_in(alloc, sink, form, &trace), disk),
         Err(exit) => (exit, disk),
@@ -117,24 +112,21 @@ fn make_in<K: Sink>(alloc: Global, n: u16, sink: &mut K) -> Exit
 
 /// Replays the made script of n transactions, and writes the summary to the sink.
 fn demo_in<K: Sink, D: Disk + Send, G: Gate + Sync, R: Threads + Wait + Sync>(
-    rt: &R,
-    alloc: Global,
     n: u16,
     sink: &mut K,
     disk: D,
-    gate: &G,
-    resources: Vec<Box<dyn Resource + Send>>,
+    setting: Setting<G, R>,
 ) -> (Exit, D)
     requires room { LOG_BYTES ≤ D.size disk }
     requires count { is_count n ≡ true }
-    ensures headline { result.0 ≡ Exit.Fine → IsWritten Form.Summary (vec_len resources) (D.faults disk) (D.faults result.1) D.honest (D.image result.1) (Some (gen n)) (K.written sink.old) (K.written sink.new) }
+    ensures headline { result.0 ≡ Exit.Fine → IsWritten Form.Summary (vec_len setting.resources) (D.faults disk) (D.faults result.1) D.honest (D.image result.1) (Some (gen n)) (K.written sink.old) (K.written sink.new) }
     ensures answers { (result.0 ≡ Exit.Fine) ⊎ ((result.0 ≡ Exit.LogFault) ⊎ ((result.0 ≡ Exit.WriteFault) ⊎ (result.0 ≡ Exit.Memory))) }
     ensures log_fault { result.0 ≡ Exit.LogFault → Rose (D.faults disk) (D.faults result.1) }
     ensures write_fault { result.0 ≡ Exit.WriteFault → Rose (K.faults sink.old) (K.faults sink.new) }
     ensures log_grows { result.0 ≢ Exit.LogFault → D.faults disk ≤ D.faults result.1 }
     ensures write_smooth { result.0 ≢ Exit.WriteFault → K.faults sink.new ≡ K.faults sink.old }
-    ensures cut_short { result.0 ≡ Exit.WriteFault → IsCutShort Form.Summary (vec_len resources) (D.faults disk) (D.faults result.1) D.honest (D.image result.1) (Some (gen n)) (K.written sink.old) (K.written sink.new) }
-    ensures memory { result.0 ≡ Exit.Memory → (sink.new ≡ sink.old) ⊎ IsCutShort Form.Summary (vec_len resources) (D.faults disk) (D.faults result.1) D.honest (D.image result.1) (Some (gen n)) (K.written sink.old) (K.written sink.new) }
+    ensures cut_short { result.0 ≡ Exit.WriteFault → IsCutShort Form.Summary (vec_len setting.resources) (D.faults disk) (D.faults result.1) D.honest (D.image result.1) (Some (gen n)) (K.written sink.old) (K.written sink.new) }
+    ensures memory { result.0 ≡ Exit.Memory → (sink.new ≡ sink.old) ⊎ IsCutShort Form.Summary (vec_len setting.resources) (D.faults disk) (D.faults result.1) D.honest (D.image result.1) (Some (gen n)) (K.written sink.old) (K.written sink.new) }
     ensures unwritten { result.0 ≡ Exit.LogFault → sink.new ≡ sink.old }
     ensures room { LOG_BYTES ≤ D.size result.1 }
     ensures logs { IsTrue D.honest → result.0 ≢ Exit.LogFault → (result.1 ≡ disk) ⊎ AreOwnLogs (D.image result.1) }
@@ -142,22 +134,12 @@ fn demo_in<K: Sink, D: Disk + Send, G: Gate + Sync, R: Threads + Wait + Sync>(
 {
     // This does nothing when it runs. It brings in that the made bytes, which are a script, are never bad.
     reads_exactly();
-    let Ok(bytes) = make_script(alloc, n) else {
+    let Ok(bytes) = make_script(setting.alloc, n) else {
         return (Exit::Memory, disk);
     };
     let mut source = SureSource::new(bytes);
     let way = Way::Replay;
-    run_in(
-        rt,
-        alloc,
-        way,
-        Form::Summary,
-        &mut source,
-        sink,
-        disk,
-        gate,
-        resources,
-    )
+    run_in(way, Form::Summary, &mut source, sink, disk, setting)
 }
 
 /// Runs the program on its words:
@@ -216,12 +198,7 @@ pub fn run_program<S: Source, K: Sink, D: Disk + Send, G: Gate + Sync, R: Thread
     ensures judged { IsJudged result.0 → ForSome (S.left source.old) (λ b. S.left source.new ≡ Some (drop (SCRIPT_BYTES + 1) b)) }
 
     // Faults are those of the source, of the disk while the log was formatted, and of the sink in this call; and each is answered as that fault.
-    ensures read_fault { result.0 ≡ Exit.ReadFault → Rose (S.faults source.old) (S.faults source.new) }
-    ensures log_fault { result.0 ≡ Exit.LogFault → Rose (D.faults disk) (D.faults result.1) }
-    ensures write_fault { result.0 ≡ Exit.WriteFault → Rose (K.faults sink.old) (K.faults sink.new) }
-    ensures read_smooth { result.0 ≢ Exit.ReadFault → S.faults source.new ≡ S.faults source.old }
-    ensures log_grows { result.0 ≢ Exit.LogFault → D.faults disk ≤ D.faults result.1 }
-    ensures write_smooth { result.0 ≢ Exit.WriteFault → K.faults sink.new ≡ K.faults sink.old }
+    ensures faults { TellsFaults result.0 (S.faults source.old) (S.faults source.new) (D.faults disk) (D.faults result.1) (K.faults sink.old) (K.faults sink.new) }
 
     // Where the words ask for what can be done with the input, and no call of the source, the disk and the sink met a fault, it is done, unless memory runs out.
     ensures done { CanBeDone (map string_bytes words.now) (S.left source.old) → (Rose (S.faults source.old) (S.faults source.new) → ⊥) → (Rose (D.faults disk) (D.faults result.1) → ⊥) → (Rose (K.faults sink.old) (K.faults sink.new) → ⊥) → (result.0 ≡ Exit.Fine) ⊎ (result.0 ≡ Exit.Memory) }
@@ -240,26 +217,19 @@ pub fn run_program<S: Source, K: Sink, D: Disk + Send, G: Gate + Sync, R: Thread
     ensures demo_whole { (n : ℕ) → Asks (map string_bytes words.now) (Command.Demo n) → IsTrue D.honest → result.0 ≡ Exit.Memory → MetNoFault D.faults disk result.1 → (result.1 ≡ disk) ⊎ IsLog (D.image result.1) }
     ensures untouched { (result.0 ≡ Exit.Usage) ⊎ ((result.0 ≡ Exit.ReadFault) ⊎ IsJudged result.0) → result.1 ≡ disk }
 {
+    let setting = Setting {
+        rt,
+        alloc,
+        gate,
+        resources,
+    };
     match command_of(words) {
-        Some(Command::Replay(form)) => {
-            run_in(
-                rt,
-                alloc,
-                Way::Replay,
-                form,
-                source,
-                sink,
-                disk,
-                gate,
-                resources,
-            )
-        }
+        Some(Command::Replay(form)) => run_in(Way::Replay, form, source, sink, disk, setting),
         Some(Command::Threads(helpers, form)) => {
-            let way = Way::Threads(helpers);
-            run_in(rt, alloc, way, form, source, sink, disk, gate, resources)
+            run_in(Way::Threads(helpers), form, source, sink, disk, setting)
         }
         Some(Command::Make(n)) => (make_in(alloc, n, sink), disk),
-        Some(Command::Demo(n)) => demo_in(rt, alloc, n, sink, disk, gate, resources),
+        Some(Command::Demo(n)) => demo_in(n, sink, disk, setting),
         None => (Exit::Usage, disk),
     }
 }

@@ -19,7 +19,6 @@ ghost use Rattle.dtx_model.specs.Contexts.{calls_by, lines_before, scope_block, 
 ghost use Rattle.dtx_model.specs.Tied.{tied};
 ghost use Rattle.dtx_model.specs.Traces.{Placed, history, noted, placed};
 ghost use Rattle.dtx_model.specs.Replay.{CallRan, HasDoneAt, IsReplayed, LineRan, LinesRan, Reopening, after_calls, after_restart, after_scope, after_turn, at_the_log, put_at, world_at};
-ghost use Rattle.dtx_model.specs.History.{HasOneOutcome, IsComplete};
 ghost use Rattle.dtx_model.specs.Outcome.{is_empty};
 ghost use Rattle.dtx_model.specs.Grammar.{IsScript, are_named_well, is_in_range};
 ghost use Rattle.coordinator_log.specs.Slots.{open_records};
@@ -27,15 +26,16 @@ ghost use Rattle.tx_cells.specs.LogAnswers.{is_no_log_answer};
 ghost use Rattle.tx_cells.specs.Cell.{untouched};
 ghost use Rattle.thread_runs.specs.Run.{AreTied};
 ghost use Rattle.script_runner.specs.Ending.{EndsAs, HasNone};
+ghost use Rattle.script_runner.specs.Lawful.{IsLawful};
 ghost use Rattle.script_runner.specs.LogRun.{IsCounted, LogGoes, LogStays};
 ghost use Rattle.script_runner.specs.Rights.{AreAppendsBacked, AreOutcomesWithheld, HasOneRight};
 ghost use Rattle.script_runner.specs.Run.{IsRunOf};
-ghost use Rattle.script_runner.specs.RunState.{Advances, AreBelow, AreSettledBelow, HaveSameCalls, Holds, IsBelow, IsRecordKept, IsRoundAt, IsTied, IsToPlan, RunsOn, Settles, StepsOn, halted, record_in, reopened, state_of};
+ghost use Rattle.script_runner.specs.RunState.{AreBelow, AreSettledBelow, HasNoStep, HaveSameCalls, Holds, IsBelow, IsRecordKept, IsRoundAt, IsTied, IsToPlan, RunsOn, Settles, StepsGo, StepsOn, halted, record_in, reopened, state_of};
 ghost use Rattle.script_calls.specs.Scoped.{AreOnce, AreOpen, IsUnopened, calls_given, nothing_open, rollbacks, rolled_at, scopes_at};
-ghost use Rattle.script_runner.specs.Waits.{AreWaitsAnswered};
 ghost use Rattle.tx_world.specs.AtLog.{Fits};
 ghost use Rattle.world_laws.specs.Left.{steps_left};
 
+use crate::laws::lawful;
 use crate::objects::{asked, do_kth};
 use coordinator_log::Log;
 use dtx_values::{
@@ -43,7 +43,7 @@ use dtx_values::{
     Script, TxNo,
 };
 use entry_lists::{PlacedEntries, Trace};
-use outcome_law::{appends, completeness, crossings, lifting, one_outcome, replay, stops};
+use outcome_law::{appends, crossings, lifting, replay, stops};
 use outside::Disk;
 use scope_context::Context;
 use script_calls::{Gives, Plans, act, call_of, contexts, managers_of};
@@ -246,15 +246,10 @@ impl<'a> Run<'a> {
     /// Does the k-th pending step of transaction t; false where fewer than k are pending.
     fn step<D: Disk>(&mut self, log: &mut Log<D>, t: TxNo, k: u8) -> Result<bool, WorldError>
         requires holds { Holds D.honest D.image log.old self.old }
-        ensures contexts { self.new.contexts ≡ self.old.contexts }
-        ensures log { LogGoes D.faults D.honest D.image log.old log.new }
-        ensures stays { LogStays D.faults log.old log.new }
+        ensures goes { StepsGo D.faults D.honest D.image log.old log.new self.old self.new }
         ensures runs { OnOk result (RunsOn D.faults D.honest D.image log.old log.new self.old self.new) }
-        ensures calls { HaveSameCalls self.old.worlds self.new.worlds }
         ensures did { result ≡ Ok true → StepsOn t k log.old.is_up log.new.is_up self.old self.new }
-        ensures none { result ≡ Ok false → kth (pending (state_of t self.old.worlds).world) k ≡ None }
-        ensures none_here { result ≡ Ok false → kth (pending (world_at self.old.script t (past_of self.old.trace))) k ≡ None }
-        ensures unchanged { result ≡ Ok false → (self.new ≡ self.old) × (log.new ≡ log.old) }
+        ensures none { result ≡ Ok false → HasNoStep t k log.old log.new self.old self.new }
     {
         if self.worlds.len() <= t.index() {
             return Ok(false);
@@ -289,11 +284,8 @@ impl<'a> Run<'a> {
         n: u16,
     ) -> Result<u16, WorldError>
         requires holds { Holds D.honest D.image log.old self.old }
-        ensures contexts { self.new.contexts ≡ self.old.contexts }
-        ensures log { LogGoes D.faults D.honest D.image log.old log.new }
-        ensures stays { LogStays D.faults log.old log.new }
+        ensures goes { StepsGo D.faults D.honest D.image log.old log.new self.old self.new }
         ensures runs { OnOk result (RunsOn D.faults D.honest D.image log.old log.new self.old self.new) }
-        ensures calls { HaveSameCalls self.old.worlds self.new.worlds }
         ensures did { IfOk result (λ m. HasDone t.value (state_of t self.new.worlds).world k n m) }
         ensures done { IfOk result (λ m. HasDoneAt self.old.script t k n m (past_of self.old.trace) (past_of self.new.trace)) }
     {
@@ -308,11 +300,8 @@ impl<'a> Run<'a> {
     /// Does the pending steps of transaction t, each time the first, until none is left.
     fn settle<D: Disk>(&mut self, log: &mut Log<D>, t: TxNo) -> Result<(), WorldError>
         requires holds { Holds D.honest D.image log.old self.old }
-        ensures contexts { self.new.contexts ≡ self.old.contexts }
-        ensures log { LogGoes D.faults D.honest D.image log.old log.new }
-        ensures stays { LogStays D.faults log.old log.new }
+        ensures goes { StepsGo D.faults D.honest D.image log.old log.new self.old self.new }
         ensures runs { OnOk result (RunsOn D.faults D.honest D.image log.old log.new self.old self.new) }
-        ensures calls { HaveSameCalls self.old.worlds self.new.worlds }
         ensures settled { OnOk result (pending (state_of t self.new.worlds).world ≡ []) }
         ensures done { OnOk result (Settles self.old.script t self.old.trace self.new.trace) }
         ensures turns { OnOk result ((start : List Placed) → IsRoundAt self.old.script start t.value (past_of self.old.trace) → IsRoundAt self.old.script start (t.value + 1) (past_of self.new.trace)) }
@@ -328,8 +317,7 @@ impl<'a> Run<'a> {
     /// Settles t1, t2 and so on in turn. As long as the log isn't stopped, no step of one makes another's pending: so then one round leaves nothing.
     fn settle_round<D: Disk>(&mut self, log: &mut Log<D>) -> Result<(), WorldError>
         requires holds { Holds D.honest D.image log.old self.old }
-        ensures log { LogGoes D.faults D.honest D.image log.old log.new }
-        ensures stays { LogStays D.faults log.old log.new }
+        ensures goes { StepsGo D.faults D.honest D.image log.old log.new self.old self.new }
         ensures runs { OnOk result (RunsOn D.faults D.honest D.image log.old log.new self.old self.new) }
         ensures turns { OnOk result ((start : List Placed) → IsRoundAt self.old.script start 1 (past_of self.old.trace) → IsRoundAt self.old.script start 1 (past_of self.new.trace)) }
         ensures settled { OnOk result (log.new.is_up ≡ log.old.is_up → AreSettledBelow self.old.script (TxNo.MAX + 1) (past_of self.new.trace)) }
@@ -344,8 +332,7 @@ impl<'a> Run<'a> {
     /// Settles all, round after round. A stop of the log in a round may leave something to do in those before; once it is stopped, it stops no more.
     fn settle_all<D: Disk>(&mut self, log: &mut Log<D>) -> Result<(), WorldError>
         requires holds { Holds D.honest D.image log.old self.old }
-        ensures log { LogGoes D.faults D.honest D.image log.old log.new }
-        ensures stays { LogStays D.faults log.old log.new }
+        ensures goes { StepsGo D.faults D.honest D.image log.old log.new self.old self.new }
         ensures runs { OnOk result (RunsOn D.faults D.honest D.image log.old log.new self.old self.new) }
         ensures turns { OnOk result ((start : List Placed) → IsRoundAt self.old.script start 1 (past_of self.old.trace) → IsRoundAt self.old.script start 1 (past_of self.new.trace)) }
         ensures settled { OnOk result (AreSettledBelow self.old.script (TxNo.MAX + 1) (past_of self.new.trace)) }
@@ -638,10 +625,7 @@ pub fn run_replay<D: Disk>(
     // The trace: a run of the script in the order of a replay. On an honest disk each restart in it found what may be found; and so is each trace without a restart. Where that is so, it is a settled history,
     // with one outcome for each transaction, and complete.
     ensures replay { IfOk result (λ T. IsRunOf s.now (length resources.old) (D.faults log.old.disk) (D.faults log.new.disk) (D.honest && is_empty (open_records log.old.slots)) T) }
-    ensures tied { IsTrue D.honest → IfOk result (λ T. AreTied T) }
-    ensures outcome { IfOk result (λ T. AreTied T → HasOneOutcome T) }
-    ensures complete { IfOk result (λ T. AreTied T → IsComplete s.now T) }
-    ensures waited { IfOk result (λ T. AreTied T → AreWaitsAnswered s.now T) }
+    ensures lawful { IfOk result (IsLawful D.honest s.now) }
     ensures rights { IfOk result (λ T. AreTied T → HasOneRight T) }
     ensures appends { IfOk result (λ T. AreTied T → AreAppendsBacked T) }
     ensures stops { IfOk result (λ T. AreTied T → AreOutcomesWithheld T) }
@@ -649,14 +633,12 @@ pub fn run_replay<D: Disk>(
     // The log.
     ensures up { IfOk result (λ T. log.new.is_up ≡ is_log_up (past_of T)) }
     ensures recorded { IsTrue D.honest → IfOk result (λ T. EndsAs D.image (open_records log.old.slots) log.new (past_of T)) }
-    ensures unlike { IsTrue D.honest → IfOk result (λ T. has is_no_log_answer (at_log (past_of T)) ≡ false) }
     ensures log { LogGoes D.faults D.honest D.image log.old log.new }
     ensures stays { has_log_line s.now ≡ false → LogStays D.faults log.old log.new }
 {
     // These calls do nothing when they run: their bodies are empty. Each brings its law into this proof, from which the clauses follow.
-    one_outcome();
+    lawful();
     crossings();
-    completeness();
     replay();
     rights();
     appends();

@@ -1,10 +1,10 @@
 //! Runs a script over a disk that is made an empty log first.
-ghost use Rattle.std.specs.Prelude.{◌≡◌, ◌⊎◌, ◌≤◌, ◌^◌, ℕ, [], None, false, length, vec_len, IfErr, IfOk, IsErrOf, IsTrue};
+ghost use Rattle.std.specs.Prelude.{◌≡◌, ◌⊎◌, ◌≤◌, ℕ, false, length, vec_len, IfErr, IfOk, IsErrOf, IsTrue};
 ghost use Rattle.outside.specs.Faults.{Rose};
-ghost use Rattle.coordinator_log.specs.Slots.{open_records};
 ghost use Rattle.coordinator_log.specs.declared.layout.TheConstants.{LOG_BYTES};
 ghost use Rattle.dtx_model.specs.Grammar.{IsScript};
 ghost use Rattle.tx_cells.specs.Cell.{IsThreadable};
+ghost use Rattle.tx_cells.specs.Fresh.{IsFresh};
 ghost use Rattle.script_runner.specs.Ending.{AreOwnLogs, IsLog};
 ghost use Rattle.script_runner.specs.LogRun.{MetNoFault};
 ghost use Rattle.script_runner.specs.Refusal.{IsRunBy, IsRunnable};
@@ -15,36 +15,35 @@ use crate::formatting::{FormatStop, formatted};
 use crate::threads::{ThreadsError, replayed_over, run_threads};
 use crate::way::Way;
 use coordinator_log::Log;
-use dtx_values::Resource;
 use outside::{Disk, Gate};
 use script_text::Script;
-use std::alloc::Global;
 use std::sync::Wait;
 use std::thread::Threads;
+use thread_runs::Setting;
 use trace_text::Trace;
 
 /// The trace of a run of this way over a log without a record, and the disk after it.
 fn traced<D: Disk + Send, G: Gate + Sync, R: Threads + Wait + Sync>(
-    rt: &R,
-    alloc: Global,
     way: Way,
     script: &Script,
     log: Log<D>,
-    gate: &G,
-    mut resources: Vec<Box<dyn Resource + Send>>,
+    setting: Setting<G, R>,
 ) -> (Result<Trace, ThreadsError>, D)
     requires script { IsRunnable way script.now }
-    requires up { IsTrue log.is_up }
-    requires empty { open_records log.slots ≡ [] }
-    requires unarmed { log.armed ≡ None }
-    requires life { log.life ≤ 2 ^ 62 }
-    ensures run { IfOk result.0 (λ T. IsRunBy way (vec_len resources) (D.faults log.disk) (D.faults result.1) D.honest (D.image result.1) script.now T) }
+    requires fresh { IsFresh log }
+    ensures run { IfOk result.0 (λ T. IsRunBy way (vec_len setting.resources) (D.faults log.disk) (D.faults result.1) D.honest (D.image result.1) script.now T) }
     ensures fault { IfErr result.0 (λ e. e ≡ ThreadsError.Fault → Rose (D.faults log.disk) (D.faults result.1)) }
     ensures grows { (IsErrOf result.0 ThreadsError.Fault → ⊥) → D.faults log.disk ≤ D.faults result.1 }
     ensures logs { IsTrue D.honest → (IsErrOf result.0 ThreadsError.Fault → ⊥) → AreOwnLogs (D.image result.1) }
     ensures whole { way ≡ Way.Replay → IsTrue D.honest → MetNoFault D.faults log.disk result.1 → has_log_line script.now ≡ false → IsLog (D.image result.1) }
     ensures room { LOG_BYTES ≤ D.size result.1 }
 {
+    let Setting {
+        rt,
+        alloc,
+        gate,
+        mut resources,
+    } = setting;
     match way {
         Way::Replay => {
             let (replayed, disk) = replayed_over(alloc, script, log, resources.as_mut_slice());
@@ -59,17 +58,14 @@ fn traced<D: Disk + Send, G: Gate + Sync, R: Threads + Wait + Sync>(
 
 /// The trace of a run of this way over the disk, which is made an empty log first and handed back; or how the call ends.
 pub fn traced_anew<D: Disk + Send, G: Gate + Sync, R: Threads + Wait + Sync>(
-    rt: &R,
-    alloc: Global,
     way: Way,
     script: &Script,
     disk: D,
-    gate: &G,
-    resources: Vec<Box<dyn Resource + Send>>,
+    setting: Setting<G, R>,
 ) -> (Result<Trace, Exit>, D)
     requires script { IsRunnable way script.now }
     requires room { LOG_BYTES ≤ D.size disk }
-    ensures run { IfOk result.0 (λ T. IsRunBy way (vec_len resources) (D.faults disk) (D.faults result.1) D.honest (D.image result.1) script.now T) }
+    ensures run { IfOk result.0 (λ T. IsRunBy way (vec_len setting.resources) (D.faults disk) (D.faults result.1) D.honest (D.image result.1) script.now T) }
     ensures only { IfErr result.0 (λ x. (x ≡ Exit.LogFault) ⊎ (x ≡ Exit.Memory)) }
     ensures fault { IsErrOf result.0 Exit.LogFault → Rose (D.faults disk) (D.faults result.1) }
     ensures grows { (IsErrOf result.0 Exit.LogFault → ⊥) → D.faults disk ≤ D.faults result.1 }
@@ -77,12 +73,12 @@ pub fn traced_anew<D: Disk + Send, G: Gate + Sync, R: Threads + Wait + Sync>(
     ensures whole { way ≡ Way.Replay → IsTrue D.honest → MetNoFault D.faults disk result.1 → has_log_line script.now ≡ false → (result.1 ≡ disk) ⊎ IsLog (D.image result.1) }
     ensures room { LOG_BYTES ≤ D.size result.1 }
 {
-    let log = match formatted(alloc, disk) {
+    let log = match formatted(setting.alloc, disk) {
         Ok(log) => log,
         Err((FormatStop::Fault, disk)) => return (Err(Exit::LogFault), disk),
         Err((FormatStop::Memory, disk)) => return (Err(Exit::Memory), disk),
     };
-    let (traced, disk) = traced(rt, alloc, way, script, log, gate, resources);
+    let (traced, disk) = traced(way, script, log, setting);
     match traced {
         Ok(trace) => (Ok(trace), disk),
         Err(ThreadsError::Fault) => (Err(Exit::LogFault), disk),

@@ -1,32 +1,27 @@
 //! A run on threads, and the replay that stands in its place where the run doesn't hold together.
-ghost use Rattle.std.specs.Prelude.{◌≡◌, ◌⊎◌, ◌≤◌, ◌&&◌, ◌^◌, ℕ, [], None, false, length, vec_len, IfErr, IfOk, IsErrOf, IsTrue};
+ghost use Rattle.std.specs.Prelude.{◌≡◌, ◌⊎◌, ◌≤◌, false, length, vec_len, IfErr, IfOk, IsErrOf, IsTrue};
 ghost use Rattle.outside.specs.Faults.{Rose};
-ghost use Rattle.dtx_model.specs.AtLog.{at_log, has_log_line};
+ghost use Rattle.dtx_model.specs.AtLog.{has_log_line};
 ghost use Rattle.dtx_model.specs.Grammar.{IsScript};
-ghost use Rattle.dtx_model.specs.History.{HasOneOutcome, IsComplete};
-ghost use Rattle.dtx_model.specs.Words.{has, past_of};
-ghost use Rattle.coordinator_log.specs.Slots.{open_records};
 ghost use Rattle.coordinator_log.specs.declared.layout.TheConstants.{LOG_BYTES};
 ghost use Rattle.tx_cells.specs.Cell.{IsThreadable};
-ghost use Rattle.tx_cells.specs.LogAnswers.{is_no_log_answer};
-ghost use Rattle.thread_runs.specs.Run.{AreTied, EndsOnThreads, IsRunOnThreads};
+ghost use Rattle.tx_cells.specs.Fresh.{IsFresh};
 ghost use Rattle.script_runner.specs.Ending.{AreOwnLogs, IsLog};
 ghost use Rattle.script_runner.specs.LogRun.{MetNoFault};
 ghost use Rattle.script_runner.specs.Program.{IsReplayOf, IsThreadsOf};
-ghost use Rattle.script_runner.specs.Waits.{AreWaitsAnswered};
 
 use crate::formatting::{FormatStop, formatted};
+use crate::laws::lawful;
 use crate::replay::run_replay;
 use call_order::{call_order, entered_calls};
 use coordinator_log::Log;
 use dtx_values::{Resource, Script};
 use entry_lists::Trace;
-use outcome_law::{completeness, one_outcome};
 use outside::{Disk, Gate};
 use std::alloc::{AllocError, Global};
 use std::sync::Wait;
 use std::thread::Threads;
-use thread_runs::{RunStop, run_on_threads};
+use thread_runs::{RunStop, Setting, run_on_threads};
 
 /// Why a run on threads gives no trace.
 #[derive(Clone, Copy, PartialEq, Eq, Debug)]
@@ -45,10 +40,7 @@ pub fn replayed_over<D: Disk>(
     resources: &mut [Box<dyn Resource + Send>],
 ) -> (Result<Trace, AllocError>, D)
     requires script { IsScript script.now }
-    requires up { IsTrue log.is_up }
-    requires empty { open_records log.slots ≡ [] }
-    requires unarmed { log.armed ≡ None }
-    requires life { log.life ≤ 2 ^ 62 }
+    requires fresh { IsFresh log }
     ensures replay { IfOk result.0 (λ T. IsReplayOf (length resources.old) (D.faults log.disk) (D.faults result.1) D.honest (D.image result.1) script.now T) }
     ensures grows { D.faults log.disk ≤ D.faults result.1 }
     ensures logs { IsTrue D.honest → AreOwnLogs (D.image result.1) }
@@ -109,33 +101,33 @@ pub fn run_threads<D: Disk + Send, G: Gate + Sync, R: Threads + Wait + Sync>(
     resources: Vec<Box<dyn Resource + Send>>,
 ) -> (Result<Trace, ThreadsError>, D)
     requires script { IsThreadable s.now }
-    requires up { IsTrue log.is_up }
-    requires empty { open_records log.slots ≡ [] }
-    requires unarmed { log.armed ≡ None }
-    requires life { log.life ≤ 2 ^ 62 }
+    requires fresh { IsFresh log }
 
     // The trace: a run of the script on threads. On an honest disk each restart in it found what may be found; and so is each trace without a restart. Where that is so, it is a settled history,
-    // with one outcome for each transaction, and complete.
-    ensures run { IfOk result.0 (λ T. IsRunOnThreads s.now (vec_len resources) (D.faults log.disk) (D.faults result.1) T) }
-    ensures tied { IsTrue D.honest → IfOk result.0 (λ T. AreTied T) }
-    ensures outcome { IfOk result.0 (λ T. AreTied T → HasOneOutcome T) }
-    ensures complete { IfOk result.0 (λ T. AreTied T → IsComplete s.now T) }
-    ensures waited { IfOk result.0 (λ T. AreTied T → AreWaitsAnswered s.now T) }
+    // with one outcome for each transaction, and complete. The log at the end is in it.
+    ensures run { IfOk result.0 (IsThreadsOf (vec_len resources) (D.faults log.disk) (D.faults result.1) D.honest (D.image result.1) s.now) }
 
-    // The log. Unless the disk met a fault while it was formatted anew, each image that a crash can leave is a log of the script's transactions alone.
-    ensures ended { IsTrue D.honest → IfOk result.0 (λ T. EndsOnThreads s.now (D.image result.1) T) }
-    ensures unlike { IsTrue D.honest → IfOk result.0 (λ T. has is_no_log_answer (at_log (past_of T)) ≡ false) }
+    // Unless the disk met a fault while it was formatted anew, each image that a crash can leave is a log of the script's transactions alone.
     ensures fault { IfErr result.0 (λ e. e ≡ ThreadsError.Fault → Rose (D.faults log.disk) (D.faults result.1)) }
     ensures grows { (IsErrOf result.0 ThreadsError.Fault → ⊥) → D.faults log.disk ≤ D.faults result.1 }
     ensures logs { IsTrue D.honest → (IsErrOf result.0 ThreadsError.Fault → ⊥) → AreOwnLogs (D.image result.1) }
     ensures room { LOG_BYTES ≤ D.size result.1 }
 {
     // These calls do nothing when they run: their bodies are empty. Each brings its law into this proof, from which the clauses follow.
-    one_outcome();
-    completeness();
+    lawful();
     call_order();
     entered_calls();
-    let (run, log) = run_on_threads(rt, alloc, s, helpers, log, gate, resources);
+    let (run, log) = run_on_threads(
+        s,
+        helpers,
+        log,
+        Setting {
+            rt,
+            alloc,
+            gate,
+            resources,
+        },
+    );
     let disk = log.into_disk();
     match run {
         Ok(trace) => (Ok(trace), disk),

@@ -1,17 +1,19 @@
 -- A run of a script on threads, as its trace has it.
-use Rattle.std.specs.Prelude.{ℕ, ◌-◌, ◌≡◌, ◌<◌, true, List, Ok, filter, length, if◌then◌else◌}
+use Rattle.std.specs.Prelude.{ℕ, ◌-◌, ◌≡◌, ◌<◌, Bool, true, false, List, Ok, IsTrue, filter, length, if◌then◌else◌}
 use Rattle.dtx_values.specs.declared.number.TxNo.{TxNo}
 use Rattle.dtx_values.specs.declared.script.Line.{Line}
-use Rattle.dtx_model.specs.AtLog.{is_log_up}
+use Rattle.dtx_model.specs.AtLog.{at_log, is_log_up}
 use Rattle.dtx_model.specs.Caused.{Caused}
 use Rattle.dtx_model.specs.History.{IsHistory}
 use Rattle.dtx_model.specs.Log.{CommitRecord, is_record_of, log_has}
 use Rattle.dtx_model.specs.Promotes.{identifier_of}
 use Rattle.dtx_model.specs.Tied.{has_mark, tied}
 use Rattle.dtx_model.specs.Traces.{Placed, history}
-use Rattle.dtx_model.specs.Words.{past_of}
+use Rattle.dtx_model.specs.Words.{has, past_of}
 use Rattle.coordinator_log.specs.Crash.{AllHold}
+use Rattle.coordinator_log.specs.State.{LogState}
 use Rattle.call_order.specs.InOrder.{AreInActorOrder}
+use Rattle.tx_cells.specs.LogAnswers.{is_no_log_answer}
 use Rattle.tx_cells.specs.LogCell.{AreOwn, LAST}
 
 -- in each transaction each restart found what may be found: so it is where none came, and on an honest disk
@@ -48,3 +50,12 @@ EachHolds image P = (c : List ℕ) → image c → (rs : List CommitRecord) × (
 pub record EndsOnThreads (s : List Line) (image : List ℕ → Type 0) (T : List Placed) : Type 0 where
   pub up : is_log_up (past_of T) ≡ true → (rs : List CommitRecord) × AllHold image rs × AreMarked (past_of T) rs
   pub own : EachHolds image (AreOwn s)
+
+-- What a run of the script s on threads came to, in which the first k managers have an object, and before which the disk's count of faults was `from`: T is its trace, and `to` the log after it, which is up exactly where the trace says so. On an honest
+-- disk each restart in the trace found what may be found, and found a log; and the log ends as the trace says.
+pub record RanOnThreads {D : Type 0} (faults : D → ℕ) (honest : Bool) (image : D → List ℕ → Type 0) (s : List Line) (k from : ℕ) (to : LogState D) (T : List Placed) : Type 0 where
+  pub run : IsRunOnThreads s k from (faults to.disk) T
+  pub tied : IsTrue honest → AreTied T
+  pub up : to.is_up ≡ is_log_up (past_of T)
+  pub ended : IsTrue honest → EndsOnThreads s (image to.disk) T
+  pub unlike : IsTrue honest → has is_no_log_answer (at_log (past_of T)) ≡ false

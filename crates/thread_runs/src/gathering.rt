@@ -1,14 +1,12 @@
 //! The trace of a run on threads: the contexts by actor, the transactions by number, then the log.
-ghost use Rattle.std.specs.Prelude.{ℕ, ◌≡◌, ◌++◌, ◌<◌, [], IfOk, IsTrue, OnOk, false, map, true};
+ghost use Rattle.std.specs.Prelude.{ℕ, ◌≡◌, ◌++◌, ◌<◌, [], IfOk, OnOk, map, true};
 ghost use Rattle.std.specs.List.{All};
-ghost use Rattle.dtx_model.specs.AtLog.{at_log, is_log_up};
 ghost use Rattle.dtx_model.specs.Traces.{noted, placed};
-ghost use Rattle.dtx_model.specs.Words.{has, past_of};
-ghost use Rattle.tx_cells.specs.LogAnswers.{is_no_log_answer};
+ghost use Rattle.dtx_model.specs.Words.{past_of};
 ghost use Rattle.thread_runs.specs.Contexts.{AreContexts, entries_of};
 ghost use Rattle.run_endings.specs.Finished.{AreFinished};
 ghost use Rattle.thread_runs.specs.Gathering.{HasContexts, IsCellOf, are_in_order, with_histories, with_log};
-ghost use Rattle.thread_runs.specs.Run.{AreTied, EndsOnThreads, IsRunOnThreads};
+ghost use Rattle.thread_runs.specs.Run.{RanOnThreads};
 
 use call_order::{call_order, entered_calls};
 use dtx_values::{ActorNo, Entry, Place};
@@ -31,12 +29,8 @@ pub fn gathered<D: Disk, N: Run>(
 ) -> Result<Trace, AllocError>
     requires finished { AreFinished N.script states.now log.now }
     requires contexts { AreContexts N.script (map (λ e. e.items) contexts.now) }
-    ensures run { IfOk result (λ T. IsRunOnThreads N.script N.objects N.faults (D.faults log.now.log.disk) T) }
+    ensures run { IfOk result (RanOnThreads D.faults D.honest D.image N.script N.objects N.faults log.now.log) }
     ensures laid { IfOk result (λ T. are_in_order (past_of T) ≡ true) }
-    ensures tied { IsTrue D.honest → IfOk result AreTied }
-    ensures ended { IsTrue D.honest → IfOk result (λ T. EndsOnThreads N.script (D.image log.now.log.disk) T) }
-    ensures unlike { IsTrue D.honest → IfOk result (λ T. has is_no_log_answer (at_log (past_of T)) ≡ false) }
-    ensures up { IfOk result (λ T. log.now.log.is_up ≡ is_log_up (past_of T)) }
 {
     // These calls do nothing when they run. Each brings its law into this proof, from which the clauses follow.
     entered_calls();

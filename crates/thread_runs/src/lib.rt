@@ -6,4 +6,4 @@ mod gathering;
 mod running;
 
 pub use run_endings::RunStop;
-pub use running::run_on_threads;
+pub use running::{Setting, run_on_threads};

@@ -1,13 +1,10 @@
 //! The run itself.
-ghost use Rattle.std.specs.Prelude.{◌≡◌, ◌≤◌, ◌^◌, [], IfOk, IsTrue, None, false, map, vec_len};
-ghost use Rattle.dtx_model.specs.AtLog.{at_log, is_log_up};
-ghost use Rattle.dtx_model.specs.Words.{has, past_of};
-ghost use Rattle.coordinator_log.specs.Slots.{open_records};
+ghost use Rattle.std.specs.Prelude.{◌≡◌, ◌≤◌, IfOk, IsTrue, map, vec_len};
 ghost use Rattle.tx_cells.specs.Cell.{IsThreadable};
-ghost use Rattle.tx_cells.specs.LogAnswers.{is_no_log_answer};
+ghost use Rattle.tx_cells.specs.Fresh.{IsFresh, MayBegin};
 ghost use Rattle.tx_cells.specs.LogCell.{AreOwn};
 ghost use Rattle.thread_runs.specs.Contexts.{AreContexts};
-ghost use Rattle.thread_runs.specs.Run.{AreTied, EachHolds, EndsOnThreads, IsRunOnThreads};
+ghost use Rattle.thread_runs.specs.Run.{EachHolds, RanOnThreads};
 
 use crate::contexts::outline_of;
 use crate::gathering::gathered;
@@ -29,6 +26,15 @@ mod turns;
 
 use threads::{call_all, highest_in, split_at_par};
 use turns::Shared;
+
+/// In what a script is run: what starts threads and lets them wait, where memory comes from, the gate before each reply on threads, and the objects of the first managers, in order.
+#[derive(Drop)]
+pub struct Setting<'a, G, R> {
+    pub rt: &'a R,
+    pub alloc: Global,
+    pub gate: &'a G,
+    pub resources: Vec<Box<dyn Resource + Send>>,
+}
 
 /// What the threads of a run leave, but the log: what stands at each actor's context, the transactions by number, and the objects.
 #[derive(Drop)]
@@ -68,36 +74,34 @@ fn unlocked(
 
 /// The threads of a run over this log, and what goes before them.
 fn threads_over<N: Run + Send + Sync, D: Disk + Send, G: Gate + Sync, R: Threads + Wait + Sync>(
-    rt: &R,
-    alloc: Global,
     s: &Script,
     helpers: u8,
     log: &SharedLog<D, N>,
-    gate: &G,
-    resources: Vec<Box<dyn Resource + Send>>,
+    setting: Setting<G, R>,
 ) -> Result<Left<N>, RunStop>
     requires named { s.now ≡ N.script }
     requires script { IsThreadable s.now }
-    requires objects { vec_len resources ≡ N.objects }
+    requires objects { vec_len setting.resources ≡ N.objects }
     ensures contexts { IfOk result (λ x. AreContexts N.script (map (λ h. h.items) x.contexts.items)) }
     ensures objects { IfOk result (λ x. vec_len x.resources ≡ N.objects) }
 {
+    let alloc = setting.alloc;
     let plans = Plans::new(alloc, s.lines())?;
     let outline = outline_of(alloc, &plans)?;
     let cells = Cells::new(alloc, s)?;
-    let locks = locked(alloc, resources)?;
+    let locks = locked(alloc, setting.resources)?;
     let (alone, apart) = split_at_par(s.lines(), &outline.to_do);
     let ended = AtomicU64::new(0);
     let shared = Shared {
         lines: s.lines(),
         cells: &cells,
         log,
-        gate,
+        gate: setting.gate,
         resources: locks.as_slice(),
         actors: highest_in(apart),
         ended: &ended,
     };
-    call_all(rt, alloc, &shared, helpers, alone, apart)?;
+    call_all(setting.rt, alloc, &shared, helpers, alone, apart)?;
     Ok(Left {
         contexts: outline.contexts,
         states: cells.into_states(alloc)?,
@@ -115,11 +119,7 @@ fn trace_of<N: Run, D: Disk>(
     requires named { s.now ≡ N.script }
     requires contexts { AreContexts N.script (map (λ h. h.items) left.contexts.items) }
     requires objects { vec_len left.resources ≡ N.objects }
-    ensures run { IfOk result (λ T. IsRunOnThreads N.script N.objects N.faults (D.faults log.new.log.disk) T) }
-    ensures tied { IsTrue D.honest → IfOk result AreTied }
-    ensures up { IfOk result (λ T. log.new.log.is_up ≡ is_log_up (past_of T)) }
-    ensures ended { IsTrue D.honest → IfOk result (λ T. EndsOnThreads N.script (D.image log.new.log.disk) T) }
-    ensures unlike { IsTrue D.honest → IfOk result (λ T. has is_no_log_answer (at_log (past_of T)) ≡ false) }
+    ensures { IfOk result (RanOnThreads D.faults D.honest D.image N.script N.objects N.faults log.new.log) }
 {
     let Left {
         contexts,
@@ -134,38 +134,25 @@ fn trace_of<N: Run, D: Disk>(
 
 /// The run under its name.
 fn run_named<N: Run + Send + Sync, D: Disk + Send, G: Gate + Sync, R: Threads + Wait + Sync>(
-    rt: &R,
-    alloc: Global,
     s: &Script,
     helpers: u8,
     log: Log<D>,
-    gate: &G,
-    resources: Vec<Box<dyn Resource + Send>>,
+    setting: Setting<G, R>,
 ) -> (Result<Trace, RunStop>, Log<D>)
-    requires named { s.now ≡ N.script }
-    requires objects { vec_len resources ≡ N.objects }
-    requires honest { D.honest ≡ N.honest }
-    requires faults { D.faults log.disk ≡ N.faults }
-    requires script { IsThreadable s.now }
-    requires up { IsTrue log.is_up }
-    requires empty { open_records log.slots ≡ [] }
-    requires unarmed { log.armed ≡ None }
-    requires life { log.life ≤ 2 ^ 62 }
-    ensures run { IfOk result.0 (λ T. IsRunOnThreads s.now (vec_len resources) (D.faults log.disk) (D.faults result.1.disk) T) }
-    ensures tied { IsTrue D.honest → IfOk result.0 AreTied }
-    ensures up { IfOk result.0 (λ T. result.1.is_up ≡ is_log_up (past_of T)) }
-    ensures ended { IsTrue D.honest → IfOk result.0 (λ T. EndsOnThreads s.now (D.image result.1.disk) T) }
-    ensures unlike { IsTrue D.honest → IfOk result.0 (λ T. has is_no_log_answer (at_log (past_of T)) ≡ false) }
-    ensures grows { D.faults log.disk ≤ D.faults result.1.disk }
-    ensures images { IsTrue D.honest → EachHolds (D.image result.1.disk) (AreOwn s.now) }
+    requires begins { MayBegin N.script N.honest N.faults D.honest D.faults s.now log }
+    requires objects { vec_len setting.resources ≡ N.objects }
+    ensures run { IfOk result.0 (RanOnThreads D.faults D.honest D.image N.script N.objects N.faults result.1) }
+    ensures grows { N.faults ≤ D.faults result.1.disk }
+    ensures images { IsTrue D.honest → EachHolds (D.image result.1.disk) (AreOwn N.script) }
 {
+    let alloc = setting.alloc;
     // A proof sees here what the images of the disk have.
     let _ = log.is_up();
     let shared = match SharedLog::<D, N>::over(alloc, log, s) {
         Ok(shared) => shared,
         Err((_, log)) => return (Err(RunStop::Memory), log),
     };
-    let left = threads_over(rt, alloc, s, helpers, &shared, gate, resources);
+    let left = threads_over(s, helpers, &shared, setting);
     let mut state = shared.into_state();
     let trace = match left {
         Ok(left) => trace_of(alloc, s, left, &mut state),
@@ -177,37 +164,27 @@ fn run_named<N: Run + Send + Sync, D: Disk + Send, G: Gate + Sync, R: Threads + 
     (trace, log)
 }
 
-/// Runs a script on threads: the lines before its `par` by the caller, then each actor's further lines on a thread of its own, with so many helpers beside them, and the rest by the caller again. The
+/// Runs a script on threads in this setting: the lines before its `par` by the caller, then each actor's further lines on a thread of its own, with so many helpers beside them, and the rest by the caller again. The
 /// log is up, no stop is armed there, it has no record, and its life is at most 2^62. The first managers have an object each, as many as are given.
 ///
 /// # Errors
 ///
 /// [`RunStop::Memory`] where memory ran out, and [`RunStop::Differs`] where what two keep of the same differs, as over a disk that isn't honest. The log is handed back in each case.
 pub fn run_on_threads<D: Disk + Send, G: Gate + Sync, R: Threads + Wait + Sync>(
-    rt: &R,
-    alloc: Global,
     s: &Script,
     helpers: u8,
     log: Log<D>,
-    gate: &G,
-    resources: Vec<Box<dyn Resource + Send>>,
+    setting: Setting<G, R>,
 ) -> (Result<Trace, RunStop>, Log<D>)
     requires script { IsThreadable s.now }
-    requires up { IsTrue log.is_up }
-    requires empty { open_records log.slots ≡ [] }
-    requires unarmed { log.armed ≡ None }
-    requires life { log.life ≤ 2 ^ 62 }
+    requires fresh { IsFresh log }
 
-    // The trace: a run of the script on threads. On an honest disk each restart in it found what may be found.
-    ensures run { IfOk result.0 (λ T. IsRunOnThreads s.now (vec_len resources) (D.faults log.disk) (D.faults result.1.disk) T) }
-    ensures tied { IsTrue D.honest → IfOk result.0 AreTied }
+    // The trace, which is a run of the script on threads, and the log after it.
+    ensures run { IfOk result.0 (RanOnThreads D.faults D.honest D.image s.now (vec_len setting.resources) (D.faults log.disk) result.1) }
 
-    // The log. Also after an error each image that a crash can leave is a log of the script's transactions alone.
-    ensures up { IfOk result.0 (λ T. result.1.is_up ≡ is_log_up (past_of T)) }
-    ensures ended { IsTrue D.honest → IfOk result.0 (λ T. EndsOnThreads s.now (D.image result.1.disk) T) }
-    ensures unlike { IsTrue D.honest → IfOk result.0 (λ T. has is_no_log_answer (at_log (past_of T)) ≡ false) }
+    // Also after an error each image that a crash can leave is a log of the script's transactions alone.
     ensures grows { D.faults log.disk ≤ D.faults result.1.disk }
     ensures images { IsTrue D.honest → EachHolds (D.image result.1.disk) (AreOwn s.now) }
 {
-    run_named::<Brand, D, G, R>(rt, alloc, s, helpers, log, gate, resources)
+    run_named::<Brand, D, G, R>(s, helpers, log, setting)
 }

@@ -11,7 +11,7 @@ returns-clause-answers g c =
     sure_answer c.run_in.result.0 c.run_in.ensures.accepted
     (λ n cause e. c.reads_exactly.ensures.either (gen c.args.n) script.0 n cause script.1 (c.run_in.ensures.bad n cause e (gen c.args.n) (ap Some (c.new-source.ensures ∙ c.in-Ok.ensures.text))))
     (λ n e. not_on_threads (c.run_in.ensures.not_threadable n e).0)
-    (λ e. let r = c.run_in.ensures.read_fault e in omega (arith, r))
+    (λ e. let r = c.run_in.ensures.faults.read_fault e in omega (arith, r))
 
 pub returns-clause-given_up_whole : goal.returns-clause-given_up_whole
 returns-clause-given_up_whole g c honest memory calm =

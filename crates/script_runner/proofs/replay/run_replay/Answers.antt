@@ -59,38 +59,11 @@ returns-in-Ok-clause-replay g c =
       };
     }
 
-pub returns-in-Ok-clause-outcome : goal.returns-in-Ok-clause-outcome
-returns-in-Ok-clause-outcome g c sound =
-    let s = c.args.s.now in
-    let T = past_of c.in-Ok.trace in
-    let b = (goal.at.returns-in-Ok-clause-outcome g c).In-Ok in
-    let named = c.requires.script.named in
-    let caused = all_caused g b in
-    record {
-      just = λ t. c.one_outcome.ensures.just s t.value (history t.value T) named (caused t).freely (sound t);
-      agrees = λ t. c.one_outcome.ensures.agrees s t.value (history t.value T) named (caused t).freely (sound t);
-      learned = λ t. c.one_outcome.ensures.learned s t.value (history t.value T) named (caused t).freely (sound t);
-    }
-
-pub returns-in-Ok-clause-complete : goal.returns-in-Ok-clause-complete
-returns-in-Ok-clause-complete g c sound =
-    let s = c.args.s.now in
-    let T = past_of c.in-Ok.trace in
-    let o = length c.args.resources.now in
-    let b = (goal.at.returns-in-Ok-clause-complete g c).In-Ok in
+pub returns-in-Ok-clause-lawful : goal.returns-in-Ok-clause-lawful
+returns-in-Ok-clause-lawful g c =
+    let b = (goal.at.returns-in-Ok-clause-lawful g c).In-Ok in
     let e = of_run g b in
-    let named = c.requires.script.named in
-    let caused = all_caused g b in
-    record {
-      told = λ t. c.completeness.ensures.told s o t.value (history t.value T) named (caused t) (sound t);
-      committed = λ t asked. c.completeness.ensures.committed s o t.value (history t.value T) named (caused t) (e.settled t) asked;
-      answered = λ t. c.completeness.ensures.answered s o t.value (history t.value T) named (caused t) (sound t);
-    }
-
-pub returns-in-Ok-clause-waited : goal.returns-in-Ok-clause-waited
-returns-in-Ok-clause-waited g c sound t =
-    let caused = all_caused g (goal.at.returns-in-Ok-clause-waited g c).In-Ok t in
-    c.completeness.ensures.waited c.args.s.now (length c.args.resources.now) t.value (history t.value (past_of c.in-Ok.trace)) c.requires.script.named caused (sound t)
+    c.lawful.ensures g.D.Disk.honest c.args.s.now (length c.args.resources.now) c.in-Ok.trace c.requires.script.named (all_caused g b) (λ sound. e.settled) c.in-Ok.ensures.tied c.in-Ok.ensures.unlike
 
 pub returns-in-Ok-clause-rights : goal.returns-in-Ok-clause-rights
 returns-in-Ok-clause-rights g c sound =

@@ -49,20 +49,20 @@ pub returns-in_err-lines-clause-stays : goal.returns-in_err-lines-clause-stays
 returns-in_err-lines-clause-stays g c none = c.lines.ensures.stays (ap has_log_line (ap (λ (r : RunState). r.script) c.in_ok-run.ensures) ∙ none)
 
 pub returns-in_err-settle_all-clause-log : goal.returns-in_err-settle_all-clause-log
-returns-in_err-settle_all-clause-log g c = goes_then g.D.Disk.faults g.D.Disk.honest g.D.Disk.image c.args.log.now c.lines.new.log c.settle_all.new.log c.lines.ensures.log c.settle_all.ensures.log
+returns-in_err-settle_all-clause-log g c = goes_then g.D.Disk.faults g.D.Disk.honest g.D.Disk.image c.args.log.now c.lines.new.log c.settle_all.new.log c.lines.ensures.log c.settle_all.ensures.goes.log
 
 pub returns-in_err-settle_all-clause-stays : goal.returns-in_err-settle_all-clause-stays
 returns-in_err-settle_all-clause-stays g c none =
     let first = c.lines.ensures.stays (ap has_log_line (ap (λ (r : RunState). r.script) c.in_ok-run.ensures) ∙ none) in
-    stays_then g.D.Disk.faults c.args.log.now c.lines.new.log c.settle_all.new.log c.lines.ensures.log.grows c.settle_all.ensures.log.grows first c.settle_all.ensures.stays
+    stays_then g.D.Disk.faults c.args.log.now c.lines.new.log c.settle_all.new.log c.lines.ensures.log.grows c.settle_all.ensures.goes.log.grows first c.settle_all.ensures.goes.stays
 
 pub returns-clause-log : goal.returns-clause-log
-returns-clause-log g c = goes_then g.D.Disk.faults g.D.Disk.honest g.D.Disk.image _ _ _ c.lines.ensures.log c.settle_all.ensures.log
+returns-clause-log g c = goes_then g.D.Disk.faults g.D.Disk.honest g.D.Disk.image _ _ _ c.lines.ensures.log c.settle_all.ensures.goes.log
 
 pub returns-clause-stays : goal.returns-clause-stays
 returns-clause-stays g c none =
     let first = c.lines.ensures.stays (ap has_log_line (ap (λ (r : RunState). r.script) c.in_ok-run.ensures) ∙ none) in
-    stays_then g.D.Disk.faults c.args.log.now c.lines.new.log c.settle_all.new.log c.lines.ensures.log.grows c.settle_all.ensures.log.grows first c.settle_all.ensures.stays
+    stays_then g.D.Disk.faults c.args.log.now c.lines.new.log c.settle_all.new.log c.lines.ensures.log.grows c.settle_all.ensures.goes.log.grows first c.settle_all.ensures.goes.stays
 
 pub returns-clause-replayed : goal.returns-clause-replayed
 returns-clause-replayed g c =
@@ -133,6 +133,6 @@ returns-clause-ends g c h =
     let log = c.args.log.now in
     let last = c.settle_all.new.log in
     let end = told_at_end g (goal.at.returns-clause-ends g c).In_ok-settle_all in
-    let went = goes_then g.D.Disk.faults g.D.Disk.honest image log c.lines.new.log last c.lines.ensures.log c.settle_all.ensures.log in
+    let went = goes_then g.D.Disk.faults g.D.Disk.honest image log c.lines.new.log last c.lines.ensures.log c.settle_all.ensures.goes.log in
     ends_as g.D.Disk.faults image log last c.settle_all.new.self c.into_trace.result c.into_trace.ensures.trace c.into_trace.ensures.numbered
     (subst (λ b. Holds b image last c.settle_all.new.self) h c.in_ok-settle_all.ensures.runs.holds) (end.foreign h) (went.logs h (λ bytes among. (_, c.is_up.ensures.images h c.requires.up bytes among))) (c.is_up-2.ensures.images h)

@@ -1,5 +1,6 @@
 use Rattle.std.proofs.Common.{ℕ, List, map, ap, sym, subst, ◌∙◌}
 use Rattle.std.specs.Prelude.{IsTrue}
+use Rattle.dtx_values.specs.declared.entry.Entry.{Entry}
 use Rattle.dtx_values.specs.declared.number.TxNo.{TxNo}
 use Rattle.dtx_model.specs.AtLog.{at_log, faults as faults_told}
 use Rattle.dtx_model.specs.Caused.{Caused}
@@ -20,31 +21,41 @@ returns-clause-run g c =
     let s = g.N.Run.script in
     let k : ℕ = g.N.Run.objects in
     let from : ℕ = g.N.Run.faults in
+    let image = g.D.Disk.image in
+    let ess : List (List Entry) = map (λ e. e.items) c.args.contexts.now in
     let log = c.args.log.now in
     let to : ℕ = g.D.Disk.faults log.log.disk in
     let T : List Placed = past_of c.new.result in
     let is = put_together c.args.states.now log.past c.entries.result.now c.new.result c.write_contexts.new.trace.items c.write_histories.new.trace.items c.write_log.new.trace.items c.new.ensures c.in_ok-write_log.ensures c.entries.ensures c.in_ok-write_histories.ensures in
-    let all = is_gathered g.D.Disk.faults g.D.Disk.honest g.D.Disk.image s k g.N.Run.honest from (map (λ e. e.items) c.args.contexts.now) c.args.states.now log (past_of c.write_contexts.new.trace.items) T c.requires.finished c.are_kept.ensures c.is_kept.ensures c.in_ok-write_contexts.ensures is in
+    let all = is_gathered g.D.Disk.faults g.D.Disk.honest image s k g.N.Run.honest from ess c.args.states.now log (past_of c.write_contexts.new.trace.items) T c.requires.finished c.are_kept.ensures c.is_kept.ensures c.in_ok-write_contexts.ensures is in
     let caused : (t : TxNo) → Caused s k t.value (history t.value T) = λ t. caused_there s k g.N.Run.honest log t (history t.value T) (all.stands t) in
     let ordered : AreInActorOrder s c.new.result =
     c.call_order.ensures.ordered s c.new.result
     (λ t a. lines_there s k g.N.Run.honest log t (history t.value T) (λ rows w. c.entered_calls.ensures.whole s t.value rows w) (λ none. c.entered_calls.ensures.unnamed s t.value c.is_kept.ensures.script.script none) (all.stands t) a)
     (λ a. all.contexts a ∙ c.requires.contexts a) (λ a. ap (lines_by a.value) all.at_the_log ∙ c.entered_calls.ensures.whole_log s log.rows log.past c.is_kept.ensures.in_order c.requires.finished.entered_at_log a) in
+    let held : IsTrue g.D.Disk.honest → IsTrue log.log.is_up → AllHold (image log.log.disk) (open_records log.log.slots) =
+    λ h. subst (λ l. IsTrue l.is_up → AllHold (image l.disk) (open_records l.slots)) c.log.ensures.same (c.is_up.ensures.images h) in
     record {
-      rise = rise_of from to (faults_told (at_log T));
-      risen = rise_known from to (faults_told (at_log T));
-      caused = caused;
-      ordered = ordered;
-      history = λ sound. record {
+      run = record {
+        rise = rise_of from to (faults_told (at_log T));
+        risen = rise_known from to (faults_told (at_log T));
         caused = caused;
-        promotes = λ t. c.crossings.ensures.promotes s t.value (history t.value T) c.is_kept.ensures.script.script.named (caused t).freely (sound t);
-        wires = λ t. c.crossings.ensures.wires s t.value (history t.value T) (caused t).freely;
-        settled = λ t. settled_there s k g.N.Run.honest log t (history t.value T) (all.stands t);
-        contexts = λ a. all.contexts a ∙ c.requires.contexts a;
-        called = c.call_order.ensures.called s c.new.result ordered;
-        faulted = rise_told from to log.log.armed log.past (at_log T) all.at_the_log c.is_kept.ensures.counted;
-        followed = all_follow T (λ t. followed_there s k g.N.Run.honest log T t all.at_the_log (all.stands t));
+        ordered = ordered;
+        history = λ sound. record {
+          caused = caused;
+          promotes = λ t. c.crossings.ensures.promotes s t.value (history t.value T) c.is_kept.ensures.script.script.named (caused t).freely (sound t);
+          wires = λ t. c.crossings.ensures.wires s t.value (history t.value T) (caused t).freely;
+          settled = λ t. settled_there s k g.N.Run.honest log t (history t.value T) (all.stands t);
+          contexts = λ a. all.contexts a ∙ c.requires.contexts a;
+          called = c.call_order.ensures.called s c.new.result ordered;
+          faulted = rise_told from to log.log.armed log.past (at_log T) all.at_the_log c.is_kept.ensures.counted;
+          followed = all_follow T (λ t. followed_there s k g.N.Run.honest log T t all.at_the_log (all.stands t));
+        };
       };
+      tied = λ h t. tied_there s k g.N.Run.honest log t (history t.value T) (sym c.is_kept.ensures.honest_is ∙ h) (all.stands t);
+      up = up_there g.D.Disk.faults g.D.Disk.honest image s k g.N.Run.honest from ess log T all;
+      ended = λ h. ends_there g.D.Disk.faults g.D.Disk.honest image s k g.N.Run.honest from ess log c.new.result h (held h) all;
+      unlike = λ h. ap (has is_no_log_answer) all.at_the_log ∙ c.is_kept.ensures.unlike h;
     }
 
 pub returns-clause-laid : goal.returns-clause-laid
@@ -53,39 +64,3 @@ returns-clause-laid g c =
     let is = put_together c.args.states.now log.past c.entries.result.now c.new.result c.write_contexts.new.trace.items c.write_histories.new.trace.items c.write_log.new.trace.items c.new.ensures c.in_ok-write_log.ensures c.entries.ensures
     c.in_ok-write_histories.ensures in
     laid_all g.N.Run.script c.args.states.now log.past (past_of c.write_contexts.new.trace.items) (past_of c.new.result) c.requires.finished.named is c.in_ok-write_contexts.ensures.laid
-
-pub returns-clause-tied : goal.returns-clause-tied
-returns-clause-tied g c h t =
-    let log = c.args.log.now in
-    let T : List Placed = past_of c.new.result in
-    let is = put_together c.args.states.now log.past c.entries.result.now c.new.result c.write_contexts.new.trace.items c.write_histories.new.trace.items c.write_log.new.trace.items c.new.ensures c.in_ok-write_log.ensures c.entries.ensures c.in_ok-write_histories.ensures in
-    let all = is_gathered g.D.Disk.faults g.D.Disk.honest g.D.Disk.image g.N.Run.script g.N.Run.objects g.N.Run.honest g.N.Run.faults (map (λ e. e.items) c.args.contexts.now) c.args.states.now log (past_of c.write_contexts.new.trace.items) T c.requires.finished c.are_kept.ensures
-    c.is_kept.ensures c.in_ok-write_contexts.ensures is in
-    tied_there g.N.Run.script g.N.Run.objects g.N.Run.honest log t (history t.value T) (sym c.is_kept.ensures.honest_is ∙ h) (all.stands t)
-
-pub returns-clause-ended : goal.returns-clause-ended
-returns-clause-ended g c h =
-    let log = c.args.log.now in
-    let image = g.D.Disk.image in
-    let is = put_together c.args.states.now log.past c.entries.result.now c.new.result c.write_contexts.new.trace.items c.write_histories.new.trace.items c.write_log.new.trace.items c.new.ensures c.in_ok-write_log.ensures c.entries.ensures c.in_ok-write_histories.ensures in
-    let all = is_gathered g.D.Disk.faults g.D.Disk.honest image g.N.Run.script g.N.Run.objects g.N.Run.honest g.N.Run.faults (map (λ e. e.items) c.args.contexts.now) c.args.states.now log (past_of c.write_contexts.new.trace.items) (past_of c.new.result) c.requires.finished
-    c.are_kept.ensures c.is_kept.ensures c.in_ok-write_contexts.ensures is in
-    let held : IsTrue log.log.is_up → AllHold (image log.log.disk) (open_records log.log.slots) =
-    subst (λ l. IsTrue l.is_up → AllHold (image l.disk) (open_records l.slots)) c.log.ensures.same (c.is_up.ensures.images h) in
-    ends_there g.D.Disk.faults g.D.Disk.honest image g.N.Run.script g.N.Run.objects g.N.Run.honest g.N.Run.faults (map (λ e. e.items) c.args.contexts.now) log c.new.result h held all
-
-pub returns-clause-unlike : goal.returns-clause-unlike
-returns-clause-unlike g c h =
-    let log = c.args.log.now in
-    let is = put_together c.args.states.now log.past c.entries.result.now c.new.result c.write_contexts.new.trace.items c.write_histories.new.trace.items c.write_log.new.trace.items c.new.ensures c.in_ok-write_log.ensures c.entries.ensures c.in_ok-write_histories.ensures in
-    let all = is_gathered g.D.Disk.faults g.D.Disk.honest g.D.Disk.image g.N.Run.script g.N.Run.objects g.N.Run.honest g.N.Run.faults (map (λ e. e.items) c.args.contexts.now) c.args.states.now log (past_of c.write_contexts.new.trace.items) (past_of c.new.result) c.requires.finished
-    c.are_kept.ensures c.is_kept.ensures c.in_ok-write_contexts.ensures is in
-    ap (has is_no_log_answer) all.at_the_log ∙ c.is_kept.ensures.unlike h
-
-pub returns-clause-up : goal.returns-clause-up
-returns-clause-up g c =
-    let log = c.args.log.now in
-    let is = put_together c.args.states.now log.past c.entries.result.now c.new.result c.write_contexts.new.trace.items c.write_histories.new.trace.items c.write_log.new.trace.items c.new.ensures c.in_ok-write_log.ensures c.entries.ensures c.in_ok-write_histories.ensures in
-    let all = is_gathered g.D.Disk.faults g.D.Disk.honest g.D.Disk.image g.N.Run.script g.N.Run.objects g.N.Run.honest g.N.Run.faults (map (λ e. e.items) c.args.contexts.now) c.args.states.now log (past_of c.write_contexts.new.trace.items) (past_of c.new.result) c.requires.finished
-    c.are_kept.ensures c.is_kept.ensures c.in_ok-write_contexts.ensures is in
-    up_there g.D.Disk.faults g.D.Disk.honest g.D.Disk.image g.N.Run.script g.N.Run.objects g.N.Run.honest g.N.Run.faults (map (λ e. e.items) c.args.contexts.now) log (past_of c.new.result) all

@@ -15,7 +15,7 @@ pub call-requires-clause-given : goal.call-requires-clause-given
 call-requires-clause-given g c = subst (λ (r : List Line). IsCallOf r c.args.t.value c.args.n c.args.actor c.args.c.now) (sym c.in_ok-done-in-Do.ensures.runs.script) c.requires.given
 
 pub call-requires-clause-below : goal.call-requires-clause-below
-call-requires-clause-below g c = below_same c.args.n c.args.self.now.worlds c.steps.new.self.worlds c.steps.ensures.calls c.requires.below c.args.t
+call-requires-clause-below g c = below_same c.args.n c.args.self.now.worlds c.steps.new.self.worlds c.steps.ensures.goes.calls c.requires.below c.args.t
 
 pub call-requires-clause-answers : goal.call-requires-clause-answers
 call-requires-clause-answers g c = did_answers c.args.t.value (state_of c.args.t c.steps.new.self.worlds).world c.args.c.now _ _ _ c.in_ok-done-in-Do.done c.in-Do.is c.in_ok-done-in-Do.ensures.did
@@ -27,7 +27,7 @@ returns-in_ok-done-in-Do-clause-runs g c =
 pub returns-in_ok-done-in-Do-clause-entered : goal.returns-in_ok-done-in-Do-clause-entered
 returns-in_ok-done-in-Do-clause-entered g c =
     let ws = c.steps.new.self.worlds in
-    let below = below_same c.args.n c.args.self.now.worlds ws c.steps.ensures.calls c.requires.below in
+    let below = below_same c.args.n c.args.self.now.worlds ws c.steps.ensures.goes.calls c.requires.below in
     on_ok_weaker c.call.result (λ entered. all_below (c.args.n + 1) c.args.t ws c.call.new.self.worlds c.call.ensures.others entered (all_below_next c.args.n ws below)) c.call.ensures.entered
 
 pub returns-in_ok-done-in-Do-clause-done : goal.returns-in_ok-done-in-Do-clause-done
@@ -42,7 +42,7 @@ pub call-requires-in-Await-clause-given : goal.call-requires-in-Await-clause-giv
 call-requires-in-Await-clause-given g c = subst (λ (r : List Line). IsCallOf r c.args.t.value c.args.n c.args.actor c.args.c.now) (sym c.in_ok-settle-in-Await.ensures.runs.script) c.requires.given
 
 pub call-requires-in-Await-clause-below : goal.call-requires-in-Await-clause-below
-call-requires-in-Await-clause-below g c = below_same c.args.n c.args.self.now.worlds c.settle.new.self.worlds c.settle.ensures.calls c.requires.below c.args.t
+call-requires-in-Await-clause-below g c = below_same c.args.n c.args.self.now.worlds c.settle.new.self.worlds c.settle.ensures.goes.calls c.requires.below c.args.t
 
 pub call-requires-in-Await-clause-answers : goal.call-requires-in-Await-clause-answers
 call-requires-in-Await-clause-answers g c = await_answers c.args.t.value (state_of c.args.t c.settle.new.self.worlds).world c.args.c.now _ 0 c.in-Await.is c.in_ok-settle-in-Await.ensures.settled
@@ -54,7 +54,7 @@ returns-in_ok-settle-in-Await-clause-runs g c =
 pub returns-in_ok-settle-in-Await-clause-entered : goal.returns-in_ok-settle-in-Await-clause-entered
 returns-in_ok-settle-in-Await-clause-entered g c =
     let ws = c.settle.new.self.worlds in
-    let below = below_same c.args.n c.args.self.now.worlds ws c.settle.ensures.calls c.requires.below in
+    let below = below_same c.args.n c.args.self.now.worlds ws c.settle.ensures.goes.calls c.requires.below in
     on_ok_weaker c.call-in-Await.result (λ entered. all_below (c.args.n + 1) c.args.t ws c.call-in-Await.new.self.worlds c.call-in-Await.ensures.others entered (all_below_next c.args.n ws below)) c.call-in-Await.ensures.entered
 
 pub returns-in_ok-settle-in-Await-clause-done : goal.returns-in_ok-settle-in-Await-clause-done

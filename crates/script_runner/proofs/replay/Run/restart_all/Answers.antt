@@ -24,10 +24,7 @@ pub loop-place-init : goal.loop-place-init
 loop-place-init g c =
     let log = c.args.log.now in
     record {
-      plans = refl;
-      managers = refl;
-      objects = refl;
-      contexts = refl;
+      same = (refl, (refl, (refl, refl)));
       through = through_none (reopened log) (is_reached_by log.life) (λ t. Restarted (is_some (record_in log.slots t.value))) c.self.inside.worlds.items (past_of c.self.inside.trace.items) c.self.invariant.0;
       kept = λ kept. kept;
       sound = λ h sound. sound;
@@ -127,10 +124,7 @@ loop-place-preserved g c =
     let written : past_of c.note.new.trace.items ≡ onto (past_of before) (placed u es) = ap past_of noted ∙ trace_noted before u es in
     let record_kept : IsRecordKept y = record { own = c.is_own_run.ensures.run; once = c.is_own_run.ensures.once; ours = c.is_own_run.ensures.ours; tried = c.is_own_run.ensures.tried } in
     record {
-      plans = c.loop-place.invariant.plans;
-      managers = c.loop-place.invariant.managers;
-      objects = c.loop-place.invariant.objects;
-      contexts = c.loop-place.invariant.contexts;
+      same = c.loop-place.invariant.same;
       through =
           subst (λ (i : ℕ). IsThrough (reopened log) (is_reached_by log.life) (λ t. Restarted (is_some (record_in log.slots t.value))) ws start (c.loop-place.place + 1) (set vs i y) (past_of c.note.new.trace.items)) (place g b)
           (through_next (reopened log) (is_reached_by log.life) (λ t. Restarted (is_some (record_in log.slots t.value))) ws vs start (past_of before) (past_of c.note.new.trace.items) c.loop-place.place u x y (number g b)

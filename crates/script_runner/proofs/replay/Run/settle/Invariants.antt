@@ -2,17 +2,13 @@ use Rattle.std.proofs.Common.{◌≡◌, ℕ, List}
 use Rattle.dtx_model.specs.Traces.{Placed}
 use Rattle.dtx_model.specs.Words.{past_of}
 use Rattle.world_laws.specs.Left.{steps_left}
-use Rattle.script_runner.specs.LogRun.{LogGoes, LogStays}
-use Rattle.script_runner.specs.RunState.{AreSettledBelow, HaveSameCalls, IsRoundAt, StepsDone, RunsOn, state_of}
+use Rattle.script_runner.specs.RunState.{AreSettledBelow, IsRoundAt, RunsOn, StepsDone, StepsGo, state_of}
 use Rattle.script_runner.proofs.replay.Run.settle.Given as goal
 
 abbrev pub invariant-loop : goal.invariant-loop
 invariant-loop g l = record {
-  contexts : l.self.contexts ≡ l.initial.self.contexts;
-  log : LogGoes g.D.Disk.faults g.D.Disk.honest g.D.Disk.image l.initial.log l.log;
-  stays : LogStays g.D.Disk.faults l.initial.log l.log;
+  goes : StepsGo g.D.Disk.faults g.D.Disk.honest g.D.Disk.image l.initial.log l.log l.initial.self l.self;
   runs : RunsOn g.D.Disk.faults g.D.Disk.honest g.D.Disk.image l.initial.log l.log l.initial.self l.self;
-  calls : HaveSameCalls l.initial.self.worlds l.self.worlds;
   done : (m : ℕ) × StepsDone l.initial.self.script l.t 1 m l.initial.self.trace l.self.trace;
   turns : (start : List Placed) → IsRoundAt l.initial.self.script start l.t.value (past_of l.initial.self.trace) → IsRoundAt l.initial.self.script start l.t.value (past_of l.self.trace);
   below : l.log.is_up ≡ l.initial.log.is_up → AreSettledBelow l.initial.self.script l.t.value (past_of l.initial.self.trace) → AreSettledBelow l.initial.self.script l.t.value (past_of l.self.trace);

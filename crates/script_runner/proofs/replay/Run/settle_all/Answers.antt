@@ -3,13 +3,13 @@ use Rattle.std.proofs.lemmas.Result.{on_ok_weaker}
 use Rattle.dtx_values.specs.declared.script.Line.{Line}
 use Rattle.dtx_model.specs.Words.{past_of}
 use Rattle.script_runner.specs.RunState.{AreSettledBelow, IsRoundAt}
-use Rattle.script_runner.proofs.Going.{down_still, goes_then, runs_then, stays_then}
+use Rattle.script_runner.proofs.Going.{down_still, runs_then, steps_then}
 use Rattle.script_runner.proofs.replay.Run.settle_all.Goals as goal
 
 pub returns-then-not-was_up-clause-settled : goal.returns-then-not-was_up-clause-settled
 returns-then-not-was_up-clause-settled g c =
     let down : c.args.log.now.is_up ≡ false = sym c.is_up-was_up.ensures.up ∙ c.if-not-was_up.true in
-    c.in_ok-settle_round.ensures.settled (down_still c.args.log.now.is_up c.settle_round.new.log.is_up c.settle_round.ensures.stays.still down)
+    c.in_ok-settle_round.ensures.settled (down_still c.args.log.now.is_up c.settle_round.new.log.is_up c.settle_round.ensures.goes.stays.still down)
 
 pub returns-then-is_up-clause-settled : goal.returns-then-is_up-clause-settled
 returns-then-is_up-clause-settled g c =
@@ -17,12 +17,9 @@ returns-then-is_up-clause-settled g c =
     let here : c.settle_round.new.log.is_up ≡ true = sym c.is_up.ensures.up ∙ c.if-is_up.true in
     c.in_ok-settle_round.ensures.settled (here ∙ sym was)
 
-pub returns-clause-log : goal.returns-clause-log
-returns-clause-log g c = goes_then g.D.Disk.faults g.D.Disk.honest g.D.Disk.image c.args.log.now c.settle_round.new.log c.settle_round-2.new.log c.settle_round.ensures.log c.settle_round-2.ensures.log
-
-pub returns-clause-stays : goal.returns-clause-stays
-returns-clause-stays g c =
-    stays_then g.D.Disk.faults c.args.log.now c.settle_round.new.log c.settle_round-2.new.log c.settle_round.ensures.log.grows c.settle_round-2.ensures.log.grows c.settle_round.ensures.stays c.settle_round-2.ensures.stays
+pub returns-clause-goes : goal.returns-clause-goes
+returns-clause-goes g c =
+    steps_then g.D.Disk.faults g.D.Disk.honest g.D.Disk.image c.args.log.now c.settle_round.new.log c.settle_round-2.new.log c.args.self.now c.settle_round.new.self c.settle_round-2.new.self c.settle_round.ensures.goes c.settle_round-2.ensures.goes
 
 pub returns-clause-runs : goal.returns-clause-runs
 returns-clause-runs g c =
@@ -42,5 +39,5 @@ returns-clause-settled g c =
     let down : c.settle_round.new.log.is_up ≡ false = sym c.is_up.ensures.up ∙ c.if-is_up.false in
     on_ok_weaker c.settle_round-2.result
     (λ settled. subst (λ (r : List Line). AreSettledBelow r 257 (past_of c.settle_round-2.new.self.trace)) c.in_ok-settle_round.ensures.runs.script
-    (settled (down_still c.settle_round.new.log.is_up c.settle_round-2.new.log.is_up c.settle_round-2.ensures.stays.still down)))
+    (settled (down_still c.settle_round.new.log.is_up c.settle_round-2.new.log.is_up c.settle_round-2.ensures.goes.stays.still down)))
     c.settle_round-2.ensures.settled

@@ -5,15 +5,14 @@ use Rattle.dtx_values.specs.declared.script.Line.{Line}
 use Rattle.dtx_model.specs.Words.{past_of}
 use Rattle.run_endings.proofs.Settling.{up_between}
 use Rattle.script_runner.specs.RunState.{AreSettledBelow, IsRoundAt}
-use Rattle.script_runner.proofs.Going.{goes_same, goes_then, runs_same, runs_then, stays_same, stays_then}
+use Rattle.script_runner.proofs.Going.{runs_same, runs_then, steps_same, steps_then}
 use Rattle.script_runner.proofs.Rounds.{below-first, turn-round}
 use Rattle.script_runner.proofs.replay.Run.settle_round.Goals as goal
 
 pub loop-n-init : goal.loop-n-init
 loop-n-init g c =
     record {
-      log = goes_same g.D.Disk.faults g.D.Disk.honest g.D.Disk.image c.args.log.now;
-      stays = stays_same g.D.Disk.faults c.args.log.now;
+      goes = steps_same g.D.Disk.faults g.D.Disk.honest g.D.Disk.image c.args.log.now c.args.self.now;
       runs = runs_same g.D.Disk.faults g.D.Disk.honest g.D.Disk.image c.args.log.now c.args.self.now c.requires.holds;
       turns = λ start b. b;
       settled = λ same. below-first c.args.self.now.script (past_of c.args.self.now.trace);
@@ -28,8 +27,7 @@ loop-n-preserved g c =
     let new = c.settle.new.log in
     let n : t.value ≡ c.loop-n.n = subst (λ (o : Option TxNo). IfSome o (λ x. x.value ≡ c.loop-n.n)) c.unwrap-t.ensures c.new.ensures.value in
     record {
-      log = goes_then g.D.Disk.faults g.D.Disk.honest g.D.Disk.image c.args.log.now old new was.log c.settle.ensures.log;
-      stays = stays_then g.D.Disk.faults c.args.log.now old new was.log.grows c.settle.ensures.log.grows was.stays c.settle.ensures.stays;
+      goes = steps_then g.D.Disk.faults g.D.Disk.honest g.D.Disk.image c.args.log.now old new c.args.self.now c.loop-n.self c.settle.new.self was.goes c.settle.ensures.goes;
       runs = runs_then g.D.Disk.faults g.D.Disk.honest g.D.Disk.image c.args.log.now old new c.args.self.now c.loop-n.self c.settle.new.self was.runs c.in_ok-settle.ensures.runs;
       turns = λ start b.
           let here : IsRoundAt s start t.value (past_of c.loop-n.self.trace) = subst (λ (m : ℕ). IsRoundAt s start m (past_of c.loop-n.self.trace)) (sym n) (was.turns start b) in
@@ -37,15 +35,15 @@ loop-n-preserved g c =
           subst (λ (r : List Line). IsRoundAt r start t.value (past_of c.loop-n.self.trace) → IsRoundAt r start (t.value + 1) (past_of c.settle.new.self.trace)) was.runs.script (c.in_ok-settle.ensures.turns start) in
           subst (λ (m : ℕ). IsRoundAt s start (m + 1) (past_of c.settle.new.self.trace)) n (next here);
       settled = λ same.
-          let mid : old.is_up ≡ c.args.log.now.is_up = up_between c.args.log.now.is_up old.is_up new.is_up was.stays.still c.settle.ensures.stays.still same in
+          let mid : old.is_up ≡ c.args.log.now.is_up = up_between c.args.log.now.is_up old.is_up new.is_up was.goes.stays.still c.settle.ensures.goes.stays.still same in
           let here : AreSettledBelow s t.value (past_of c.loop-n.self.trace) = subst (λ (m : ℕ). AreSettledBelow s m (past_of c.loop-n.self.trace)) (sym n) (was.settled mid) in
           let next : AreSettledBelow s t.value (past_of c.loop-n.self.trace) → AreSettledBelow s (t.value + 1) (past_of c.settle.new.self.trace) =
           subst (λ (r : List Line). AreSettledBelow r t.value (past_of c.loop-n.self.trace) → AreSettledBelow r (t.value + 1) (past_of c.settle.new.self.trace)) was.runs.script (c.in_ok-settle.ensures.below (same ∙ sym mid)) in
           subst (λ (m : ℕ). AreSettledBelow s (m + 1) (past_of c.settle.new.self.trace)) n (next here);
     }
 
-pub returns-in_err-settle-clause-log : goal.returns-in_err-settle-clause-log
-returns-in_err-settle-clause-log g c = goes_then g.D.Disk.faults g.D.Disk.honest g.D.Disk.image c.args.log.now c.loop-n.log c.settle.new.log c.loop-n.invariant.log c.settle.ensures.log
+pub returns-in_err-settle-clause-goes : goal.returns-in_err-settle-clause-goes
+returns-in_err-settle-clause-goes g c = steps_then g.D.Disk.faults g.D.Disk.honest g.D.Disk.image c.args.log.now c.loop-n.log c.settle.new.log c.args.self.now c.loop-n.self c.settle.new.self c.loop-n.invariant.goes c.settle.ensures.goes
 
 pub returns-clause-turns : goal.returns-clause-turns
 returns-clause-turns g c = λ start b. turn-round c.args.self.now.script start (past_of c.loop-n.self.trace) c.loop-n.n c.loop-n-test.false (c.loop-n.invariant.turns start b)

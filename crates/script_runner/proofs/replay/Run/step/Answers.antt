@@ -1,4 +1,4 @@
-use Rattle.std.proofs.Common.{◌≡◌, ◌≤◌, ◌<◌, ◌-◌, ◌++◌, ◌∷◌, [], ◌∙◌, ℕ, Bool, true, false, List, Option, None, Ok, Result, ap, arith, length, set, subst, sym}
+use Rattle.std.proofs.Common.{◌≡◌, ◌≤◌, ◌<◌, ◌-◌, ◌++◌, ◌∷◌, [], ◌∙◌, ℕ, Bool, true, false, List, Option, None, Ok, Result, ap, arith, length, refl, set, subst, sym}
 use Rattle.std.specs.Prelude.{IfSome, IsTrue, IsFalse, slice_index_or}
 use Rattle.dtx_values.specs.declared.entry.Entry.{Entry}
 use Rattle.dtx_values.specs.declared.entry.Entry.TheVariants.{Stopped}
@@ -15,13 +15,12 @@ use Rattle.coordinator_log.specs.Slots.{open_records}
 use Rattle.tx_world.specs.AtLog.{Fits}
 use Rattle.tx_world.specs.State.{TxState}
 use Rattle.tx_world.specs.declared.refusal.WorldError.{WorldError}
-use Rattle.script_runner.specs.LogRun.{LogGoes}
 use Rattle.script_runner.specs.Objects.{DoesGiven, MayReply}
-use Rattle.script_runner.specs.RunState.{AreNumbered, HaveSameCalls, IsRecordKept, IsTied, RunState, halted, state_of}
+use Rattle.script_runner.specs.RunState.{AreNumbered, HaveSameCalls, IsRecordKept, IsTied, RunState, StepsGo, halted, state_of}
 use Rattle.script_runner.proofs.Noting.{as_long, grown}
 use Rattle.script_runner.proofs.Numbered.{state_indexed}
 use Rattle.script_runner.proofs.StepStops.{is_stopping_step, step_stopped, stopping_lives, stopping_ties}
-use Rattle.script_runner.proofs.Steps.{IsStep, IsStepAt, IsStepped, StepOf, calls_same, none_beyond, none_pending, run_with, step_done, step_log, step_past, was, worlds_after}
+use Rattle.script_runner.proofs.Steps.{IsStep, IsStepAt, IsStepped, StepOf, calls_same, none_beyond, none_pending, run_with, step_done, step_log, step_past, step_stays, was, worlds_after}
 use Rattle.script_runner.proofs.Turns.{MayGive, given_by, own_at}
 use Rattle.script_runner.proofs.replay.Run.step.Given.{Over}
 use Rattle.script_runner.proofs.replay.Run.step.Goals.{After-is_own_run, After-is_own_run-2, In_ok-note, else-was_up-via-then-was_up+else-not-is_up, else-was_up-via-else-was_up}
@@ -88,10 +87,6 @@ done g c =
       recorded = record { own = c.is_own_run-2.ensures.run; once = c.is_own_run-2.ensures.once; ours = c.is_own_run-2.ensures.ours; tried = c.is_own_run-2.ensures.tried };
     })
 
--- what it left of the log
-log_goes : (g : Over) (c : After-is_own_run-2 g) → LogGoes g.D.Disk.faults g.D.Disk.honest g.D.Disk.image c.args.log.now c.do_kth.new.log
-log_goes g c = step_log g.D.Disk.faults g.D.Disk.honest g.D.Disk.image (about g c) (done g c)
-
 -- the run after it, as its parts stand then
 parts : (g : Over) (c : After-is_own_run-2 g) (T : List Placed)
     → record { script = c.self.inside.plans; objects = length c.asked-reply.new.resources; worlds = set c.self.inside.worlds.items c.index-2.result c.do_kth.new.world; contexts = c.self.inside.contexts.items; trace = T }
@@ -123,12 +118,8 @@ longer g c =
 pub returns-then-len-index-clause-none : goal.returns-then-len-index-clause-none
 returns-then-len-index-clause-none g c = λ e.
     let more : length c.self.inside.worlds.items < c.args.t.value = omega (arith, c.index.ensures.place, c.if-len-index.true, c.len.ensures) in
-    (none_beyond c.args.self.now c.args.t c.args.k (c.requires.holds.tied c.args.t) (subst (λ (r : RunState). length r.worlds < c.args.t.value) c.self.view_is more)).0
-
-pub returns-then-len-index-clause-none_here : goal.returns-then-len-index-clause-none_here
-returns-then-len-index-clause-none_here g c = λ e.
-    let more : length c.self.inside.worlds.items < c.args.t.value = omega (arith, c.index.ensures.place, c.if-len-index.true, c.len.ensures) in
-    (none_beyond c.args.self.now c.args.t c.args.k (c.requires.holds.tied c.args.t) (subst (λ (r : RunState). length r.worlds < c.args.t.value) c.self.view_is more)).1
+    let beyond = none_beyond c.args.self.now c.args.t c.args.k (c.requires.holds.tied c.args.t) (subst (λ (r : RunState). length r.worlds < c.args.t.value) c.self.view_is more) in
+    record { none = beyond.0; none_here = beyond.1; run = c.self.view_is; log = refl }
 
 pub do_kth-requires : goal.do_kth-requires
 do_kth-requires g c = record {
@@ -138,40 +129,48 @@ do_kth-requires g c = record {
       subst (λ (j : ℕ). IfSome c.asked-reply.result (λ x. MayReply c.index_mut-world.result.now.world j x.0 x.1)) (c.from.ensures ∙ sym c.from-2.ensures) c.asked-reply.ensures.due;
 }
 
-pub returns-then-not-branch-clause-none_here : goal.returns-then-not-branch-clause-none_here
-returns-then-not-branch-clause-none_here g c = λ e.
-    let at = reached g (goal.at.returns-then-not-branch-clause-none_here g c).After-is_own_run in
+pub returns-then-not-branch-clause-none : goal.returns-then-not-branch-clause-none
+returns-then-not-branch-clause-none g c = λ e.
+    let at = reached g (goal.at.returns-then-not-branch-clause-none g c).After-is_own_run in
     let r = c.args.self.now in
     let x = c.index_mut-world.result.now in
     let numbered = subst (λ (r : RunState). AreNumbered r.worlds) c.self.view_is c.self.invariant.0 in
+    let undone = c.in_ok-do_kth.ensures.none (ap (λ (b : Bool). Ok b) c.if-not-branch.true) in
     let none : kth (pending x.world) c.args.k ≡ None =
-    subst (λ (j : ℕ). kth (pending x.world) j ≡ None) c.from-2.ensures (c.in_ok-do_kth.ensures.none (ap (λ (b : Bool). Ok b) c.if-not-branch.true)).0 in
-    none_pending r.script r.objects r.worlds (past_of r.trace) c.args.t c.args.k (c.requires.holds.tied c.args.t) (own_at c.args.t r.worlds x numbered at c.is_own_run.ensures.run)
-    (ap (λ (z : TxState). kth (pending z.world) c.args.k) at ∙ none)
+    subst (λ (j : ℕ). kth (pending x.world) j ≡ None) c.from-2.ensures undone.0 in
+    let here = ap (λ (z : TxState). kth (pending z.world) c.args.k) at ∙ none in
+    record {
+      none = here;
+      none_here = none_pending r.script r.objects r.worlds (past_of r.trace) c.args.t c.args.k (c.requires.holds.tied c.args.t) (own_at c.args.t r.worlds x numbered at c.is_own_run.ensures.run) here;
+      run = search rules;
+      log = undone.2;
+    }
 
-pub returns-in_err-reserve-clause-calls : goal.returns-in_err-reserve-clause-calls
-returns-in_err-reserve-clause-calls g c = calls g (goal.at.returns-in_err-reserve-clause-calls g c).After-is_own_run-2
+-- the run as it goes on
+went : (g : Over) (c : After-is_own_run-2 g) (T : List Placed)
+    → StepsGo g.D.Disk.faults g.D.Disk.honest g.D.Disk.image c.args.log.now c.do_kth.new.log c.args.self.now
+    (record { script = c.self.inside.plans; objects = length c.asked-reply.new.resources; worlds = set c.self.inside.worlds.items c.index-2.result c.do_kth.new.world; contexts = c.self.inside.contexts.items; trace = T })
+went g c T =
+    record {
+      contexts = ap (λ (r : RunState). r.contexts) c.self.view_is;
+      calls = calls g c;
+      log = step_log g.D.Disk.faults g.D.Disk.honest g.D.Disk.image (about g c) (done g c);
+      stays = step_stays g.D.Disk.faults g.D.Disk.honest g.D.Disk.image (about g c) (done g c);
+    }
 
-pub returns-in_err-note-clause-calls : goal.returns-in_err-note-clause-calls
-returns-in_err-note-clause-calls g c = calls g (goal.at.returns-in_err-note-clause-calls g c).After-is_own_run-2
+pub returns-in_err-reserve-clause-goes : goal.returns-in_err-reserve-clause-goes
+returns-in_err-reserve-clause-goes g c = went g (goal.at.returns-in_err-reserve-clause-goes g c).After-is_own_run-2 c.reserve.new.self.items
 
-pub returns-in_err-note-2-clause-calls : goal.returns-in_err-note-2-clause-calls
-returns-in_err-note-2-clause-calls g c = calls g (goal.at.returns-in_err-note-2-clause-calls g c).After-is_own_run-2
+pub returns-in_err-note-clause-goes : goal.returns-in_err-note-clause-goes
+returns-in_err-note-clause-goes g c = went g (goal.at.returns-in_err-note-clause-goes g c).After-is_own_run-2 c.note.new.trace.items
 
-pub returns-in_err-stop_all-clause-calls : goal.returns-in_err-stop_all-clause-calls
-returns-in_err-stop_all-clause-calls g c = λ v. c.stop_all.ensures.calls v ∙ calls g (goal.at.returns-in_err-stop_all-clause-calls g c).After-is_own_run-2 v
+pub returns-in_err-note-2-clause-goes : goal.returns-in_err-note-2-clause-goes
+returns-in_err-note-2-clause-goes g c = went g (goal.at.returns-in_err-note-2-clause-goes g c).After-is_own_run-2 c.note-2.new.trace.items
 
-pub returns-in_err-reserve-clause-log : goal.returns-in_err-reserve-clause-log
-returns-in_err-reserve-clause-log g c = log_goes g (goal.at.returns-in_err-reserve-clause-log g c).After-is_own_run-2
-
-pub returns-in_err-note-clause-log : goal.returns-in_err-note-clause-log
-returns-in_err-note-clause-log g c = log_goes g (goal.at.returns-in_err-note-clause-log g c).After-is_own_run-2
-
-pub returns-in_err-note-2-clause-log : goal.returns-in_err-note-2-clause-log
-returns-in_err-note-2-clause-log g c = log_goes g (goal.at.returns-in_err-note-2-clause-log g c).After-is_own_run-2
-
-pub returns-in_err-stop_all-clause-log : goal.returns-in_err-stop_all-clause-log
-returns-in_err-stop_all-clause-log g c = log_goes g (goal.at.returns-in_err-stop_all-clause-log g c).After-is_own_run-2
+pub returns-in_err-stop_all-clause-goes : goal.returns-in_err-stop_all-clause-goes
+returns-in_err-stop_all-clause-goes g c =
+    let before = went g (goal.at.returns-in_err-stop_all-clause-goes g c).After-is_own_run-2 c.note.new.trace.items in
+    record { contexts = c.stop_all.ensures.contexts ∙ before.contexts; calls = λ v. c.stop_all.ensures.calls v ∙ before.calls v; log = before.log; stays = before.stays }
 
 pub note-requires : goal.note-requires
 note-requires g c = longer g (goal.at.note-requires g c).After-is_own_run-2
@@ -217,24 +216,14 @@ returns-then-not-is_up g c =
     let stops = is_stopping_step g.D.Disk.faults g.D.Disk.honest g.D.Disk.image a mid (done g b) up down (noted g at.In_ok-note (was a) (long g b)) in
     let d : IsStepped g.D.Disk.faults g.D.Disk.honest g.D.Disk.image a q =
     step_stopped g.D.Disk.faults g.D.Disk.honest g.D.Disk.image a mid q (done g b) stops up down (c.stop_all.ensures.script ∙ ap (λ (r : RunState). r.script) c.self.view_is)
-    (c.stop_all.ensures.objects ∙ objects g b)
+    (c.stop_all.ensures.objects ∙ objects g b) (c.stop_all.ensures.contexts ∙ ap (λ (r : RunState). r.contexts) c.self.view_is)
     (subst (λ (r : RunState). HaveSameCalls r.worlds q.worlds) now c.stop_all.ensures.calls)
     (λ u.
     subst (λ (r : RunState). state_of u q.worlds ≡ halted c.life.result (state_of u r.worlds)) now (c.in_ok-stop_all.ensures.worlds u)
     ∙ ap (λ l. halted l (state_of u (worlds_after a))) c.life.ensures)
     c.in_ok-stop_all.ensures.trace
     (subst (λ (r : RunState). ((u : TxNo) → IsRecordKept (state_of u r.worlds)) → (u : TxNo) → IsRecordKept (state_of u q.worlds)) now c.in_ok-stop_all.ensures.kept) in
-    record {
-      contexts = c.stop_all.ensures.contexts ∙ ap (λ (r : RunState). r.contexts) c.self.view_is;
-      log = d.log;
-      stays = d.stays;
-      runs = d.runs;
-      calls = d.calls;
-      did = λ e. d.did;
-      none = λ e. absurd (never_false e);
-      none_here = λ e. absurd (never_false e);
-      unchanged = λ e. absurd (never_false e);
-    }
+    record { goes = d.goes; runs = d.runs; did = λ e. d.did; none = λ e. absurd (never_false e) }
 
 pub returns : goal.returns
 returns g c =
@@ -250,14 +239,4 @@ returns g c =
     let d =
     subst (λ (q : RunState). IsStepped g.D.Disk.faults g.D.Disk.honest g.D.Disk.image a q) (sym (parts g b new))
     (step_done g.D.Disk.faults g.D.Disk.honest g.D.Disk.image a new (done g b) stays noted) in
-    record {
-      contexts = ap (λ (r : RunState). r.contexts) c.self.view_is;
-      log = d.log;
-      stays = d.stays;
-      runs = d.runs;
-      calls = d.calls;
-      did = λ e. d.did;
-      none = λ e. absurd (never_false e);
-      none_here = λ e. absurd (never_false e);
-      unchanged = λ e. absurd (never_false e);
-    }
+    record { goes = d.goes; runs = d.runs; did = λ e. d.did; none = λ e. absurd (never_false e) }

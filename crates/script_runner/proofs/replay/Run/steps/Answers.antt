@@ -5,18 +5,15 @@ use Rattle.dtx_model.specs.Replay.{HasDoneAt, world_at}
 use Rattle.dtx_model.specs.Steps.{pending}
 use Rattle.dtx_model.specs.Words.{kth, past_of}
 use Rattle.script_runner.specs.RunState.{Advances, RunState, StepsDone, state_of}
-use Rattle.script_runner.proofs.Going.{calls_then, goes_same, goes_then, runs_same, runs_then, stays_same, stays_then}
+use Rattle.script_runner.proofs.Going.{runs_same, runs_then, steps_same, steps_then}
 use Rattle.script_runner.proofs.Rounds.{did_all, did_some, done_all, done_some, steps-more}
 use Rattle.script_runner.proofs.replay.Run.steps.Goals as goal
 
 pub loop-m-init : goal.loop-m-init
 loop-m-init g c =
     record {
-      contexts = refl;
-      log = goes_same g.D.Disk.faults g.D.Disk.honest g.D.Disk.image c.args.log.now;
-      stays = stays_same g.D.Disk.faults c.args.log.now;
+      goes = steps_same g.D.Disk.faults g.D.Disk.honest g.D.Disk.image c.args.log.now c.args.self.now;
       runs = runs_same g.D.Disk.faults g.D.Disk.honest g.D.Disk.image c.args.log.now c.args.self.now c.requires.holds;
-      calls = λ t. refl;
       did = refl;
       done = refl;
     }
@@ -30,19 +27,19 @@ loop-m-preserved g c =
     let start = c.args.self.now in
     let one = subst (λ (s : List Line). Advances s c.args.t c.args.k c.loop-m.self.trace c.step.new.self.trace) was.runs.script (c.step.ensures.did some).some in
     record {
-      contexts = c.step.ensures.contexts ∙ was.contexts;
-      log = goes_then g.D.Disk.faults g.D.Disk.honest g.D.Disk.image c.args.log.now c.loop-m.log c.step.new.log was.log c.step.ensures.log;
-      stays = stays_then g.D.Disk.faults c.args.log.now c.loop-m.log c.step.new.log was.log.grows c.step.ensures.log.grows was.stays c.step.ensures.stays;
+      goes = steps_then g.D.Disk.faults g.D.Disk.honest g.D.Disk.image c.args.log.now c.loop-m.log c.step.new.log start c.loop-m.self c.step.new.self was.goes c.step.ensures.goes;
       runs = runs_then g.D.Disk.faults g.D.Disk.honest g.D.Disk.image c.args.log.now c.loop-m.log c.step.new.log start c.loop-m.self c.step.new.self was.runs c.in_ok-step.ensures.runs;
-      calls = calls_then start.worlds c.loop-m.self.worlds c.step.new.self.worlds was.calls c.step.ensures.calls;
       did = subst (λ (i : ℕ). HasStepped c.args.t.value c.args.k i (state_of c.args.t start.worlds).world (state_of c.args.t c.step.new.self.worlds).world) more
           ((c.step.ensures.did some).stepped m (state_of c.args.t start.worlds).world was.did);
       done = subst (λ (i : ℕ). StepsDone start.script c.args.t c.args.k i start.trace c.step.new.self.trace) more
           (steps-more start.script c.args.t c.args.k m start.trace c.loop-m.self.trace c.step.new.self.trace was.done one);
     }
 
-pub returns-in_err-step-clause-log : goal.returns-in_err-step-clause-log
-returns-in_err-step-clause-log g c = goes_then g.D.Disk.faults g.D.Disk.honest g.D.Disk.image c.args.log.now c.loop-m.log c.step.new.log c.loop-m.invariant.log c.step.ensures.log
+pub returns-in_err-step-clause-goes : goal.returns-in_err-step-clause-goes
+returns-in_err-step-clause-goes g c = steps_then g.D.Disk.faults g.D.Disk.honest g.D.Disk.image c.args.log.now c.loop-m.log c.step.new.log c.args.self.now c.loop-m.self c.step.new.self c.loop-m.invariant.goes c.step.ensures.goes
+
+pub returns-then-not-branch-clause-goes : goal.returns-then-not-branch-clause-goes
+returns-then-not-branch-clause-goes g c = steps_then g.D.Disk.faults g.D.Disk.honest g.D.Disk.image c.args.log.now c.loop-m.log c.step.new.log c.args.self.now c.loop-m.self c.step.new.self c.loop-m.invariant.goes c.step.ensures.goes
 
 pub returns-then-not-branch-clause-runs : goal.returns-then-not-branch-clause-runs
 returns-then-not-branch-clause-runs g c = runs_then g.D.Disk.faults g.D.Disk.honest g.D.Disk.image c.args.log.now c.loop-m.log c.step.new.log c.args.self.now c.loop-m.self c.step.new.self c.loop-m.invariant.runs c.in_ok-step.ensures.runs
@@ -51,16 +48,16 @@ pub returns-then-not-branch-clause-did : goal.returns-then-not-branch-clause-did
 returns-then-not-branch-clause-did g c =
     let done : c.step.result ≡ Ok false = cc in
     let t = c.args.t in
-    subst (λ (r : RunState). HasDone t.value (state_of t r.worlds).world c.args.k c.args.n c.loop-m.m) (sym (c.step.ensures.unchanged done).0)
-    (did_some t.value c.args.k c.args.n c.loop-m.m (state_of t c.args.self.now.worlds).world (state_of t c.loop-m.self.worlds).world c.loop-m-test.true c.loop-m.invariant.did (c.step.ensures.none done))
+    subst (λ (r : RunState). HasDone t.value (state_of t r.worlds).world c.args.k c.args.n c.loop-m.m) (sym (c.step.ensures.none done).run)
+    (did_some t.value c.args.k c.args.n c.loop-m.m (state_of t c.args.self.now.worlds).world (state_of t c.loop-m.self.worlds).world c.loop-m-test.true c.loop-m.invariant.did (c.step.ensures.none done).none)
 
 pub returns-then-not-branch-clause-done : goal.returns-then-not-branch-clause-done
 returns-then-not-branch-clause-done g c =
     let done : c.step.result ≡ Ok false = cc in
     let s = c.args.self.now.script in
     let none : kth (pending (world_at s c.args.t (past_of c.loop-m.self.trace))) c.args.k ≡ None =
-    subst (λ (r : List Line). kth (pending (world_at r c.args.t (past_of c.loop-m.self.trace))) c.args.k ≡ None) c.loop-m.invariant.runs.script (c.step.ensures.none_here done) in
-    subst (λ (r : RunState). HasDoneAt s c.args.t c.args.k c.args.n c.loop-m.m (past_of c.args.self.now.trace) (past_of r.trace)) (sym (c.step.ensures.unchanged done).0)
+    subst (λ (r : List Line). kth (pending (world_at r c.args.t (past_of c.loop-m.self.trace))) c.args.k ≡ None) c.loop-m.invariant.runs.script (c.step.ensures.none done).none_here in
+    subst (λ (r : RunState). HasDoneAt s c.args.t c.args.k c.args.n c.loop-m.m (past_of c.args.self.now.trace) (past_of r.trace)) (sym (c.step.ensures.none done).run)
     (done_some s c.args.t c.args.k c.args.n c.loop-m.m c.args.self.now.trace c.loop-m.self.trace c.loop-m-test.true c.loop-m.invariant.done none)
 
 pub returns-clause-did : goal.returns-clause-did

@@ -19,10 +19,7 @@ use Rattle.script_runner.proofs.replay.Run.stop_all.Goals as goal
 pub loop-place-init : goal.loop-place-init
 loop-place-init g c =
     record {
-      plans = refl;
-      managers = refl;
-      objects = refl;
-      contexts = refl;
+      same = (refl, (refl, (refl, refl)));
       through = through_none (halted c.args.life) (is_hit_by c.args.life) (λ t. Stopped) c.self.inside.worlds.items (past_of c.self.inside.trace.items) c.self.invariant.0;
       kept = λ kept. kept;
     }
@@ -84,10 +81,7 @@ loop-place-preserved g c =
     let written : past_of c.note.new.trace.items ≡ onto (past_of before) (placed u (one_where hit Stopped)) = ap past_of noted ∙ trace_noted before u (one_where hit Stopped) in
     let record_kept : IsRecordKept y = record { own = c.is_own_run.ensures.run; once = c.is_own_run.ensures.once; ours = c.is_own_run.ensures.ours; tried = c.is_own_run.ensures.tried } in
     record {
-      plans = c.loop-place.invariant.plans;
-      managers = c.loop-place.invariant.managers;
-      objects = c.loop-place.invariant.objects;
-      contexts = c.loop-place.invariant.contexts;
+      same = c.loop-place.invariant.same;
       through =
           subst (λ (i : ℕ). IsThrough (halted life) (is_hit_by life) (λ t. Stopped) ws start (c.loop-place.place + 1) (set vs i y) (past_of c.note.new.trace.items)) (place g b)
           (through_next (halted life) (is_hit_by life) (λ t. Stopped) ws vs start (past_of before) (past_of c.note.new.trace.items) c.loop-place.place u x y (number g b) c.loop-place.invariant.through (made g b)

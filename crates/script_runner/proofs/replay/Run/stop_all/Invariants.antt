@@ -1,18 +1,14 @@
-use Rattle.std.proofs.Common.{length, ◌≡◌}
 use Rattle.dtx_values.specs.declared.entry.Entry.TheVariants.{Stopped}
 use Rattle.dtx_values.specs.declared.number.TxNo.{TxNo}
 use Rattle.dtx_model.specs.Words.{past_of}
 use Rattle.tx_world.specs.State.{is_hit_by}
 use Rattle.script_runner.specs.RunState.{IsRecordKept, halted, state_of}
-use Rattle.script_runner.proofs.Halting.{IsThrough}
+use Rattle.script_runner.proofs.Halting.{IsElseSame, IsThrough}
 use Rattle.script_runner.proofs.replay.Run.stop_all.Given as goal
 
 abbrev pub invariant-loop-place : goal.invariant-loop-place
 invariant-loop-place g l = record {
-  plans : l.self-inside.plans ≡ l.initial.self-inside.plans;
-  managers : l.self-inside.managers.items ≡ l.initial.self-inside.managers.items;
-  objects : length l.self-inside.resources.now ≡ length l.initial.self-inside.resources.now;
-  contexts : l.self-inside.contexts.items ≡ l.initial.self-inside.contexts.items;
+  same : IsElseSame l.initial.self-inside l.self-inside;
   through : IsThrough (halted l.life) (is_hit_by l.life) (λ t. Stopped) l.initial.self-inside.worlds.items (past_of l.initial.self-inside.trace.items) l.place l.self-inside.worlds.items (past_of l.self-inside.trace.items);
   kept : ((t : TxNo) → IsRecordKept (state_of t l.initial.self-inside.worlds.items)) → (t : TxNo) → IsRecordKept (state_of t l.self-inside.worlds.items);
 }
