@@ -24,7 +24,7 @@ use Rattle.dtx_model.specs.Steps.{Step, Calls, Replies, Acts, Stops, after, bloc
 use Rattle.dtx_model.specs.Caused.{AreMadeOnce, IsIn, IsOwnRun, MayCome, is_begin_sent}
 use Rattle.dtx_model.proofs.Bools.{and_both, and_left, and_right, not_false}
 use Rattle.dtx_model.proofs.Heeding.{core_behind, half_behind}
-use Rattle.dtx_model.proofs.Lifting.{lift_ran}
+use Rattle.dtx_model.proofs.Lifting.{lift_ran, still_in}
 use Rattle.dtx_model.proofs.Reading.{has-onto}
 use Rattle.local_half.specs.Half.{Known, after as known_after}
 use Rattle.coordinator_core.specs.Kept.{Kept as CoreKept}
@@ -50,14 +50,6 @@ new_kept t ks past h k no_calls no_past is_half is_core = record {
         by : (p : ℕ) → kth {A = EnteredCall} [] p ≡ Some (record { line = n; actor = a; call = c }) → ⊥
         by zero s = cc
         by (suc p) s = cc
-
--- a call that was entered stays so
-pub still_in : (k : EnteredCall) (ks : List EnteredCall) (n : ℕ) (a : ActorNo) (c : Call) → IsIn ks n a c → IsIn (k ∷ ks) n a c
-still_in k ks n a c i = by i.place i.stands
-  where
-    by : (p : ℕ) → kth ks p ≡ Some (record { line = n; actor = a; call = c }) → IsIn (k ∷ ks) n a c
-    by zero s = absurd (cc)
-    by (suc p) s = record { place = suc (suc p); stands = s }
 
 in_more : (m : Step) (ks : List EnteredCall) (n : ℕ) (a : ActorNo) (c : Call) → IsIn ks n a c → IsIn (entered m ks) n a c
 in_more (Calls l b d k) ks n a c i = still_in (record { line = l; actor = b; call = d }) ks n a c i
