@@ -70,7 +70,9 @@ fn wait_for_answer<D: Disk, G: Gate, N: Run, R: Wait>(
     run: &SharedRun<D, G, N>,
     cell: &TxCell<N>,
     line: u32,
-) -> Result<(), TurnError> {
+) -> Result<(), TurnError>
+    requires { length run.now.resources.now ≡ N.objects }
+{
     for _ in rt.forever() {
         let mut state = cell.state().lock(rt);
         is_of(&state, cell.t())?;

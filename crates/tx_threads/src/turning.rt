@@ -73,6 +73,7 @@ pub(crate) fn end_turn<D: Disk, G: Gate, N: Run, R: Wait>(
     cell: &TxCell<N>,
     came: Came,
 ) -> Result<bool, TurnError>
+    requires { length run.now.resources.now ≡ N.objects }
     ensures { IfOk result (λ b. b ≡ is_turned came) }
 {
     match came {
