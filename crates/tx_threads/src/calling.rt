@@ -116,12 +116,7 @@ pub fn call_as<D: Disk, G: Gate, N: Run, R: Wait>(
     tell(alloc, cell, &state, &mut cell.note())?;
     drop(state);
     if let Turned::Did(Answer::Wait) = turned {
-        let run = SharedRun {
-            cells,
-            log,
-            gate,
-            resources,
-        };
+        let run = SharedRun::new(cells, log, gate, resources);
         wait_for_answer(rt, alloc, &run, cell, line)?;
     }
     Ok(turned)

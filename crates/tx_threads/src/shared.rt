@@ -1,4 +1,6 @@
 //! What the threads of a run share.
+ghost use Rattle.std.specs.Prelude.{◌≡◌};
+
 use dtx_values::Resource;
 use outside::{Disk, Gate};
 use std::sync::Mutex;
@@ -11,4 +13,23 @@ pub(crate) struct SharedRun<'a, D: Disk, G: Gate, N: Run> {
     pub(crate) log: &'a SharedLog<D, N>,
     pub(crate) gate: &'a G,
     pub(crate) resources: &'a [Mutex<Box<dyn Resource + Send>>],
+}
+
+impl<'a, D: Disk, G: Gate, N: Run> SharedRun<'a, D, G, N> {
+    /// These parts of a run.
+    pub(crate) fn new(
+        cells: &'a Cells<N>,
+        log: &'a SharedLog<D, N>,
+        gate: &'a G,
+        resources: &'a [Mutex<Box<dyn Resource + Send>>],
+    ) -> Self
+        ensures { result.resources.now ≡ resources.now }
+    {
+        SharedRun {
+            cells,
+            log,
+            gate,
+            resources,
+        }
+    }
 }
