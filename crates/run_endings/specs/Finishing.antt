@@ -1,14 +1,22 @@
 -- What the caller's steps keep after the threads of a run ended, and how many calls are left to be entered.
-use Rattle.std.specs.Prelude.{ℕ, ◌+◌, ◌-◌, ◌≡◌, Bool, true, false, List, IsSome, Some, length, map, slice_get}
+use Rattle.std.specs.Prelude.{ℕ, ◌+◌, ◌-◌, ◌≡◌, Bool, true, false, List, Option, IsSome, Some, length, map, slice_get}
 use Rattle.std.specs.List.{sum_by}
 use Rattle.dtx_values.specs.declared.call.Call.{Call}
 use Rattle.dtx_values.specs.declared.call.Call.TheVariants.{Await}
 use Rattle.dtx_values.specs.declared.number.ActorNo.{ActorNo}
+use Rattle.dtx_values.specs.declared.number.RmNo.{RmNo}
+use Rattle.dtx_values.specs.declared.script.Line.{Line}
+use Rattle.script_calls.specs.Managers.{AreManagers}
 use Rattle.script_calls.specs.Rows.{row_at}
 use Rattle.script_calls.specs.SeenRow.{SeenRow}
 use Rattle.tx_cells.specs.Cell.{Cell}
 use Rattle.tx_cells.specs.Entering.{next_of}
 use Rattle.tx_cells.specs.LogCell.{LogCell}
+
+-- The managers of a run of the script s in which the first k have an object may be asked for replies: the table has the manager of each enlistment, and so many objects are there.
+pub record MayAsk (s : List Line) (k : ℕ) (table : List (Option RmNo)) (count : ℕ) : Type 0 where
+  pub managers : AreManagers s s table
+  pub objects : count ≡ k
 
 -- In each of the cells the same calls were entered.
 abbrev pub HaveSameCalls : List Cell → List Cell → Type 0

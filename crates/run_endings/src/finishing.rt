@@ -1,12 +1,11 @@
 //! What the caller does after the threads of a run ended.
-ghost use Rattle.std.specs.Prelude.{◌≡◌, Err, OnOk};
+ghost use Rattle.std.specs.Prelude.{◌≡◌, Err, OnOk, length};
 ghost use Rattle.run_endings.specs.Finished.{AreFinished};
-ghost use Rattle.run_endings.specs.Finishing.{HaveSameNumbers};
+ghost use Rattle.run_endings.specs.Finishing.{HaveSameNumbers, MayAsk};
 ghost use Rattle.run_endings.specs.Stops.{AreAmiss};
 
-use crate::objects::Objects;
 use crate::stop::RunStop;
-use dtx_values::Script;
+use dtx_values::{Resource, RmNo, Script};
 use outside::Disk;
 use tx_cells::{CellState, LogState, Run};
 
@@ -22,24 +21,27 @@ use testing::test_all;
 
 /// Does the rest of a run after its threads ended, alone: each transaction hears of the log's state, each call that isn't entered yet is entered, each transaction is settled, and then each is tested.
 ///
-/// Each manager's object is asked for the replies of its enlistments. The states are those of the script's transactions, by number. Each is of the same transaction afterwards, also after an error.
+/// `managers` has the manager of each enlistment, and `resources` the objects of the first managers: each is asked for the replies of its enlistments. The states are those of the script's transactions, by number. Each is of the same transaction afterwards, also after an error.
 ///
 /// # Errors
 ///
 /// [`RunStop::Memory`] where memory ran out, and [`RunStop::Differs`] where the states that are there then aren't those of the script's transactions, by number, or one of them doesn't tie with the log, or doesn't follow it.
 pub fn finish<D: Disk, N: Run>(
     s: &Script,
-    objects: &mut Objects<N>,
+    managers: &[Option<RmNo>],
+    resources: &mut [Box<dyn Resource + Send>],
     states: &mut [CellState<N>],
     log: &mut LogState<D, N>,
 ) -> Result<(), RunStop>
-    requires { s.now ≡ N.script }
+    requires named { s.now ≡ N.script }
+    requires asked { MayAsk N.script N.objects managers.now (length resources.old) }
     ensures finished { OnOk result (AreFinished N.script states.new log.new) }
     ensures differs { result ≡ Err RunStop.Differs → AreAmiss N.script states.new log.new }
     ensures numbers { HaveSameNumbers states.old states.new }
+    ensures objects { length resources.new ≡ length resources.old }
 {
     follow_all(states, log)?;
-    enter_all(objects, states, log)?;
-    settle_all(objects, states, log)?;
+    enter_all(managers, resources, states, log)?;
+    settle_all(managers, resources, states, log)?;
     test_all(s, states, log)
 }

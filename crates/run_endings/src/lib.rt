@@ -2,9 +2,7 @@
 #![tactic(auto)]
 
 mod finishing;
-mod objects;
 mod stop;
 
 pub use finishing::finish;
-pub use objects::Objects;
 pub use stop::RunStop;

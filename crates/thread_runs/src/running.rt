@@ -12,8 +12,8 @@ use coordinator_log::Log;
 use dtx_values::{Resource, Script};
 use entry_lists::{Entries, Trace};
 use outside::{Disk, Gate};
-use run_endings::{Objects, RunStop, finish};
-use script_calls::Plans;
+use run_endings::{RunStop, finish};
+use script_calls::{Plans, managers_of};
 use std::alloc::{AllocError, Global};
 use std::marker::Brand;
 use std::sync::atomic::AtomicU64;
@@ -124,10 +124,10 @@ fn trace_of<N: Run, D: Disk>(
     let Left {
         contexts,
         mut states,
-        resources,
+        mut resources,
     } = left;
-    let mut objects = Objects::<N>::new(alloc, s, resources)?;
-    finish(s, &mut objects, &mut states, log)?;
+    let managers = managers_of(alloc, s.lines())?;
+    finish(s, &managers, &mut resources, &mut states, log)?;
     let trace = gathered(alloc, &contexts, &states, log)?;
     Ok(trace)
 }

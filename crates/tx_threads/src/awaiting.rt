@@ -92,12 +92,7 @@ pub fn await_as<D: Disk, G: Gate, N: Run, R: Wait>(
     ensures known { (o : Outcome) → result ≡ Ok (Turned.Did (Answer.OutcomeIs o)) → (x : Post) × (note.new.known ≡ Some x) }
     ensures kept { (x : Post) → note.old.known ≡ Some x → note.new.known ≡ Some x }
 {
-    let run = SharedRun {
-        cells,
-        log,
-        gate,
-        resources,
-    };
+    let run = SharedRun::new(cells, log, gate, resources);
     let cell = cells.cell(t);
     let _ = cell.peek(note);
     for _ in rt.forever() {

@@ -70,7 +70,9 @@ fn wait_for_answer<D: Disk, G: Gate, N: Run, R: Wait>(
     run: &SharedRun<D, G, N>,
     cell: &TxCell<N>,
     line: u32,
-) -> Result<(), TurnError> {
+) -> Result<(), TurnError>
+    requires { length run.now.resources.now ≡ N.objects }
+{
     for _ in rt.forever() {
         let mut state = cell.state().lock(rt);
         is_of(&state, cell.t())?;
@@ -114,12 +116,7 @@ pub fn call_as<D: Disk, G: Gate, N: Run, R: Wait>(
     tell(alloc, cell, &state, &mut cell.note())?;
     drop(state);
     if let Turned::Did(Answer::Wait) = turned {
-        let run = SharedRun {
-            cells,
-            log,
-            gate,
-            resources,
-        };
+        let run = SharedRun::new(cells, log, gate, resources);
         wait_for_answer(rt, alloc, &run, cell, line)?;
     }
     Ok(turned)

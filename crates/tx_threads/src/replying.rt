@@ -1,5 +1,5 @@
 //! A reply that is asked for while no lock is held, and brought back.
-ghost use Rattle.std.specs.Prelude.{◌≡◌, ◌≢◌, ◌⊎◌, ℕ, IfErr, IfOk, IfSome, None, Ok, Some, false, true};
+ghost use Rattle.std.specs.Prelude.{◌≡◌, ◌≢◌, ◌⊎◌, ℕ, IfErr, IfOk, IfSome, None, Ok, Some, false, length, true};
 ghost use Rattle.dtx_model.specs.Steps.{Replies, pending};
 ghost use Rattle.dtx_model.specs.Words.{kth};
 ghost use Rattle.tx_cells.specs.Cell.{MayReply};
@@ -27,6 +27,7 @@ fn ask<D: Disk, G: Gate, N: Run, R: Wait>(
     e: EnlNo,
     n: Note,
 ) -> Option<Reply>
+    requires { length run.now.resources.now ≡ N.objects }
     ensures { IfSome result (λ r. MayReply N.script N.objects e n r) }
 {
     let rm = run.cells.manager(e)?;
@@ -94,7 +95,9 @@ pub(crate) fn bring_back<D: Disk, G: Gate, N: Run, R: Wait>(
     cell: &TxCell<N>,
     e: EnlNo,
     n: Note,
-) -> Result<(), TurnError> {
+) -> Result<(), TurnError>
+    requires { length run.now.resources.now ≡ N.objects }
+{
     let t = cell.t();
     let reply = ask(rt, run, t, e, n);
     run.gate.at(t.get() as u16, e.get() as u16);

@@ -1,17 +1,35 @@
 //! What the threads of a run share.
-ghost use Rattle.std.specs.Prelude.{◌≡◌, length};
+ghost use Rattle.std.specs.Prelude.{◌≡◌};
 
 use dtx_values::Resource;
 use outside::{Disk, Gate};
 use std::sync::Mutex;
 use tx_cells::{Cells, Run, SharedLog};
 
-/// What the threads of a run share: its transactions, its log, the gate before each reply, and the objects of its first managers.
+/// What the threads of a run share: its transactions, its log, the gate before each reply, and the objects of its first managers, each in a lock.
 #[derive(Drop)]
 pub(crate) struct SharedRun<'a, D: Disk, G: Gate, N: Run> {
     pub(crate) cells: &'a Cells<N>,
     pub(crate) log: &'a SharedLog<D, N>,
     pub(crate) gate: &'a G,
     pub(crate) resources: &'a [Mutex<Box<dyn Resource + Send>>],
-    ghost objects: { length resources.now ≡ N.objects },
+}
+
+impl<'a, D: Disk, G: Gate, N: Run> SharedRun<'a, D, G, N> {
+    /// These parts of a run.
+    pub(crate) fn new(
+        cells: &'a Cells<N>,
+        log: &'a SharedLog<D, N>,
+        gate: &'a G,
+        resources: &'a [Mutex<Box<dyn Resource + Send>>],
+    ) -> Self
+        ensures { result.resources.now ≡ resources.now }
+    {
+        SharedRun {
+            cells,
+            log,
+            gate,
+            resources,
+        }
+    }
 }

@@ -73,6 +73,7 @@ pub(crate) fn end_turn<D: Disk, G: Gate, N: Run, R: Wait>(
     cell: &TxCell<N>,
     came: Came,
 ) -> Result<bool, TurnError>
+    requires { length run.now.resources.now ≡ N.objects }
     ensures { IfOk result (λ b. b ≡ is_turned came) }
 {
     match came {
@@ -108,11 +109,6 @@ pub fn help_one<D: Disk, G: Gate, N: Run, R: Wait>(
     let mut note = cell.note();
     let came = begin_turn(rt, alloc, cell, log, &mut note, &mut state)?;
     drop(state);
-    let run = SharedRun {
-        cells,
-        log,
-        gate,
-        resources,
-    };
+    let run = SharedRun::new(cells, log, gate, resources);
     end_turn(rt, alloc, &run, cell, came)
 }

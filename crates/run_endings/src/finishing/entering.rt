@@ -1,20 +1,19 @@
 //! Entering the calls that the threads left.
-ghost use Rattle.std.specs.Prelude.{◌≡◌, ◌≢◌, ◌+◌, ◌⊎◌, Err, IfErr, IfNone, IfSome, IsSome, MatchOption, None, Ok, OnOk, Some, false, nat_lt, true};
+ghost use Rattle.std.specs.Prelude.{◌≡◌, ◌≢◌, ◌+◌, ◌⊎◌, Err, IfErr, IfNone, IfSome, IsSome, MatchOption, None, Ok, OnOk, Some, false, length, nat_lt, true};
 ghost use Rattle.dtx_values.specs.declared.number.ActorNo.{ActorNo};
 ghost use Rattle.dtx_model.specs.Words.{each};
 ghost use Rattle.dtx_values.specs.declared.call.Call.{Call};
 ghost use Rattle.script_calls.specs.declared.rows.Due.{Due};
 ghost use Rattle.script_calls.specs.Rows.{are_entered, further, row_at};
-ghost use Rattle.run_endings.specs.Finishing.{HaveSameNumbers, IsDueAt, is_await, left_among, left_of};
+ghost use Rattle.run_endings.specs.Finishing.{HaveSameNumbers, IsDueAt, MayAsk, is_await, left_among, left_of};
 ghost use Rattle.run_endings.specs.Stops.{HasUntied, IsReason};
 ghost use Rattle.tx_cells.specs.Entering.{next_of};
 ghost use Rattle.tx_cells.specs.LogEntering.{next_at_log};
 
 use super::following::{follow_all, follow_stop};
 use super::settling::settle;
-use crate::objects::Objects;
 use crate::stop::RunStop;
-use dtx_values::{ActorNo, Call};
+use dtx_values::{ActorNo, Call, Resource, RmNo};
 use outside::Disk;
 use script_calls::Due;
 use tx_cells::{CellState, LogState, Run, TurnError};
@@ -82,12 +81,14 @@ fn is_await(c: &Call) -> bool
 
 /// Enters the actor's next call at the transaction, which there is. Before an await the transaction is settled.
 fn enter<D: Disk, N: Run>(
-    objects: &mut Objects<N>,
+    managers: &[Option<RmNo>],
+    resources: &mut [Box<dyn Resource + Send>],
     state: &mut CellState<N>,
     log: &mut LogState<D, N>,
     a: ActorNo,
 ) -> Result<(), TurnError>
-    requires { IsSome (next_of a state.old) }
+    requires asked { MayAsk N.script N.objects managers.now (length resources.old) }
+    requires next { IsSome (next_of a state.old) }
     ensures row { OnOk result (row_at a state.new.rows ≡ further (row_at a state.old.rows)) }
     ensures others { OnOk result ((b : ActorNo) → b ≢ a → row_at b state.new.rows ≡ row_at b state.old.rows) }
     ensures log_rows { OnOk result (log.new.rows ≡ log.old.rows) }
@@ -96,7 +97,7 @@ fn enter<D: Disk, N: Run>(
 {
     let due = state.next(a).unwrap();
     if is_await(&due.call) {
-        settle(objects, state, log)?;
+        settle(managers, resources, state, log)?;
         state.enter_with(log, a, due.line)?;
         return Ok(());
     }
@@ -106,20 +107,22 @@ fn enter<D: Disk, N: Run>(
 
 /// Enters the actor's next call at the transaction of this place. Where the log was stopped before an await, each transaction hears of that.
 fn enter_at<D: Disk, N: Run>(
-    objects: &mut Objects<N>,
+    managers: &[Option<RmNo>],
+    resources: &mut [Box<dyn Resource + Send>],
     states: &mut [CellState<N>],
     log: &mut LogState<D, N>,
     a: ActorNo,
     i: usize,
 ) -> Result<(), RunStop>
-    requires { IsDueAt a states.old i }
+    requires asked { MayAsk N.script N.objects managers.now (length resources.old) }
+    requires next { IsDueAt a states.old i }
     ensures less { OnOk result (left_of a states.new log.new + 1 ≡ left_of a states.old log.old) }
     ensures others { OnOk result ((b : ActorNo) → b ≢ a → left_of b states.new log.new ≡ left_of b states.old log.old) }
     ensures numbers { HaveSameNumbers states.old states.new }
     ensures differs { result ≡ Err RunStop.Differs → HasUntied states.new log.new }
 {
     let was_up = log.is_up();
-    enter(objects, &mut states[i], log, a)?;
+    enter(managers, resources, &mut states[i], log, a)?;
     follow_stop(states, log, was_up)
 }
 
@@ -145,11 +148,13 @@ fn enter_at_log<D: Disk, N: Run>(
 
 /// Enters the actor's next call, that of the lowest line; false where none is left.
 fn enter_next<D: Disk, N: Run>(
-    objects: &mut Objects<N>,
+    managers: &[Option<RmNo>],
+    resources: &mut [Box<dyn Resource + Send>],
     states: &mut [CellState<N>],
     log: &mut LogState<D, N>,
     a: ActorNo,
 ) -> Result<bool, RunStop>
+    requires { MayAsk N.script N.objects managers.now (length resources.old) }
     ensures none { result ≡ Ok false → left_of a states.new log.new ≡ 0 }
     ensures less { result ≡ Ok true → left_of a states.new log.new + 1 ≡ left_of a states.old log.old }
     ensures others { OnOk result ((b : ActorNo) → b ≢ a → left_of b states.new log.new ≡ left_of b states.old log.old) }
@@ -160,7 +165,7 @@ fn enter_next<D: Disk, N: Run>(
         return enter_at_log(states, log, a);
     };
     if is_lower(line, next_line(log, a)) {
-        enter_at(objects, states, log, a, i)?;
+        enter_at(managers, resources, states, log, a, i)?;
         return Ok(true);
     }
     enter_at_log(states, log, a)
@@ -168,38 +173,23 @@ fn enter_next<D: Disk, N: Run>(
 
 /// Enters the actor's calls that aren't entered yet, in order of lines.
 fn enter_actor<D: Disk, N: Run>(
-    objects: &mut Objects<N>,
+    managers: &[Option<RmNo>],
+    resources: &mut [Box<dyn Resource + Send>],
     states: &mut [CellState<N>],
     log: &mut LogState<D, N>,
     a: ActorNo,
 ) -> Result<(), RunStop>
+    requires { MayAsk N.script N.objects managers.now (length resources.old) }
     ensures none { OnOk result (left_of a states.new log.new ≡ 0) }
     ensures others { OnOk result ((b : ActorNo) → b ≢ a → left_of b states.new log.new ≡ left_of b states.old log.old) }
     ensures numbers { HaveSameNumbers states.old states.new }
     ensures differs { result ≡ Err RunStop.Differs → HasUntied states.new log.new }
 {
     loop {
-        if !enter_next(objects, states, log, a)? {
+        if !enter_next(managers, resources, states, log, a)? {
             return Ok(());
         }
     }
-}
-
-/// Enters each call that isn't entered yet, actor by actor and in order of lines.
-fn enter_actors<D: Disk, N: Run>(
-    objects: &mut Objects<N>,
-    states: &mut [CellState<N>],
-    log: &mut LogState<D, N>,
-) -> Result<(), RunStop>
-    ensures none { OnOk result ((a : ActorNo) → left_of a states.new log.new ≡ 0) }
-    ensures numbers { HaveSameNumbers states.old states.new }
-    ensures differs { result ≡ Err RunStop.Differs → HasUntied states.new log.new }
-{
-    for n in 1..ActorNo::MAX + 1 {
-        let a = ActorNo::new(n).unwrap();
-        enter_actor(objects, states, log, a)?;
-    }
-    Ok(())
 }
 
 /// That each call of the transactions was entered, where no actor has one left. It does nothing when it runs; a proof asks for it.
@@ -214,16 +204,21 @@ fn each_is_entered<N: Run>(states: &[CellState<N>])
 
 /// Enters each call that isn't entered yet, actor by actor and in order of lines. Before an await its transaction is settled.
 pub(super) fn enter_all<D: Disk, N: Run>(
-    objects: &mut Objects<N>,
+    managers: &[Option<RmNo>],
+    resources: &mut [Box<dyn Resource + Send>],
     states: &mut [CellState<N>],
     log: &mut LogState<D, N>,
 ) -> Result<(), RunStop>
+    requires { MayAsk N.script N.objects managers.now (length resources.old) }
     ensures entered { OnOk result (each (λ c. are_entered c.rows) states.new ≡ true) }
     ensures at_log { OnOk result (are_entered log.new.rows ≡ true) }
     ensures numbers { HaveSameNumbers states.old states.new }
     ensures differs { result ≡ Err RunStop.Differs → HasUntied states.new log.new }
 {
-    enter_actors(objects, states, log)?;
+    for n in 1..ActorNo::MAX + 1 {
+        let a = ActorNo::new(n).unwrap();
+        enter_actor(managers, resources, states, log, a)?;
+    }
     each_is_entered(states);
     prove!(log.are_entered());
     Ok(())

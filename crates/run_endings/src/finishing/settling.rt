@@ -1,24 +1,45 @@
 //! Settling the transactions, as a replay does.
-ghost use Rattle.std.specs.Prelude.{◌≡◌, ◌<◌, [], Err, IfErr, IsTrue, Ok, OnOk, false, true};
+ghost use Rattle.std.specs.Prelude.{◌≡◌, ◌<◌, [], Err, IfErr, IfSome, IsTrue, Ok, OnOk, false, length, true};
 ghost use Rattle.dtx_model.specs.Outcome.{is_empty};
 ghost use Rattle.dtx_model.specs.Steps.{pending};
 ghost use Rattle.dtx_model.specs.Words.{each};
-ghost use Rattle.run_endings.specs.Finishing.{HaveSameCalls, HaveSameNumbers};
+ghost use Rattle.run_endings.specs.Finishing.{HaveSameCalls, HaveSameNumbers, MayAsk};
 ghost use Rattle.run_endings.specs.Stops.{HasUntied, IsReason};
+ghost use Rattle.tx_cells.specs.Cell.{MayReply};
 ghost use Rattle.world_laws.specs.Left.{steps_left};
 
 use super::following::follow_stop;
-use crate::objects::Objects;
 use crate::stop::RunStop;
+use dtx_values::{EnlNo, Note, Reply, Resource, RmNo, TxNo};
 use outside::Disk;
+use script_calls::fits;
 use tx_cells::{CellState, LogState, Run, TurnError};
+
+/// What the object of the enlistment's manager replies to the note. `None` is the planned reply: there is no object, or it says nothing that fits the note.
+fn ask<N: Run>(
+    managers: &[Option<RmNo>],
+    resources: &mut [Box<dyn Resource + Send>],
+    t: TxNo,
+    e: EnlNo,
+    n: Note,
+) -> Option<Reply>
+    requires { MayAsk N.script N.objects managers.now (length resources.old) }
+    ensures { IfSome result (λ r. MayReply N.script N.objects e n r) }
+{
+    let rm = (*managers.get(e.index())?)?;
+    let object = resources.get_mut(rm.index())?;
+    let r = object.on(t, e, n)?;
+    if fits(r, n) { Some(r) } else { None }
+}
 
 /// Does the first pending step of the transaction; false where none is pending. Where it is a reply, the object of the enlistment's manager is asked for it first.
 fn step<D: Disk, N: Run>(
-    objects: &mut Objects<N>,
+    managers: &[Option<RmNo>],
+    resources: &mut [Box<dyn Resource + Send>],
     state: &mut CellState<N>,
     log: &mut LogState<D, N>,
 ) -> Result<bool, TurnError>
+    requires { MayAsk N.script N.objects managers.now (length resources.old) }
     ensures none { result ≡ Ok false → (pending state.old.tx.world ≡ []) × (state.new ≡ state.old) }
     ensures nearer { result ≡ Ok true → steps_left state.new.tx.world < steps_left state.old.tx.world }
     ensures rows { OnOk result (state.new.rows ≡ state.old.rows) }
@@ -31,7 +52,7 @@ fn step<D: Disk, N: Run>(
         return state.do_step_with(log, 1);
     };
     let t = state.t();
-    match ask::<N>(objects, t, e, n) {
+    match ask::<N>(managers, resources, t, e, n) {
         Some(r) => state.take_back_with(log, e, n, r),
         None => state.do_step_with(log, 1),
     }
@@ -39,10 +60,12 @@ fn step<D: Disk, N: Run>(
 
 /// Does the pending steps of the transaction, each time the first, until none is left.
 pub(super) fn settle<D: Disk, N: Run>(
-    objects: &mut Objects<N>,
+    managers: &[Option<RmNo>],
+    resources: &mut [Box<dyn Resource + Send>],
     state: &mut CellState<N>,
     log: &mut LogState<D, N>,
 ) -> Result<(), TurnError>
+    requires { MayAsk N.script N.objects managers.now (length resources.old) }
     ensures settled { OnOk result (pending state.new.tx.world ≡ []) }
     ensures rows { OnOk result (state.new.rows ≡ state.old.rows) }
     ensures log_rows { OnOk result (log.new.rows ≡ log.old.rows) }
@@ -51,7 +74,7 @@ pub(super) fn settle<D: Disk, N: Run>(
     ensures transaction { state.new.tx.transaction ≡ state.old.tx.transaction }
 {
     loop {
-        if !step(objects, state, log)? {
+        if !step(managers, resources, state, log)? {
             return Ok(());
         }
     }
@@ -59,10 +82,12 @@ pub(super) fn settle<D: Disk, N: Run>(
 
 /// Settles the transactions in turn. Where a step of one stopped the log, each of them hears of that. As long as the log isn't stopped, no step of one makes another's pending: so then one round leaves nothing.
 fn settle_round<D: Disk, N: Run>(
-    objects: &mut Objects<N>,
+    managers: &[Option<RmNo>],
+    resources: &mut [Box<dyn Resource + Send>],
     states: &mut [CellState<N>],
     log: &mut LogState<D, N>,
 ) -> Result<(), RunStop>
+    requires { MayAsk N.script N.objects managers.now (length resources.old) }
     ensures settled { OnOk result (log.new.log.is_up ≡ log.old.log.is_up → each (λ c. is_empty (pending c.tx.world)) states.new ≡ true) }
     ensures calls { OnOk result (HaveSameCalls states.old states.new) }
     ensures numbers { HaveSameNumbers states.old states.new }
@@ -72,7 +97,7 @@ fn settle_round<D: Disk, N: Run>(
 {
     for i in 0..states.len() {
         let was_up = log.is_up();
-        settle(objects, &mut states[i], log)?;
+        settle(managers, resources, &mut states[i], log)?;
         follow_stop(states, log, was_up)?;
     }
     Ok(())
@@ -80,10 +105,12 @@ fn settle_round<D: Disk, N: Run>(
 
 /// Settles all transactions, round after round. A stop of the log in a round may leave something to do in those before; once it is stopped, it stops no more.
 pub(super) fn settle_all<D: Disk, N: Run>(
-    objects: &mut Objects<N>,
+    managers: &[Option<RmNo>],
+    resources: &mut [Box<dyn Resource + Send>],
     states: &mut [CellState<N>],
     log: &mut LogState<D, N>,
 ) -> Result<(), RunStop>
+    requires { MayAsk N.script N.objects managers.now (length resources.old) }
     ensures settled { OnOk result (each (λ c. is_empty (pending c.tx.world)) states.new ≡ true) }
     ensures calls { OnOk result (HaveSameCalls states.old states.new) }
     ensures numbers { HaveSameNumbers states.old states.new }
@@ -91,9 +118,9 @@ pub(super) fn settle_all<D: Disk, N: Run>(
     ensures differs { result ≡ Err RunStop.Differs → HasUntied states.new log.new }
 {
     let was_up = log.is_up();
-    settle_round(objects, states, log)?;
+    settle_round(managers, resources, states, log)?;
     if log.is_up() == was_up {
         return Ok(());
     }
-    settle_round(objects, states, log)
+    settle_round(managers, resources, states, log)
 }

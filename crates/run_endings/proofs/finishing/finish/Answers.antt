@@ -22,7 +22,7 @@ returns-clause-finished g c =
     all_ok {P = map (λ (x : Cell). x.tx.transaction.value) states ≡ transactions_of s} {Q = All (λ (x : Cell). TiesWith x.tx log.log) states} {R = each (λ (x : Cell). follows log.past x.tx.world.past) states ≡ true}
     {S = AreFinished g.N.Run.script states log} c.test_all.result
     (λ named tied followed. record {
-      named = subst (λ (l : List Line). map (λ (x : Cell). x.tx.transaction.value) states ≡ transactions_of l) c.requires named;
+      named = subst (λ (l : List Line). map (λ (x : Cell). x.tx.transaction.value) states ≡ transactions_of l) c.requires.named named;
       entered = still_entered c.enter_all.new.states states settled.calls entered.entered;
       entered_at_log = ap are_entered settled.log_rows ∙ entered.at_log;
       settled = settled.settled;

@@ -18,10 +18,10 @@ returns-clause-less g c =
     let states = c.args.states.now in
     let x = c.index-states-i.result in
     let y = c.enter.new.state in
-    let less = slice_get_within states i c.requires.0 c.requires.1 in
-    let there : Some x ≡ Some c.requires.0 = sym (slice_get_read states (length states) i x refl less c.index-states-i.is) ∙ c.requires.1 in
-    let same : c.requires.0 ≡ x = cc in
-    let next : IsSome (next_of a x) = subst (λ (z : Cell). IsSome (next_of a z)) same c.requires.2 in
+    let less = slice_get_within states i c.requires.next.0 c.requires.next.1 in
+    let there : Some x ≡ Some c.requires.next.0 = sym (slice_get_read states (length states) i x refl less c.index-states-i.is) ∙ c.requires.next.1 in
+    let same : c.requires.next.0 ≡ x = cc in
+    let next : IsSome (next_of a x) = subst (λ (z : Cell). IsSome (next_of a z)) same c.requires.next.2 in
     let row : row_at a y.rows ≡ further (row_at a x.rows) = c.in_ok-enter.ensures.row ∙ ap (λ (z : Cell). further (row_at a z.rows)) (sym c.index-states-i.is) in
     let one = set_less a states i x y less c.index-states-i.is (one_less_in (row_at a x.rows) (row_at a y.rows) next row) in
     on_ok {P = HaveSameCalls (set states i y) c.follow_stop.new.states} {Q = left_of a c.follow_stop.new.states c.enter.new.log + 1 ≡ left_of a states c.args.log.now} c.follow_stop.result
@@ -37,14 +37,14 @@ returns-clause-others g c =
     on_ok {P = HaveSameCalls mid c.follow_stop.new.states} {Q = (b : ActorNo) → b ≢ c.args.a → left_of b c.follow_stop.new.states c.enter.new.log ≡ left_of b states c.args.log.now} c.follow_stop.result
     (λ calls b other.
     let row : left_in (row_at b y.rows) ≡ left_in (row_at b x.rows) = ap left_in (c.in_ok-enter.ensures.others b other) ∙ ap (λ (z : Cell). left_in (row_at b z.rows)) (sym c.index-states-i.is) in
-    let one = set_same b states c.args.i x y (slice_get_within states c.args.i c.requires.0 c.requires.1) c.index-states-i.is row in
+    let one = set_same b states c.args.i x y (slice_get_within states c.args.i c.requires.next.0 c.requires.next.1) c.index-states-i.is row in
     let kept = same_left_of b mid c.follow_stop.new.states c.args.log.now c.enter.new.log calls c.in_ok-enter.ensures.log_rows in
     omega (arith, one, kept))
     c.follow_stop.ensures.calls
 
 pub returns-in_err-enter-clause-differs : goal.returns-in_err-enter-clause-differs
 returns-in_err-enter-clause-differs g c = λ differs.
-    untied_at c.args.states.now c.args.i c.enter.new.state c.enter.new.log c.in_err-enter.field-0.0 c.from_residual.result (slice_get_within c.args.states.now c.args.i c.requires.0 c.requires.1) c.in_err-enter.ensures.cause c.from_residual.ensures.1 differs
+    untied_at c.args.states.now c.args.i c.enter.new.state c.enter.new.log c.in_err-enter.field-0.0 c.from_residual.result (slice_get_within c.args.states.now c.args.i c.requires.next.0 c.requires.next.1) c.in_err-enter.ensures.cause c.from_residual.ensures.1 differs
 
 pub returns-in_err-enter-clause-numbers : goal.returns-in_err-enter-clause-numbers
 returns-in_err-enter-clause-numbers g c = map-set_same (λ (z : Cell). z.tx.transaction) c.args.states.now c.args.i c.enter.new.state c.index-states-i.result c.enter.ensures.transaction

@@ -16,6 +16,6 @@ returns-in-Some-ask-clause-none g c = λ no.
     let w = c.args.state.now.tx.world in
     let first : reply_in w (kth (pending w) 1) ≡ Some (c.in-Some.e, c.in-Some.n) = sym c.due_at.ensures ∙ c.in-Some.is in
     let due : is_due w (c.in-Some.e, c.in-Some.n) ≡ true = is_due_first w (c.in-Some.e, c.in-Some.n) first in
-    let not : false ≡ is_due w (c.in-Some.e, c.in-Some.n) = subst (λ (r : Result Bool TurnError). IfOk r (λ b. b ≡ is_due w (c.in-Some.e, c.in-Some.n))) no c.take_back_with.ensures.due in
+    let not : false ≡ is_due w (c.in-Some.e, c.in-Some.n) = subst (λ (r : Result Bool TurnError). IfOk r (λ b. b ≡ is_due w (c.in-Some.e, c.in-Some.n))) no c.take_back_with.ensures.taken.due in
     let clash : false ≡ true = not ∙ due in
     absurd (cc)
