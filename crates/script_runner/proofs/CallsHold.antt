@@ -102,7 +102,7 @@ log_still faults log t n a c m x y old new e = ap at_log e.block ∙ log-placed 
 called_named : {D : Type 0} (faults : D → ℕ) (log : LogState D) (t : TxNo) (n : ℕ) (a : ActorNo) (c : Call) (m : ℕ) (x y : TxState) (old new : RunState) → Entered faults log t n a c m x y old new
     → IsRecordKept x → NamesPrepared x → NamesPrepared y
 called_named faults log t n a c m x y old new e kept named =
-    named_does log.is_up log.life (Calls n a c m) x y refl kept.ours e.kept.own e.ours (record { transaction = e.does.transaction; world = e.does.world; life = e.does.life }) named
+    named_does log.is_up log.life (Calls n a c m) x y refl kept.ours e.kept.own (record { transaction = e.does.transaction; world = e.does.world; life = e.does.life; kept = e.does.kept }) named
 
 -- So what holds of the run holds still,
 pub entered_holds : {D : Type 0} (faults : D → ℕ) (honest : Bool) (image : D → List ℕ → Type 0) (log : LogState D) (t : TxNo) (n : ℕ) (a : ActorNo) (c : Call) (m : ℕ) (x y : TxState) (old new : RunState)

@@ -30,16 +30,18 @@ use Rattle.tx_world.specs.Prepared.{NamesPrepared}
 use Rattle.tx_world.specs.State.{TxState, is_hit_by, is_reached_by}
 use Rattle.tx_world.proofs.Naming.{named_halt, named_told}
 use Rattle.tx_cells.specs.Cell.{untouched}
-use Rattle.script_runner.specs.declared.replay.Run.{Run}
 use Rattle.script_runner.specs.RunState.{AreNumbered, GoesWith, HaveSameCalls, IsTied, IsToPlan, halted, record_in, reopened, state_of}
 use Rattle.script_runner.proofs.ByNumber.{AreUpTo, Rises, le_last, le_other, le_yet, one_where, put_next, rises-filter, rises-transactions, up_to_all, up_to_next, up_to_none}
 use Rattle.script_runner.proofs.Goes.{restarts_core, stops_core}
 use Rattle.script_runner.proofs.Numbered.{is_it, numbered_set, state_here, state_reached, state_there, state_unreached}
 use Rattle.script_runner.proofs.Tying.{given_same}
 
--- Of a run under way all but its transactions and its trace is as it was.
-abbrev pub IsElseSame : Run → Run → Type 0
-IsElseSame old new = (new.plans ≡ old.plans) × (new.managers.items ≡ old.managers.items) × (length new.resources.now ≡ length old.resources.now) × (new.contexts.items ≡ old.contexts.items)
+-- Of a run under way all but its transactions and its trace is as it was: its script's names, its managers, how many objects it has, and its contexts.
+pub record IsElseSame {P M C : Type 0} (old_plans new_plans : P) (old_managers new_managers : M) (old_objects new_objects : ℕ) (old_contexts new_contexts : C) : Type 0 where
+  pub plans : new_plans ≡ old_plans
+  pub managers : new_managers ≡ old_managers
+  pub objects : new_objects ≡ old_objects
+  pub contexts : new_contexts ≡ old_contexts
 
 -- What is done at each transaction up to number n: each of them becomes what g makes of it, and an entry is written at those that pass p.
 pub record IsThrough (g : TxState → TxState) (p : TxState → Bool) (f : TxNo → Entry) (ws : List TxState) (T : List Placed) (n : ℕ) (vs : List TxState) (U : List Placed) : Type 0 where

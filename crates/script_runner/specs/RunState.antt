@@ -118,12 +118,10 @@ pub record StepsGo {D : Type 0} (faults : D → ℕ) (honest : Bool) (image : D 
   pub log : LogGoes faults honest image from to
   pub stays : LogStays faults from to
 
--- no k-th step of t is pending, neither by its world nor by the trace, and nothing was done
-pub record HasNoStep {D : Type 0} (t : TxNo) (k : ℕ) (from to : LogState D) (old new : RunState) : Type 0 where
-  pub none : kth (pending (state_of t old.worlds).world) k ≡ None
-  pub none_here : kth (pending (world_at old.script t (past_of old.trace))) k ≡ None
-  pub run : new ≡ old
-  pub log : to ≡ from
+-- no k-th step of t is pending, neither by its world nor by the trace
+pub record HasNoStep (t : TxNo) (k : ℕ) (r : RunState) : Type 0 where
+  pub none : kth (pending (state_of t r.worlds).world) k ≡ None
+  pub none_here : kth (pending (world_at r.script t (past_of r.trace))) k ≡ None
 
 -- the k-th pending step of t was done
 pub record Advances (s : List Line) (t : TxNo) (k : ℕ) (old new : List Placed) : Type 0 where

@@ -52,7 +52,7 @@ fn run_in<S: Source, K: Sink, D: Disk + Send, G: Gate + Sync, R: Threads + Wait 
 
     // The headline; the log at the end is in it, in each image that a crash can leave. A fault after the log was formatted stops the log, which the trace says, and
     // is no answer of its own.
-    ensures headline { result.0 ≡ Exit.Fine → IsTextWritten (IsRunBy way (vec_len setting.resources) (D.faults disk) (D.faults result.1) D.honest (D.image result.1)) form (S.left source.old) (K.written sink.old) (K.written sink.new) }
+    ensures headline { result.0 ≡ Exit.Fine → IsTextWritten (IsRunBy way (vec_len setting.entry.resources) (D.faults disk) (D.faults result.1) D.honest (D.image result.1)) form (S.left source.old) (K.written sink.old) (K.written sink.new) }
     ensures read { result.0 ≡ Exit.Fine → ForSome (S.left source.old) (λ b. S.left source.new ≡ Some []) }
 
     ensures accepted { result.0 ≢ Exit.Usage }
@@ -69,8 +69,8 @@ fn run_in<S: Source, K: Sink, D: Disk + Send, G: Gate + Sync, R: Threads + Wait 
     ensures done { IsGoodFor way (S.left source.old) → (Rose (S.faults source.old) (S.faults source.new) → ⊥) → (Rose (D.faults disk) (D.faults result.1) → ⊥) → (Rose (K.faults sink.old) (K.faults sink.new) → ⊥) → (result.0 ≡ Exit.Fine) ⊎ (result.0 ≡ Exit.Memory) }
 
     // What was written: the whole text with Fine, above; else a part of it, or nothing. The disk is touched only where the script is run.
-    ensures cut_short { result.0 ≡ Exit.WriteFault → IsTextCutShort (IsRunBy way (vec_len setting.resources) (D.faults disk) (D.faults result.1) D.honest (D.image result.1)) form (S.left source.old) (K.written sink.old) (K.written sink.new) }
-    ensures memory { result.0 ≡ Exit.Memory → (sink.new ≡ sink.old) ⊎ IsTextCutShort (IsRunBy way (vec_len setting.resources) (D.faults disk) (D.faults result.1) D.honest (D.image result.1)) form (S.left source.old) (K.written sink.old) (K.written sink.new) }
+    ensures cut_short { result.0 ≡ Exit.WriteFault → IsTextCutShort (IsRunBy way (vec_len setting.entry.resources) (D.faults disk) (D.faults result.1) D.honest (D.image result.1)) form (S.left source.old) (K.written sink.old) (K.written sink.new) }
+    ensures memory { result.0 ≡ Exit.Memory → (sink.new ≡ sink.old) ⊎ IsTextCutShort (IsRunBy way (vec_len setting.entry.resources) (D.faults disk) (D.faults result.1) D.honest (D.image result.1)) form (S.left source.old) (K.written sink.old) (K.written sink.new) }
     ensures unwritten { (result.0 ≡ Exit.ReadFault) ⊎ ((result.0 ≡ Exit.LogFault) ⊎ IsJudged result.0) → sink.new ≡ sink.old }
     ensures room { LOG_BYTES ≤ D.size result.1 }
     ensures logs { IsTrue D.honest → result.0 ≢ Exit.LogFault → (result.1 ≡ disk) ⊎ AreOwnLogs (D.image result.1) }
@@ -119,14 +119,14 @@ fn demo_in<K: Sink, D: Disk + Send, G: Gate + Sync, R: Threads + Wait + Sync>(
 ) -> (Exit, D)
     requires room { LOG_BYTES ≤ D.size disk }
     requires count { is_count n ≡ true }
-    ensures headline { result.0 ≡ Exit.Fine → IsWritten Form.Summary (vec_len setting.resources) (D.faults disk) (D.faults result.1) D.honest (D.image result.1) (Some (gen n)) (K.written sink.old) (K.written sink.new) }
+    ensures headline { result.0 ≡ Exit.Fine → IsWritten Form.Summary (vec_len setting.entry.resources) (D.faults disk) (D.faults result.1) D.honest (D.image result.1) (Some (gen n)) (K.written sink.old) (K.written sink.new) }
     ensures answers { (result.0 ≡ Exit.Fine) ⊎ ((result.0 ≡ Exit.LogFault) ⊎ ((result.0 ≡ Exit.WriteFault) ⊎ (result.0 ≡ Exit.Memory))) }
     ensures log_fault { result.0 ≡ Exit.LogFault → Rose (D.faults disk) (D.faults result.1) }
     ensures write_fault { result.0 ≡ Exit.WriteFault → Rose (K.faults sink.old) (K.faults sink.new) }
     ensures log_grows { result.0 ≢ Exit.LogFault → D.faults disk ≤ D.faults result.1 }
     ensures write_smooth { result.0 ≢ Exit.WriteFault → K.faults sink.new ≡ K.faults sink.old }
-    ensures cut_short { result.0 ≡ Exit.WriteFault → IsCutShort Form.Summary (vec_len setting.resources) (D.faults disk) (D.faults result.1) D.honest (D.image result.1) (Some (gen n)) (K.written sink.old) (K.written sink.new) }
-    ensures memory { result.0 ≡ Exit.Memory → (sink.new ≡ sink.old) ⊎ IsCutShort Form.Summary (vec_len setting.resources) (D.faults disk) (D.faults result.1) D.honest (D.image result.1) (Some (gen n)) (K.written sink.old) (K.written sink.new) }
+    ensures cut_short { result.0 ≡ Exit.WriteFault → IsCutShort Form.Summary (vec_len setting.entry.resources) (D.faults disk) (D.faults result.1) D.honest (D.image result.1) (Some (gen n)) (K.written sink.old) (K.written sink.new) }
+    ensures memory { result.0 ≡ Exit.Memory → (sink.new ≡ sink.old) ⊎ IsCutShort Form.Summary (vec_len setting.entry.resources) (D.faults disk) (D.faults result.1) D.honest (D.image result.1) (Some (gen n)) (K.written sink.old) (K.written sink.new) }
     ensures unwritten { result.0 ≡ Exit.LogFault → sink.new ≡ sink.old }
     ensures room { LOG_BYTES ≤ D.size result.1 }
     ensures logs { IsTrue D.honest → result.0 ≢ Exit.LogFault → (result.1 ≡ disk) ⊎ AreOwnLogs (D.image result.1) }

@@ -249,7 +249,8 @@ impl<'a> Run<'a> {
         ensures goes { StepsGo D.faults D.honest D.image log.old log.new self.old self.new }
         ensures runs { OnOk result (RunsOn D.faults D.honest D.image log.old log.new self.old self.new) }
         ensures did { result ≡ Ok true → StepsOn t k log.old.is_up log.new.is_up self.old self.new }
-        ensures none { result ≡ Ok false → HasNoStep t k log.old log.new self.old self.new }
+        ensures none { result ≡ Ok false → HasNoStep t k self.old }
+        ensures unchanged { result ≡ Ok false → (self.new ≡ self.old) × (log.new ≡ log.old) }
     {
         if self.worlds.len() <= t.index() {
             return Ok(false);

@@ -31,7 +31,7 @@ fn traced<D: Disk + Send, G: Gate + Sync, R: Threads + Wait + Sync>(
 ) -> (Result<Trace, ThreadsError>, D)
     requires script { IsRunnable way script.now }
     requires fresh { IsFresh log }
-    ensures run { IfOk result.0 (λ T. IsRunBy way (vec_len setting.resources) (D.faults log.disk) (D.faults result.1) D.honest (D.image result.1) script.now T) }
+    ensures run { IfOk result.0 (λ T. IsRunBy way (vec_len setting.entry.resources) (D.faults log.disk) (D.faults result.1) D.honest (D.image result.1) script.now T) }
     ensures fault { IfErr result.0 (λ e. e ≡ ThreadsError.Fault → Rose (D.faults log.disk) (D.faults result.1)) }
     ensures grows { (IsErrOf result.0 ThreadsError.Fault → ⊥) → D.faults log.disk ≤ D.faults result.1 }
     ensures logs { IsTrue D.honest → (IsErrOf result.0 ThreadsError.Fault → ⊥) → AreOwnLogs (D.image result.1) }
@@ -65,7 +65,7 @@ pub fn traced_anew<D: Disk + Send, G: Gate + Sync, R: Threads + Wait + Sync>(
 ) -> (Result<Trace, Exit>, D)
     requires script { IsRunnable way script.now }
     requires room { LOG_BYTES ≤ D.size disk }
-    ensures run { IfOk result.0 (λ T. IsRunBy way (vec_len setting.resources) (D.faults disk) (D.faults result.1) D.honest (D.image result.1) script.now T) }
+    ensures run { IfOk result.0 (λ T. IsRunBy way (vec_len setting.entry.resources) (D.faults disk) (D.faults result.1) D.honest (D.image result.1) script.now T) }
     ensures only { IfErr result.0 (λ x. (x ≡ Exit.LogFault) ⊎ (x ≡ Exit.Memory)) }
     ensures fault { IsErrOf result.0 Exit.LogFault → Rose (D.faults disk) (D.faults result.1) }
     ensures grows { (IsErrOf result.0 Exit.LogFault → ⊥) → D.faults disk ≤ D.faults result.1 }

@@ -180,7 +180,7 @@ pub fn run_on_threads<D: Disk + Send, G: Gate + Sync, R: Threads + Wait + Sync>(
     requires fresh { IsFresh log }
 
     // The trace, which is a run of the script on threads, and the log after it.
-    ensures run { IfOk result.0 (RanOnThreads D.faults D.honest D.image s.now (vec_len setting.resources) (D.faults log.disk) result.1) }
+    ensures run { IfOk result.0 (RanOnThreads D.faults D.honest D.image s.now (vec_len setting.entry.resources) (D.faults log.disk) result.1) }
 
     // Also after an error each image that a crash can leave is a log of the script's transactions alone.
     ensures grows { D.faults log.disk ≤ D.faults result.1.disk }

@@ -24,7 +24,7 @@ pub loop-place-init : goal.loop-place-init
 loop-place-init g c =
     let log = c.args.log.now in
     record {
-      same = (refl, (refl, (refl, refl)));
+      same = record { plans = refl; managers = refl; objects = refl; contexts = refl };
       through = through_none (reopened log) (is_reached_by log.life) (λ t. Restarted (is_some (record_in log.slots t.value))) c.self.inside.worlds.items (past_of c.self.inside.trace.items) c.self.invariant.0;
       kept = λ kept. kept;
       sound = λ h sound. sound;

@@ -62,14 +62,14 @@ pub returns-then-not-branch-clause-settled : goal.returns-then-not-branch-clause
 returns-then-not-branch-clause-settled g c =
     let done : c.step.result ≡ Ok false = cc in
     let t = c.args.t in
-    subst (λ (r : RunState). pending (state_of t r.worlds).world ≡ []) (sym (c.step.ensures.none done).run) (none_first (pending (state_of t c.loop.self.worlds).world) (c.step.ensures.none done).none)
+    subst (λ (r : RunState). pending (state_of t r.worlds).world ≡ []) (sym (c.step.ensures.unchanged done).0) (none_first (pending (state_of t c.loop.self.worlds).world) (c.step.ensures.none done).none)
 
 pub returns-then-not-branch-clause-done : goal.returns-then-not-branch-clause-done
 returns-then-not-branch-clause-done g c =
     let done : c.step.result ≡ Ok false = cc in
     let start = c.args.self.now in
     let did = c.loop.invariant.done in
-    subst (λ (r : RunState). Settles start.script c.args.t start.trace r.trace) (sym (c.step.ensures.none done).run)
+    subst (λ (r : RunState). Settles start.script c.args.t start.trace r.trace) (sym (c.step.ensures.unchanged done).0)
     (settles-here start.script c.args.t did.0 start.trace c.loop.self.trace did.1 (settled_there g (goal.at.returns-then-not-branch-clause-done g c).In_ok-step done))
 
 pub returns-then-not-branch-clause-turns : goal.returns-then-not-branch-clause-turns
@@ -78,7 +78,7 @@ returns-then-not-branch-clause-turns g c =
     let s = c.args.self.now.script in
     let settled = settled_there g (goal.at.returns-then-not-branch-clause-turns g c).In_ok-step done in
     λ first turn.
-    subst (λ (r : RunState). IsRoundAt s first (c.args.t.value + 1) (past_of r.trace)) (sym (c.step.ensures.none done).run)
+    subst (λ (r : RunState). IsRoundAt s first (c.args.t.value + 1) (past_of r.trace)) (sym (c.step.ensures.unchanged done).0)
     (turn-next s first c.args.t (past_of c.loop.self.trace) (c.loop.invariant.turns first turn) settled)
 
 pub returns-then-not-branch-clause-below : goal.returns-then-not-branch-clause-below
@@ -86,7 +86,7 @@ returns-then-not-branch-clause-below g c =
     let done : c.step.result ≡ Ok false = cc in
     let s = c.args.self.now.script in
     let settled = settled_there g (goal.at.returns-then-not-branch-clause-below g c).In_ok-step done in
-    let same = c.step.ensures.none done in
+    let same = c.step.ensures.unchanged done in
     λ up below.
-    subst (λ (r : RunState). AreSettledBelow s (c.args.t.value + 1) (past_of r.trace)) (sym same.run)
-    (below-next s c.args.t (past_of c.loop.self.trace) (c.loop.invariant.below (sym (ap (λ l. l.is_up) same.log) ∙ up) below) settled)
+    subst (λ (r : RunState). AreSettledBelow s (c.args.t.value + 1) (past_of r.trace)) (sym same.0)
+    (below-next s c.args.t (past_of c.loop.self.trace) (c.loop.invariant.below (sym (ap (λ l. l.is_up) same.1) ∙ up) below) settled)

@@ -1,4 +1,4 @@
-use Rattle.std.proofs.Common.{◌≡◌, ◌≤◌, ◌<◌, ◌-◌, ◌++◌, ◌∷◌, [], ◌∙◌, ℕ, Bool, true, false, List, Option, None, Ok, Result, ap, arith, length, refl, set, subst, sym}
+use Rattle.std.proofs.Common.{◌≡◌, ◌≤◌, ◌<◌, ◌-◌, ◌++◌, ◌∷◌, [], ◌∙◌, ℕ, Bool, true, false, List, Option, None, Ok, Result, ap, arith, length, set, subst, sym}
 use Rattle.std.specs.Prelude.{IfSome, IsTrue, IsFalse, slice_index_or}
 use Rattle.dtx_values.specs.declared.entry.Entry.{Entry}
 use Rattle.dtx_values.specs.declared.entry.Entry.TheVariants.{Stopped}
@@ -119,7 +119,7 @@ pub returns-then-len-index-clause-none : goal.returns-then-len-index-clause-none
 returns-then-len-index-clause-none g c = λ e.
     let more : length c.self.inside.worlds.items < c.args.t.value = omega (arith, c.index.ensures.place, c.if-len-index.true, c.len.ensures) in
     let beyond = none_beyond c.args.self.now c.args.t c.args.k (c.requires.holds.tied c.args.t) (subst (λ (r : RunState). length r.worlds < c.args.t.value) c.self.view_is more) in
-    record { none = beyond.0; none_here = beyond.1; run = c.self.view_is; log = refl }
+    record { none = beyond.0; none_here = beyond.1 }
 
 pub do_kth-requires : goal.do_kth-requires
 do_kth-requires g c = record {
@@ -135,15 +135,12 @@ returns-then-not-branch-clause-none g c = λ e.
     let r = c.args.self.now in
     let x = c.index_mut-world.result.now in
     let numbered = subst (λ (r : RunState). AreNumbered r.worlds) c.self.view_is c.self.invariant.0 in
-    let undone = c.in_ok-do_kth.ensures.none (ap (λ (b : Bool). Ok b) c.if-not-branch.true) in
     let none : kth (pending x.world) c.args.k ≡ None =
-    subst (λ (j : ℕ). kth (pending x.world) j ≡ None) c.from-2.ensures undone.0 in
+    subst (λ (j : ℕ). kth (pending x.world) j ≡ None) c.from-2.ensures (c.in_ok-do_kth.ensures.none (ap (λ (b : Bool). Ok b) c.if-not-branch.true)).0 in
     let here = ap (λ (z : TxState). kth (pending z.world) c.args.k) at ∙ none in
     record {
       none = here;
       none_here = none_pending r.script r.objects r.worlds (past_of r.trace) c.args.t c.args.k (c.requires.holds.tied c.args.t) (own_at c.args.t r.worlds x numbered at c.is_own_run.ensures.run) here;
-      run = search rules;
-      log = undone.2;
     }
 
 -- the run as it goes on
@@ -223,7 +220,7 @@ returns-then-not-is_up g c =
     ∙ ap (λ l. halted l (state_of u (worlds_after a))) c.life.ensures)
     c.in_ok-stop_all.ensures.trace
     (subst (λ (r : RunState). ((u : TxNo) → IsRecordKept (state_of u r.worlds)) → (u : TxNo) → IsRecordKept (state_of u q.worlds)) now c.in_ok-stop_all.ensures.kept) in
-    record { goes = d.goes; runs = d.runs; did = λ e. d.did; none = λ e. absurd (never_false e) }
+    record { goes = d.goes; runs = d.runs; did = λ e. d.did; none = λ e. absurd (never_false e); unchanged = λ e. absurd (never_false e) }
 
 pub returns : goal.returns
 returns g c =
@@ -239,4 +236,4 @@ returns g c =
     let d =
     subst (λ (q : RunState). IsStepped g.D.Disk.faults g.D.Disk.honest g.D.Disk.image a q) (sym (parts g b new))
     (step_done g.D.Disk.faults g.D.Disk.honest g.D.Disk.image a new (done g b) stays noted) in
-    record { goes = d.goes; runs = d.runs; did = λ e. d.did; none = λ e. absurd (never_false e) }
+    record { goes = d.goes; runs = d.runs; did = λ e. d.did; none = λ e. absurd (never_false e); unchanged = λ e. absurd (never_false e) }

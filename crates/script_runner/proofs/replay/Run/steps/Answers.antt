@@ -48,7 +48,7 @@ pub returns-then-not-branch-clause-did : goal.returns-then-not-branch-clause-did
 returns-then-not-branch-clause-did g c =
     let done : c.step.result ≡ Ok false = cc in
     let t = c.args.t in
-    subst (λ (r : RunState). HasDone t.value (state_of t r.worlds).world c.args.k c.args.n c.loop-m.m) (sym (c.step.ensures.none done).run)
+    subst (λ (r : RunState). HasDone t.value (state_of t r.worlds).world c.args.k c.args.n c.loop-m.m) (sym (c.step.ensures.unchanged done).0)
     (did_some t.value c.args.k c.args.n c.loop-m.m (state_of t c.args.self.now.worlds).world (state_of t c.loop-m.self.worlds).world c.loop-m-test.true c.loop-m.invariant.did (c.step.ensures.none done).none)
 
 pub returns-then-not-branch-clause-done : goal.returns-then-not-branch-clause-done
@@ -57,7 +57,7 @@ returns-then-not-branch-clause-done g c =
     let s = c.args.self.now.script in
     let none : kth (pending (world_at s c.args.t (past_of c.loop-m.self.trace))) c.args.k ≡ None =
     subst (λ (r : List Line). kth (pending (world_at r c.args.t (past_of c.loop-m.self.trace))) c.args.k ≡ None) c.loop-m.invariant.runs.script (c.step.ensures.none done).none_here in
-    subst (λ (r : RunState). HasDoneAt s c.args.t c.args.k c.args.n c.loop-m.m (past_of c.args.self.now.trace) (past_of r.trace)) (sym (c.step.ensures.none done).run)
+    subst (λ (r : RunState). HasDoneAt s c.args.t c.args.k c.args.n c.loop-m.m (past_of c.args.self.now.trace) (past_of r.trace)) (sym (c.step.ensures.unchanged done).0)
     (done_some s c.args.t c.args.k c.args.n c.loop-m.m c.args.self.now.trace c.loop-m.self.trace c.loop-m-test.true c.loop-m.invariant.done none)
 
 pub returns-clause-did : goal.returns-clause-did

@@ -19,7 +19,7 @@ use Rattle.script_runner.proofs.replay.Run.stop_all.Goals as goal
 pub loop-place-init : goal.loop-place-init
 loop-place-init g c =
     record {
-      same = (refl, (refl, (refl, refl)));
+      same = record { plans = refl; managers = refl; objects = refl; contexts = refl };
       through = through_none (halted c.args.life) (is_hit_by c.args.life) (λ t. Stopped) c.self.inside.worlds.items (past_of c.self.inside.trace.items) c.self.invariant.0;
       kept = λ kept. kept;
     }
