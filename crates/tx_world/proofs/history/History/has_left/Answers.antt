@@ -7,6 +7,6 @@ use Rattle.tx_world.proofs.history.History.has_left.Goals as goal
 
 pub returns : goal.returns
 returns c =
-    c.has_left.ensures
+    c.has_left.ensures.value
     ∙ left_is c.args.c c.args.d c.self.inside.session.wires (past_of c.self.inside.entries.items) c.self.invariant.0
     ∙ ap (λ (x : Course). has_left c.args.c c.args.d x.past) c.self.view_is
