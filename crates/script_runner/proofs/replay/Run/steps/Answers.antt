@@ -1,4 +1,4 @@
-use Rattle.std.proofs.Common.{◌≡◌, ◌+◌, ℕ, suc, arith, Ok, None, true, false, List, refl, subst, sym, ◌∙◌}
+use Rattle.std.proofs.Common.{◌≡◌, ◌+◌, ℕ, suc, arith, Ok, None, true, false, List, refl, subst, sym}
 use Rattle.dtx_values.specs.declared.script.Line.{Line}
 use Rattle.dtx_model.specs.Caused.{HasDone, HasStepped}
 use Rattle.dtx_model.specs.Replay.{HasDoneAt, world_at}
