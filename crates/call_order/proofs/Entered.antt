@@ -14,8 +14,8 @@ use Rattle.dtx_model.specs.Steps.{Step, Calls, after, block_at}
 use Rattle.dtx_model.specs.Words.{each, onto, put}
 use Rattle.dtx_model.specs.World.{World, answer_at, facts_at}
 use Rattle.dtx_model.proofs.Bools.{and_left, and_right}
-use Rattle.outcome_law.proofs.Pending.{is_not_called}
-use Rattle.outcome_law.proofs.ReplayRuns.{block_not_called, facts_not_called}
+use Rattle.script_histories.proofs.Pending.{is_not_called}
+use Rattle.script_histories.proofs.ReplayRuns.{block_not_called, facts_not_called}
 use Rattle.call_order.proofs.Lists.{map-past}
 use Rattle.script_calls.specs.declared.calls.LogCall.{LogCall}
 use Rattle.script_calls.specs.declared.rows.Due.{Due}

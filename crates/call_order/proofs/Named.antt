@@ -26,8 +26,8 @@ use Rattle.dtx_model.specs.Scopes.{ScopeEntry, Opens, Finishes, Closes, ambient,
 use Rattle.dtx_model.specs.Words.{all_of, always, each, has, latest, onto, or_else, past_of, put}
 use Rattle.dtx_model.proofs.Bools.{and_left, and_right, not_both, or_right}
 use Rattle.dtx_model.proofs.Reading.{has-past}
-use Rattle.outcome_law.proofs.Lists.{OfEach, of-map}
-use Rattle.outcome_law.proofs.Tests.{eq_self}
+use Rattle.history_table.proofs.Lists.{OfEach, of-map}
+use Rattle.history_table.proofs.Tests.{eq_self}
 use Rattle.script_calls.specs.declared.rows.Due.{Due}
 use Rattle.script_calls.specs.Due.{calls_at, due_at, due_by_line, given_by}
 use Rattle.script_calls.proofs.Ascending.{of-onto}

@@ -26,8 +26,8 @@ use Rattle.dtx_model.specs.Words.{all_of, each, onto, past_of, put}
 use Rattle.dtx_model.proofs.Bools.{and_never}
 use Rattle.dtx_model.proofs.Histories.{onto-append}
 use Rattle.dtx_model.proofs.SameNumbers.{same_actor, same_transaction}
-use Rattle.outcome_law.proofs.Pending.{is_not_called}
-use Rattle.outcome_law.proofs.Tests.{eq_self}
+use Rattle.script_histories.proofs.Pending.{is_not_called}
+use Rattle.history_table.proofs.Tests.{eq_self}
 use Rattle.script_calls.specs.declared.calls.LogCall.{LogCall}
 use Rattle.script_calls.specs.declared.rows.Due.{Due}
 use Rattle.script_calls.specs.Due.{calls_at, calls_until, due_at, due_by_line as own_due, log_call, log_calls_at, log_calls_until, log_due, log_due_by_line}

@@ -2,7 +2,7 @@
 use dtx_values::{ActorNo, Call, Class, EnlNo, RmNo};
 
 /// A call that was entered: its line, its actor and its words.
-#[derive(Clone, Copy, PartialEq, Eq, Debug)]
+#[derive(Clone, Copy, PartialEq, Eq)]
 pub struct EnteredCall {
     pub line: u32,
     pub actor: ActorNo,
@@ -10,7 +10,7 @@ pub struct EnteredCall {
 }
 
 /// What a call of a transaction waits for.
-#[derive(Clone, Copy, PartialEq, Eq, Debug)]
+#[derive(Clone, Copy, PartialEq, Eq)]
 pub enum Wanted {
     /// The transaction's identifier, as a marshal call does.
     Identifier,

@@ -5,7 +5,7 @@ use crate::script::{EnlistOption, Support};
 use crate::words::{CloneKind, Outcome, Timeout, Vote};
 
 /// A call on one transaction.
-#[derive(Clone, Copy, PartialEq, Eq, Debug)]
+#[derive(Clone, Copy, PartialEq, Eq)]
 pub enum Call {
     Begin(TxNo, Timeout),
     Volatile(TxNo, EnlNo, EnlistOption, Option<Vote>),

@@ -79,7 +79,7 @@ pub enum LogNote {
 }
 
 /// One entry of a history, in the order of the words that print it.
-#[derive(Clone, Copy, PartialEq, Eq, Debug)]
+#[derive(Clone, Copy, PartialEq, Eq)]
 pub enum Entry {
     /// The line of the script, from 1, its actor and the answer.
     Called(u32, ActorNo, Answer),

@@ -43,7 +43,7 @@ pub enum Opening {
 }
 
 /// A command with its words.
-#[derive(Clone, Copy, PartialEq, Eq, Debug)]
+#[derive(Clone, Copy, PartialEq, Eq)]
 pub enum Body {
     Begin(TxNo, Timeout),
     Open(ScopeNo, Opening),
@@ -77,7 +77,7 @@ pub enum Body {
 }
 
 /// A line of a script: who does what.
-#[derive(Clone, Copy, PartialEq, Eq, Debug)]
+#[derive(Clone, Copy, PartialEq, Eq)]
 pub struct Line {
     pub actor: ActorNo,
     pub body: Body,

@@ -1,13 +1,2 @@
-pub mod Writing
-pub mod Lists
-pub mod Waiters
-pub mod Rows
-pub mod Links
-pub mod Lost
-pub mod Notes
-pub mod Waiting
-pub mod Following
-pub mod Due
-pub mod Deciding
 pub mod News
 pub mod Acting

@@ -19,7 +19,7 @@ use Rattle.dtx_model.specs.Observed.{Observed}
 use Rattle.dtx_model.specs.Half.{Half, decide, promoted_by, to_up}
 use Rattle.dtx_model.specs.Acts.{commit_sent}
 use Rattle.dtx_model.specs.Arrivals.{aborted_by, begun, created, ended_by, enlisted_at, refused_by, told_abort, unless_decided}
-use Rattle.local_half.specs.Taken.{MayTakeIn}
+use Rattle.half_parts.specs.Taken.{MayTakeIn}
 use Rattle.dtx_values.specs.Outgoing.{sends_of}
 use Rattle.local_half.specs.declared.half.acts.LocalAct.{LocalAct}
 use Rattle.local_half.specs.declared.half.acts.LocalAct.TheVariants.{Write, Seal, Commit, SayYes}

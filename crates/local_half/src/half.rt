@@ -20,15 +20,11 @@ ghost use Rattle.dtx_model.specs.Promotes.{identifier_of};
 ghost use Rattle.dtx_model.specs.Waiting.{is_place_of};
 ghost use Rattle.dtx_model.specs.World.{World};
 ghost use Rattle.tm_proxy.specs.News.{news_of};
-ghost use Rattle.local_half.specs.Half.{Follows, IsRoom, after, is_free, is_its_own, is_made_by_waiting};
+ghost use Rattle.half_parts.specs.Half.{Follows, IsRoom, after, is_free, is_its_own, is_made_by_waiting};
 ghost use Rattle.local_half.specs.Rights.{right_seen};
-ghost use Rattle.local_half.specs.Taken.{HasPlace, IsFor, MaySend, MayTakeIn, with_waiter};
+ghost use Rattle.half_parts.specs.Taken.{HasPlace, IsFor, MaySend, MayTakeIn, with_waiter};
 ghost use Rattle.local_half.specs.Told.{act_at, promoted_at};
 
-use crate::branches::{BranchChange, change, is_enlisted, note_got, note_sent};
-use crate::listeners::{is_gone, lose, regain, tell, was_told};
-use crate::outgoing::put_out;
-use crate::waits::{self, wanted_by};
 use dependent_clones::Clones;
 use dtx_model::{Branch, Listener, Wanted};
 use dtx_values::{
@@ -37,6 +33,10 @@ use dtx_values::{
 };
 use durable_enlist::owner_of;
 use enlist_table::EnlistTable;
+use half_parts::branches::{BranchChange, change, is_enlisted, note_got, note_sent};
+use half_parts::listeners::{is_gone, lose, regain, tell, was_told};
+use half_parts::outgoing::put_out;
+use half_parts::waits::{self, wanted_by};
 use phase_zero::Waves;
 use promotion::{Handover, HandoverAct, Right};
 use std::alloc::{AllocError, Global};
@@ -158,9 +158,9 @@ impl Model for LocalHalf {
     ghost use Rattle.dtx_values.specs.declared.limits.TheConstants.{CALLS, DURABLES, ENLISTMENTS};
     ghost use Rattle.dtx_values.specs.Table.{how_many};
     ghost use Rattle.dtx_model.specs.Words.{put};
-    ghost use Rattle.local_half.specs.Half.{Known};
-    ghost use Rattle.local_half.specs.Linked.{AreLinked, AreRows, is_lost};
-    ghost use Rattle.local_half.specs.Waits.{AreWaiting};
+    ghost use Rattle.half_parts.specs.Half.{Known};
+    ghost use Rattle.half_parts.specs.Linked.{AreLinked, AreRows, is_lost};
+    ghost use Rattle.half_parts.specs.Waits.{AreWaiting};
 
     ghost Value = { Known };
 

@@ -2,13 +2,7 @@
 //! coordinator's messages.
 #![tactic(auto)]
 
-mod branches;
 mod half;
-mod listeners;
-mod outgoing;
-mod time;
-mod votes;
-mod waits;
 
 pub use half::LocalHalf;
 pub use promotion::Right;

@@ -25,23 +25,23 @@ use Rattle.dtx_model.specs.Steps.{Step}
 use Rattle.dtx_model.specs.World.{World}
 use Rattle.dtx_model.specs.Grammar.{are_named_well}
 use Rattle.dtx_model.specs.Caused.{Caused, IsCallOf, Ran, entered_in, plans_of}
-use Rattle.outcome_law.specs.Waited.{AreCallsAnswered, is_answer_of, waiting_line}
+use Rattle.history_table.specs.Waited.{AreCallsAnswered, is_answer_of, waiting_line}
 use Rattle.dtx_model.specs.History.{is_silent_to_promote, is_still_lost}
 use Rattle.dtx_model.proofs.Bools.{and_both, and_left, not_both, or_case, or_right}
-use Rattle.outcome_law.proofs.Lists.{has-insert}
-use Rattle.outcome_law.proofs.Scans.{each_more, has_more}
-use Rattle.outcome_law.proofs.Tests.{eq_self}
-use Rattle.outcome_law.proofs.Owned.{has_rows}
-use Rattle.outcome_law.proofs.Rule.{is_volatile_of}
-use Rattle.outcome_law.proofs.Table.{stands_volatile}
-use Rattle.outcome_law.proofs.Evident.{asked_volatile}
-use Rattle.outcome_law.proofs.HalfRows.{row_marked, rows_enlisted}
-use Rattle.outcome_law.proofs.SameRows.{found_passes, row_found}
-use Rattle.outcome_law.proofs.Climbed.{none_waiting}
-use Rattle.outcome_law.proofs.Owed.{ArePromised, IsPromised, unvolatile}
-use Rattle.outcome_law.proofs.PromotesRuns.{waits_promoting}
+use Rattle.history_table.proofs.Lists.{has-insert}
+use Rattle.history_table.proofs.Scans.{each_more, has_more}
+use Rattle.history_table.proofs.Tests.{eq_self}
+use Rattle.history_table.proofs.Owned.{has_rows}
+use Rattle.history_table.proofs.EntryTests.{is_volatile_of}
+use Rattle.history_table.proofs.Table.{stands_volatile}
+use Rattle.script_histories.proofs.EvidentOwners.{asked_volatile}
+use Rattle.history_table.proofs.HalfRows.{row_marked, rows_enlisted}
+use Rattle.settled_histories.proofs.SameRows.{found_passes, row_found}
+use Rattle.settled_histories.proofs.Climbed.{none_waiting}
+use Rattle.settled_histories.proofs.Owed.{ArePromised, IsPromised, unvolatile}
+use Rattle.script_histories.proofs.PromotesRuns.{waits_promoting}
 use Rattle.outcome_law.proofs.Told.{IsSettledRun, none_row, promise_planned, settled_run, unlost_row, unmoved}
-use Rattle.outcome_law.proofs.WaitsOver.{ran_over}
+use Rattle.script_histories.proofs.WaitsOver.{ran_over}
 
 -- Each call that was answered `wait` got its answer, or still waits.
 others_left : (n m : ℕ) (ws : List Waiter) → (n == m) ≡ false → has (λ w. n == w.0) ws ≡ true → has (λ w. n == w.0) (filter (λ w. not (m == w.0)) ws) ≡ true

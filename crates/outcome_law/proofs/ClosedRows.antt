@@ -10,13 +10,13 @@ use Rattle.dtx_model.specs.Entries.{is_commit, is_completed, is_decision, is_sea
 use Rattle.dtx_model.specs.Wires.{opens}
 use Rattle.dtx_values.specs.declared.message.Conn.TheVariants.{Enl}
 use Rattle.dtx_model.proofs.Bools.{and_right, not_both, not_false, not_true}
-use Rattle.outcome_law.proofs.Rule.{all_complete, is_cloned, is_enlisted, zeros_cast}
-use Rattle.outcome_law.proofs.Tests.{second_of_five, fourth_of_five}
-use Rattle.outcome_law.proofs.ClosedTables.{is_closed_well}
-use Rattle.outcome_law.proofs.Table.{class_row, is_settled_there, rule}
-use Rattle.outcome_law.proofs.Keeping.{Keeps, before, keeps_before, newest, third_of_three}
-use Rattle.outcome_law.proofs.HalfRows.{zeros_seen}
-use Rattle.outcome_law.proofs.BeforeRows.{by_keeping}
+use Rattle.history_table.proofs.EntryTests.{all_complete, is_cloned, is_enlisted, zeros_cast}
+use Rattle.history_table.proofs.Tests.{second_of_five, fourth_of_five}
+use Rattle.script_histories.proofs.ClosedTables.{is_closed_well}
+use Rattle.history_table.proofs.Table.{class_row, is_settled_there, rule}
+use Rattle.history_table.proofs.Keeping.{Keeps, before, keeps_before, newest, third_of_three}
+use Rattle.history_table.proofs.HalfRows.{zeros_seen}
+use Rattle.settled_histories.proofs.BeforeRows.{by_keeping}
 
 -- who is complete was cloned
 cloned_before : (n : ℕ) (h : List Entry) → Keeps h → has (is_completed n) h ≡ true → has (is_cloned n) h ≡ true

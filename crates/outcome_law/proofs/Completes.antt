@@ -12,11 +12,11 @@ use Rattle.dtx_model.specs.Promotes.{is_promoting}
 use Rattle.dtx_model.specs.Caused.{Caused, IsCallOf, Settled, is_unpromoted}
 use Rattle.dtx_model.specs.History.{CanCommit}
 use Rattle.dtx_model.proofs.Local.{free-local}
-use Rattle.outcome_law.proofs.Blocks.{script_kept}
+use Rattle.script_histories.proofs.Blocks.{script_kept}
 use Rattle.outcome_law.proofs.Promotions.{promoted_committed}
-use Rattle.outcome_law.proofs.Runs.{free_run}
-use Rattle.outcome_law.proofs.Scans.{has_more}
-use Rattle.outcome_law.proofs.Settled.{settled_committed}
+use Rattle.script_histories.proofs.Runs.{free_run}
+use Rattle.history_table.proofs.Scans.{has_more}
+use Rattle.script_histories.proofs.Settled.{settled_committed}
 use Rattle.outcome_law.proofs.Settlings.{settled_act, settled_unplanned}
 
 same_entry : (x : Entry) → is_promoting x ≡ true → is_promoting x ≡ true

@@ -10,13 +10,13 @@ use Rattle.dtx_model.specs.Plans.{plan_of}
 use Rattle.dtx_model.specs.Promotes.{is_promoting}
 use Rattle.dtx_model.specs.Caused.{Caused, Settled, entered_in, plans_of}
 use Rattle.dtx_model.specs.History.{CanCommit}
-use Rattle.outcome_law.proofs.Unblamed.{nothing_bad}
-use Rattle.outcome_law.proofs.Owed.{all_heeded}
-use Rattle.outcome_law.proofs.ClosedTables.{none_open}
+use Rattle.settled_histories.proofs.Unblamed.{nothing_bad}
+use Rattle.settled_histories.proofs.Owed.{all_heeded}
+use Rattle.script_histories.proofs.ClosedTables.{none_open}
 use Rattle.outcome_law.proofs.ClosedRows.{kept_shut}
-use Rattle.outcome_law.proofs.Climbed.{committed_at_rest}
-use Rattle.outcome_law.proofs.Idle.{same_willing}
-use Rattle.outcome_law.proofs.UnstoppedTies.{unlost_unstopped}
+use Rattle.settled_histories.proofs.Climbed.{committed_at_rest}
+use Rattle.settled_histories.proofs.Idle.{same_willing}
+use Rattle.settled_histories.proofs.UnstoppedTies.{unlost_unstopped}
 use Rattle.outcome_law.proofs.Told.{at_rest, settled_run}
 
 -- all are willing, so each reply that is due is planned, and nothing bad came: at rest, its client was told that it is committed

@@ -7,7 +7,7 @@ use Rattle.dtx_model.specs.Steps.{Restarts, Step, Stops}
 use Rattle.dtx_model.specs.Caused.{FreelyCaused, IsCallOf}
 use Rattle.dtx_model.proofs.Computing.{model}
 use Rattle.dtx_model.proofs.WorkedOutcomes.{commits_lines}
-use Rattle.outcome_law.specs.Stopped.{is_record_unknown, restarts_without_evidence}
+use Rattle.settled_histories.specs.Stopped.{is_record_unknown, restarts_without_evidence}
 use Rattle.outcome_law.proofs.CommitExample.{AllMay, made, may_vote, ran, voting}
 
 -- the coordinator got COMMIT, YES and each vote, and the log stops; then it is opened again, and no record is found

@@ -18,20 +18,20 @@ use Rattle.dtx_model.specs.Grammar.{are_named_well}
 use Rattle.dtx_model.specs.Caused.{Caused, IsCallOf, Settled, entered_in}
 use Rattle.dtx_model.specs.History.{IsToldOrWaits, is_waiting}
 use Rattle.dtx_model.proofs.Bools.{not_both, three_hold}
-use Rattle.outcome_law.specs.Waited.{AreCallsAnswered}
-use Rattle.outcome_law.proofs.Keeping.{Keeps}
-use Rattle.outcome_law.proofs.BeforeRows.{kept_ordered, kept_sound}
-use Rattle.outcome_law.proofs.Foregoing.{yes_commit}
-use Rattle.outcome_law.proofs.Wired.{is_end_on}
-use Rattle.outcome_law.proofs.Unblamed.{down_early}
-use Rattle.outcome_law.proofs.Ending.{IsGoingOn, ran_goes}
-use Rattle.outcome_law.proofs.Names.{script_once}
-use Rattle.outcome_law.proofs.Steady.{run_keeps}
-use Rattle.outcome_law.proofs.Idle.{idle}
-use Rattle.outcome_law.proofs.Climbed.{told_decided}
+use Rattle.history_table.specs.Waited.{AreCallsAnswered}
+use Rattle.history_table.proofs.Keeping.{Keeps}
+use Rattle.settled_histories.proofs.BeforeRows.{kept_ordered, kept_sound}
+use Rattle.settled_histories.proofs.Foregoing.{yes_commit}
+use Rattle.settled_histories.proofs.Wired.{is_end_on}
+use Rattle.settled_histories.proofs.Unblamed.{down_early}
+use Rattle.settled_histories.proofs.Ending.{IsGoingOn, ran_goes}
+use Rattle.history_table.proofs.Names.{script_once}
+use Rattle.history_table.proofs.Steady.{run_keeps}
+use Rattle.settled_histories.proofs.Idle.{idle}
+use Rattle.settled_histories.proofs.Climbed.{told_decided}
 use Rattle.outcome_law.proofs.Told.{told_promoted}
 use Rattle.outcome_law.proofs.CallsAnswered.{calls_answered, decided_answered, are_all_answered, is_one_silent}
-use Rattle.outcome_law.proofs.StoppedEnds.{begin_lost, lost_seen, voter_lost}
+use Rattle.settled_histories.proofs.StoppedEnds.{begin_lost, lost_seen, voter_lost}
 
 -- Where the coordinator stopped and nothing is left to deliver, the local side saw the end of b: a veto, unless it had said yes. But then it saw the end of v too, so the outcome is in doubt there.
 pub stop_decides : (h : List Entry) → Keeps h → IsGoingOn h → flat_map (deliveries_on h) (ends_of h) ≡ [] → has is_stop h ≡ true → has is_decision h ≡ true

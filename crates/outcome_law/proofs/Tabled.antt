@@ -10,18 +10,18 @@ use Rattle.dtx_model.specs.Words.{always}
 use Rattle.dtx_model.specs.World.{World}
 use Rattle.dtx_model.specs.Steps.{Step}
 use Rattle.dtx_model.specs.Caused.{Ran}
-use Rattle.outcome_law.proofs.Messages.{ENLISTED}
-use Rattle.outcome_law.proofs.Fine.{is_caused}
-use Rattle.outcome_law.proofs.SameRows.{is_asked_there}
-use Rattle.outcome_law.proofs.Owed.{is_asked_well}
-use Rattle.outcome_law.proofs.Counted.{is_once}
-use Rattle.outcome_law.proofs.Keeping.{Keeps}
-use Rattle.outcome_law.proofs.CausedRows.{kept_caused}
-use Rattle.outcome_law.proofs.AskedRows.{ran_asks}
-use Rattle.outcome_law.proofs.PlacedRows.{kept_placed, ran_direct}
-use Rattle.outcome_law.proofs.SealedRows.{kept_there, ran_well}
+use Rattle.settled_histories.proofs.MessageKinds.{ENLISTED}
+use Rattle.settled_histories.proofs.Fine.{is_caused}
+use Rattle.settled_histories.proofs.SameRows.{is_asked_there}
+use Rattle.settled_histories.proofs.Owed.{is_asked_well}
+use Rattle.settled_histories.proofs.Counted.{is_once}
+use Rattle.history_table.proofs.Keeping.{Keeps}
+use Rattle.settled_histories.proofs.CausedRows.{kept_caused}
+use Rattle.settled_histories.proofs.AskedRows.{ran_asks}
+use Rattle.settled_histories.proofs.PlacedRows.{kept_placed, ran_direct}
+use Rattle.settled_histories.proofs.SealedRows.{kept_there, ran_well}
 use Rattle.outcome_law.proofs.WellRows.{kept_well}
-use Rattle.outcome_law.proofs.Crossed.{is_sent_on}
+use Rattle.history_table.proofs.Crossed.{is_sent_on}
 
 -- what is bad has its cause, ENLISTED is sent once to each enlistment, and who is asked was enlisted, and is asked for what it may be asked
 pub record KeepsMore (h : List Entry) : Type 0 where

@@ -40,28 +40,28 @@ use Rattle.dtx_model.specs.Steps.{Step, Calls, Replies, Acts, Coordinates, Deliv
 use Rattle.dtx_model.specs.Caused.{Ran}
 use Rattle.dtx_model.proofs.Bools.{and_both, and_left, and_never, and_right, not_both, or_case, or_right}
 use Rattle.dtx_model.proofs.Quiet.{is_quiet, q_act, q_appended, q_called, q_ended_at, q_freed, q_got_by, q_if, q_reply, q_restarted}
-use Rattle.outcome_law.proofs.Scans.{each_more, has_less, has_more}
-use Rattle.outcome_law.proofs.Rule.{is_enlisted}
-use Rattle.outcome_law.proofs.TableRows.{enlisted_in_rows}
-use Rattle.outcome_law.proofs.Owned.{decision_seen}
-use Rattle.outcome_law.proofs.Keeping.{Keeps}
-use Rattle.outcome_law.proofs.Deciding.{decided_there, stays}
-use Rattle.outcome_law.proofs.HalfKnows.{way_seen}
-use Rattle.outcome_law.proofs.Handover.{opening_before}
-use Rattle.outcome_law.proofs.Leading.{opening_was_sent}
-use Rattle.outcome_law.proofs.Climbed.{handover_stands}
-use Rattle.outcome_law.proofs.Messages.{ENLIST, ENLISTED}
-use Rattle.outcome_law.proofs.ByTable.{ruled_later}
-use Rattle.outcome_law.proofs.Coming.{AreComing}
-use Rattle.outcome_law.proofs.ComingRuns.{ran_coming}
-use Rattle.outcome_law.proofs.HalfHeard.{is_told_here}
-use Rattle.outcome_law.proofs.CommonBlocks.{common_act, common_arrived, common_called, common_coordinates, common_core_got, common_decide, common_ended_at, common_gone, common_reply, common_restarted, common_unless, common_veto, gone_parts, gone_rest, is_common}
-use Rattle.outcome_law.proofs.PromotesRuns.{keeps_past}
+use Rattle.history_table.proofs.Scans.{each_more, has_less, has_more}
+use Rattle.history_table.proofs.EntryTests.{is_enlisted}
+use Rattle.history_table.proofs.TableRows.{enlisted_in_rows}
+use Rattle.history_table.proofs.Owned.{decision_seen, handover_stands}
+use Rattle.history_table.proofs.Keeping.{Keeps}
+use Rattle.history_table.proofs.Deciding.{decided_there, stays}
+use Rattle.history_table.proofs.HalfKnows.{way_seen}
+use Rattle.history_table.proofs.Handover.{opening_before}
+use Rattle.history_table.proofs.Leading.{opening_was_sent}
+use Rattle.history_table.proofs.Messages.{ENLIST}
+use Rattle.settled_histories.proofs.MessageKinds.{ENLISTED}
+use Rattle.settled_histories.proofs.ByTable.{ruled_later}
+use Rattle.settled_histories.proofs.Coming.{AreComing}
+use Rattle.settled_histories.proofs.ComingRuns.{ran_coming}
+use Rattle.script_histories.proofs.HalfHeard.{is_told_here}
+use Rattle.settled_histories.proofs.CommonBlocks.{common_act, common_arrived, common_called, common_coordinates, common_core_got, common_decide, common_ended_at, common_gone, common_reply, common_restarted, common_unless, common_veto, gone_parts, gone_rest, is_common}
+use Rattle.script_histories.proofs.PromotesRuns.{keeps_past}
 use Rattle.dtx_model.proofs.Histories.{onto-append}
-use Rattle.outcome_law.proofs.Crossed.{is_sent_on, is_got_on}
-use Rattle.outcome_law.proofs.Handing.{keeps_within}
-use Rattle.outcome_law.proofs.Returned.{AreReturned, ran_returned}
-use Rattle.outcome_law.proofs.SealedRows.{opens_sends}
+use Rattle.history_table.proofs.Crossed.{is_sent_on, is_got_on}
+use Rattle.history_table.proofs.Handing.{keeps_within}
+use Rattle.settled_histories.proofs.Returned.{AreReturned, ran_returned}
+use Rattle.settled_histories.proofs.SealedRows.{opens_sends}
 
 -- Whoever had its ENLISTED is enlisted, or the transaction is decided.
 abbrev pub is_placed : ℕ → List Entry → Bool

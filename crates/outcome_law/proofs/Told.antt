@@ -1,13 +1,13 @@
 -- A settled history of a script in which the coordinator didn't stop, whatever else was lost, and in which the commit was asked for, promoted or not: the client was told, or there is something that
 -- it waits for.
-use Rattle.std.proofs.Common.{◌≡◌, ℕ, Bool, true, false, ◌&&◌, ◌||◌, List, [], ◌∷◌, slice_get, Some, refl, ◌∙◌, ap, sym, subst}
-use Rattle.std.specs.Prelude.{is_none, is_some, not}
+use Rattle.std.proofs.Common.{◌≡◌, false, List, [], ◌∷◌, refl, ℕ, true, Bool, ◌&&◌, ◌||◌, slice_get, Some, ◌∙◌, ap, sym, subst}
+use Rattle.std.specs.Prelude.{is_none, not, is_some}
 use Rattle.std.proofs.lemmas.Bool.{false_from_ne_true, or_left}
 use Rattle.dtx_values.specs.declared.call.Call.{Call}
 use Rattle.dtx_values.specs.declared.call.Call.TheVariants.{Volatile, Durable, Promotable}
 use Rattle.dtx_values.specs.declared.entry.Entry.{Entry}
-use Rattle.dtx_values.specs.declared.entry.Entry.TheVariants.{PromoteReply, Promoting, Requested, Restarted}
-use Rattle.dtx_values.specs.declared.message.Conn.TheVariants.{Begin, Enl}
+use Rattle.dtx_values.specs.declared.entry.Entry.TheVariants.{Restarted, PromoteReply, Requested, Promoting}
+use Rattle.dtx_values.specs.declared.message.Conn.TheVariants.{Enl, Begin}
 use Rattle.dtx_values.specs.declared.message.Dir.TheVariants.{Up}
 use Rattle.dtx_values.specs.declared.note.Plan.{Plan}
 use Rattle.dtx_values.specs.declared.number.EnlNo.{EnlNo}
@@ -15,86 +15,80 @@ use Rattle.dtx_values.specs.declared.row.Row.{Row}
 use Rattle.dtx_values.specs.declared.script.Line.{Line}
 use Rattle.dtx_values.specs.declared.words.Class.{Class}
 use Rattle.dtx_values.specs.Class.{is_promotable}
-use Rattle.dtx_values.specs.Clones.{blocks, is_open_block}
+use Rattle.dtx_values.specs.Clones.{is_open_block, blocks}
 use Rattle.dtx_values.specs.Row.{has_voted, is_marked}
-use Rattle.dtx_model.specs.Words.{all_of, always, each, has, latest}
-use Rattle.dtx_model.specs.Entries.{client_told_of, clone_of, is_any_owner, is_asked, is_asked_alone, is_asked_to_promote, is_commit, is_decision, is_hand, is_promote_reply_of, is_promoted, is_request_of, is_vote}
-use Rattle.dtx_model.specs.Observed.{clone_rows, is_ask_promote, is_ask_single, is_promote_reply, is_request, observe, rows}
+use Rattle.dtx_values.specs.declared.number.ActorNo.{ActorNo}
+use Rattle.dtx_model.specs.Words.{has, always, each, all_of, latest}
+use Rattle.dtx_model.specs.Entries.{is_promote_reply_of, is_request_of, is_asked_to_promote, is_any_owner, is_asked, is_asked_alone, is_hand, is_vote, is_decision, is_promoted, is_commit, client_told_of, clone_of}
+use Rattle.dtx_model.specs.Observed.{is_promote_reply, is_request, is_ask_promote, observe, is_ask_single, rows, clone_rows}
 use Rattle.dtx_model.specs.Outcome.{enlisted, is_complete}
 use Rattle.dtx_model.specs.Promotes.{is_promoting}
 use Rattle.dtx_model.specs.Tied.{is_stop}
-use Rattle.dtx_model.specs.Wires.{is_lost_wire, is_stopped}
+use Rattle.dtx_model.specs.Wires.{is_stopped, is_lost_wire, WireRun}
 use Rattle.dtx_model.specs.declared.waiting.EnteredCall.{EnteredCall}
-use Rattle.dtx_model.specs.Waiting.{Waiter, waiting}
+use Rattle.dtx_model.specs.Waiting.{Waiter, waiting, call_at}
 use Rattle.dtx_model.specs.Plans.{plan_of}
-use Rattle.dtx_model.specs.Replies.{due_of, may_still_vote, names, owes_promotion}
+use Rattle.dtx_model.specs.Replies.{owes_promotion, may_still_vote, due_of, names}
 use Rattle.dtx_model.specs.Steps.{Step}
 use Rattle.dtx_model.specs.World.{World}
 use Rattle.dtx_model.specs.Grammar.{OfEnlistment, are_named_well}
-use Rattle.dtx_model.specs.Caused.{AreMadeOnce, Caused, IsCallOf, Ran, Settled, entered_in, plans_of}
-use Rattle.dtx_model.specs.History.{IsToldOrWaits, is_silent, is_silent_to_promote, is_still_lost, is_waiting}
-use Rattle.dtx_model.proofs.Bools.{and_both, and_left, and_right, not_both, not_false, not_true, or_first, or_right, or_second}
+use Rattle.dtx_model.specs.Caused.{AreMadeOnce, IsCallOf, Ran, entered_in, plans_of, Caused, Settled}
+use Rattle.dtx_model.specs.History.{is_silent_to_promote, is_still_lost, is_silent, IsToldOrWaits, is_waiting}
+use Rattle.dtx_model.proofs.Bools.{not_both, or_second, and_left, and_right, and_both, not_false, not_true, or_first, or_right}
 use Rattle.dtx_model.proofs.Local.{free-local}
-use Rattle.outcome_law.proofs.Scans.{has_less, has_more}
-use Rattle.outcome_law.proofs.Picks.{has-at}
-use Rattle.outcome_law.proofs.Owned.{has_rows}
-use Rattle.outcome_law.proofs.Rule.{is_enlisted}
-use Rattle.outcome_law.proofs.Names.{call_makes, script_once}
-use Rattle.outcome_law.proofs.Blocks.{script_kept}
-use Rattle.outcome_law.proofs.Runs.{free_run}
-use Rattle.outcome_law.proofs.Settlings.{settled_act, settled_unplanned}
-use Rattle.outcome_law.proofs.Silent.{told_or_waits}
-use Rattle.outcome_law.proofs.Planned.{plan_same}
-use Rattle.outcome_law.proofs.Dues.{is_unplanned}
-use Rattle.outcome_law.proofs.Messages.{COMMIT}
-use Rattle.outcome_law.proofs.Crossed.{is_sent_on}
-use Rattle.outcome_law.proofs.ScriptCalls.{waiting_read}
-use Rattle.outcome_law.proofs.OnceMade.{ran_once}
-use Rattle.outcome_law.proofs.Makers.{AreMade, all_lasting, all_unplaced, makes_enlistment, ran_made}
-use Rattle.outcome_law.proofs.Waiters.{ran_waits}
-use Rattle.outcome_law.proofs.Prepared.{ran_prepares}
-use Rattle.outcome_law.proofs.Meeting.{ran_paid}
-use Rattle.outcome_law.proofs.OnTheWay.{is_on_its_way, is_unplaced}
-use Rattle.outcome_law.proofs.Wired.{IsWired, unstopped}
-use Rattle.outcome_law.proofs.Joined.{IsJoined}
-use Rattle.outcome_law.proofs.Fine.{IsFine}
-use Rattle.outcome_law.proofs.Rest.{IsAtRest, IsQuiet, IsUnmoved}
-use Rattle.outcome_law.proofs.Climbed.{told_at_rest}
-use Rattle.outcome_law.proofs.Owed.{AreHeeded, ArePromised, IsHeeded, IsUnowed, all_answered, all_voted, commit_requested, heeded_promised, promotion_replied}
-use Rattle.outcome_law.proofs.Idle.{IsIdle, ends_seen, idle, none_on_the_way}
-use Rattle.outcome_law.proofs.SameRows.{is_made_once}
-use Rattle.outcome_law.proofs.Tabled.{KeepsMore, run_rows}
-use Rattle.outcome_law.proofs.Undecided.{Stands}
-use Rattle.outcome_law.proofs.Keeping.{Keeps, keeps_before, newest}
-use Rattle.outcome_law.proofs.ByTable.{ruled_later, ruled_recorded}
-use Rattle.outcome_law.proofs.BeforeRows.{kept_begun, kept_ordered, kept_sound}
-use Rattle.outcome_law.proofs.OpenedRows.{kept_opened}
-use Rattle.outcome_law.proofs.ClosedRows.{kept_shut}
-use Rattle.outcome_law.proofs.ClosedTables.{sealed_zeros}
-use Rattle.outcome_law.proofs.HalfRows.{open_blocks, row_marked, row_voted, rows_enlisted}
-use Rattle.outcome_law.proofs.UnstoppedTies.{unstopped_tied}
-use Rattle.outcome_law.proofs.Steady.{run_steady}
-use Rattle.outcome_law.proofs.Ending.{ran_goes}
-use Rattle.outcome_law.proofs.Announced.{IsUnstopped, ran_announces}
-use Rattle.outcome_law.proofs.Requests.{IsRequesting, ran_requests}
-use Rattle.outcome_law.proofs.Foregoing.{commit_promoted, vote_cast, vote_stood}
-use Rattle.outcome_law.proofs.UndecidedFine.{IsSettling, undecided_fine, undecided_joined}
-use Rattle.outcome_law.proofs.LostVoters.{AreVoters, gone_cast, gone_was_lost, lost_is_gone, ran_voters}
 use Rattle.dtx_model.specs.Half.{is_gone}
 use Rattle.dtx_model.specs.AtLog.{is_restart}
+use Rattle.history_table.proofs.Keeping.{Keeps, keeps_before, newest}
+use Rattle.history_table.proofs.Names.{script_once}
+use Rattle.history_table.proofs.Makers.{makes_enlistment, maker_called, AreMade, ran_made, all_unplaced, makes_volatile, lasting_makes, makes_name, makes_lasting}
+use Rattle.history_table.proofs.Scans.{has_less, has_more}
+use Rattle.history_table.proofs.HalfRows.{row_marked, row_voted, rows_enlisted, open_blocks}
+use Rattle.history_table.proofs.Lists.{has-at}
+use Rattle.history_table.proofs.Owned.{has_rows}
+use Rattle.history_table.proofs.EntryTests.{is_enlisted, is_unplanned, is_volatile_made}
+use Rattle.history_table.proofs.Undecided.{Stands}
+use Rattle.history_table.proofs.Steady.{run_steady}
+use Rattle.history_table.proofs.Messages.{COMMIT, ENLIST}
+use Rattle.history_table.proofs.Crossed.{is_sent_on, is_got_on}
+use Rattle.history_table.proofs.Waiters.{is_on_its_way, is_unplaced}
+use Rattle.settled_histories.proofs.Wired.{unstopped, IsWired}
+use Rattle.settled_histories.proofs.LostVoters.{lost_is_gone, AreVoters, gone_cast, gone_was_lost, ran_voters}
+use Rattle.settled_histories.proofs.Owed.{IsHeeded, IsUnowed, ArePromised, promotion_replied, AreHeeded, all_answered, all_voted, commit_requested, heeded_promised}
+use Rattle.settled_histories.proofs.Joined.{IsJoined}
+use Rattle.settled_histories.proofs.Fine.{IsFine}
+use Rattle.settled_histories.proofs.Rest.{IsQuiet, IsUnmoved, IsAtRest}
+use Rattle.settled_histories.proofs.Idle.{IsIdle, ends_seen, idle, none_on_the_way}
+use Rattle.settled_histories.proofs.SameRows.{is_made_once}
+use Rattle.settled_histories.proofs.BeforeRows.{kept_ordered, kept_sound, kept_begun}
+use Rattle.settled_histories.proofs.Requests.{IsRequesting, ran_requests}
+use Rattle.settled_histories.proofs.Foregoing.{vote_cast, commit_promoted, vote_stood}
+use Rattle.settled_histories.proofs.OnceMade.{ran_once}
+use Rattle.settled_histories.proofs.Meeting.{ran_paid}
+use Rattle.settled_histories.proofs.ByTable.{ruled_later, ruled_recorded}
+use Rattle.settled_histories.proofs.OpenedRows.{kept_opened}
+use Rattle.settled_histories.proofs.UnstoppedTies.{unstopped_tied}
+use Rattle.settled_histories.proofs.Ending.{ran_goes}
+use Rattle.settled_histories.proofs.Announced.{IsUnstopped, ran_announces}
+use Rattle.settled_histories.proofs.UndecidedFine.{IsSettling, undecided_fine, undecided_joined}
+use Rattle.settled_histories.proofs.Openings.{once_sent}
+use Rattle.settled_histories.proofs.Prepared.{ran_prepares}
+use Rattle.settled_histories.proofs.Climbed.{told_at_rest}
+use Rattle.script_histories.proofs.Planned.{plan_same}
+use Rattle.script_histories.proofs.ScriptCalls.{waiting_read}
+use Rattle.script_histories.proofs.WaitingRuns.{ran_waits}
+use Rattle.script_histories.proofs.ClosedTables.{sealed_zeros}
+use Rattle.script_histories.proofs.Blocks.{script_kept}
+use Rattle.script_histories.proofs.Runs.{free_run}
+use Rattle.script_histories.proofs.Silent.{told_or_waits}
+use Rattle.outcome_law.proofs.Settlings.{settled_act, settled_unplanned}
+use Rattle.outcome_law.proofs.Tabled.{KeepsMore, run_rows}
+use Rattle.outcome_law.proofs.ClosedRows.{kept_shut}
 
 -- no restart comes where the coordinator didn't stop
 unrestarted : (h : List Entry) → Keeps h → has is_stop h ≡ false → has is_restart h ≡ false
 unrestarted [] k n = refl
 unrestarted (Restarted found ∷ h) k n = absurd (not_both (is_stopped h) (newest (Restarted found) h k) (unstopped h n))
 unrestarted (x ∷ h) k n = unrestarted h (keeps_before x h k) (or_second (is_stop x) (has is_stop h) n)
-
--- who made an enlistment called
-pub maker_called : (e : ℕ) (c : Call) → makes_enlistment e c ≡ true → call_makes (OfEnlistment e) c ≡ true
-maker_called e (Volatile t f x v) k = k
-maker_called e (Durable t f r s) k = k
-maker_called e (Promotable t f r v x p) k = k
-maker_called e _ k = absurd cc
 
 -- The plan of one that isn't silent has each reply that is due of it.
 reply_of : (e : ℕ) (x : Entry) → is_promote_reply_of e x ≡ true → is_promote_reply x ≡ true
@@ -295,6 +289,30 @@ unmoved s t h r began promised =
           (false_from_ne_true (has (is_sent_on Begin Up COMMIT) h) (λ q. not_both (has is_promoted h) (commit_promoted h (kept_sound h keeps) q) n));
       started = began;
     }
+
+volatile_makes : (e : ℕ) (c : Call) → makes_volatile e c ≡ true → makes_enlistment e c ≡ true
+volatile_makes e (Volatile t f x v) k = k
+volatile_makes e _ k = absurd cc
+
+-- no enlistment of which the coordinator got ENLIST is volatile
+pub all_lasting : (G : ℕ → ActorNo → Call → Type 0) (ks : List EnteredCall) (h : List Entry) → AreMadeOnce G → AreMade G ks h → WireRun h → (e : EnlNo) → has (is_got_on (Enl e) Up ENLIST) h ≡ true
+    → has (is_volatile_made e.value) h ≡ false
+all_lasting G ks h once a run e k =
+    false_from_ne_true (has (is_volatile_made e.value) h)
+    (λ q. let m = a.sent e (once_sent (Enl e) Up ENLIST h run k) in
+    let v = a.volatile e.value q in
+    let lines : m.number ≡ v.number =
+    once m.number v.number m.actor v.actor m.call v.call (OfEnlistment e.value) m.may v.may (makes_name e.value m.call (lasting_makes e.value m.call m.passes))
+    (makes_name e.value v.call (volatile_makes e.value v.call v.passes)) in
+    let both : Some m.call ≡ Some v.call = sym m.entered ∙ ap (call_at ks) lines ∙ v.entered in
+    let same : m.call ≡ v.call = cc in
+    apart_calls e.value v.call (subst (λ c. makes_lasting e.value c ≡ true) same m.passes) v.passes)
+  where
+    apart_calls : (e : ℕ) (c : Call) → makes_lasting e c ≡ true → makes_volatile e c ≡ true → ⊥
+    apart_calls e (Volatile t f x v) p q = cc
+    apart_calls e (Durable t f r s) p q = cc
+    apart_calls e (Promotable t f r v x y) p q = cc
+    apart_calls e _ p q = cc
 
 -- Where the commit was asked for too, no blocking clone is open, and the plans have each reply that is due, it is at rest.
 pub at_rest : (s : List Line) (t : ℕ) (h : List Entry) → IsSettledRun s t h → has is_promoting h ≡ true → has is_commit h ≡ true → has is_open_block (clone_rows h) ≡ false

@@ -16,21 +16,20 @@ use Rattle.dtx_model.specs.Words.{always, has, latest}
 use Rattle.dtx_model.specs.Entries.{decision_of, is_asked, is_commit, is_decision, is_record, same_outcome}
 use Rattle.dtx_model.specs.Outcome.{hears_doubt}
 use Rattle.dtx_model.proofs.Bools.{and_both, and_left, and_right, not_both, or_case, or_right}
-use Rattle.outcome_law.proofs.Tests.{first_of_three}
-use Rattle.outcome_law.proofs.Scans.{has_more}
-use Rattle.outcome_law.proofs.Rule.{is_certain, is_decided}
-use Rattle.outcome_law.proofs.Messages.{PREPARE}
-use Rattle.outcome_law.proofs.Debts.{is_volatile_made}
-use Rattle.outcome_law.proofs.Owed.{is_asked_well}
-use Rattle.outcome_law.proofs.Owned.{decision_seen}
-use Rattle.outcome_law.proofs.Table.{ask_row, brings, ends_again, ends_with, hears_decision, hears_here, is_prepare_got, rule, stands_volatile}
-use Rattle.outcome_law.proofs.Keeping.{Keeps, keeps_before, newest}
-use Rattle.outcome_law.proofs.Crossed.{is_got_on}
-use Rattle.outcome_law.proofs.Standing.{ends_has}
-use Rattle.outcome_law.proofs.OneOutcome.{heard_record}
-use Rattle.outcome_law.proofs.BeforeRows.{made_volatile, prepare_on}
-use Rattle.outcome_law.proofs.CausedRows.{doubt_ends}
-use Rattle.outcome_law.proofs.AskedRows.{is_asked_promotable}
+use Rattle.history_table.proofs.Tests.{first_of_three}
+use Rattle.history_table.proofs.Scans.{has_more}
+use Rattle.history_table.proofs.EntryTests.{is_certain, is_decided, is_volatile_made}
+use Rattle.history_table.proofs.Messages.{PREPARE}
+use Rattle.settled_histories.proofs.Owed.{is_asked_well}
+use Rattle.history_table.proofs.Owned.{decision_seen}
+use Rattle.history_table.proofs.Table.{ask_row, brings, ends_again, ends_with, hears_decision, hears_here, is_prepare_got, rule, stands_volatile}
+use Rattle.history_table.proofs.Keeping.{Keeps, keeps_before, newest}
+use Rattle.history_table.proofs.Crossed.{is_got_on}
+use Rattle.history_table.proofs.Standing.{ends_has}
+use Rattle.script_histories.proofs.OneOutcome.{heard_record}
+use Rattle.settled_histories.proofs.BeforeRows.{made_volatile, prepare_on}
+use Rattle.settled_histories.proofs.CausedRows.{doubt_ends}
+use Rattle.settled_histories.proofs.AskedRows.{is_asked_promotable}
 
 -- who is asked to prepare is volatile, or got PREPARE
 prepare_well : (h : List Entry) (e : EnlNo) → rule h (Asked e Prepare) ≡ true → (has (is_volatile_made e.value) h || has (is_got_on (Enl e) Down PREPARE) h) ≡ true

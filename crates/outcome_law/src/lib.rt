@@ -40,9 +40,9 @@ ghost use Rattle.dtx_model.specs.Traces.{Placed, history, at_context, calls};
 ghost use Rattle.dtx_model.specs.Replay.{IsReplayed, LinesRan, due_calls};
 ghost use Rattle.dtx_model.specs.History.{AreAnswered, CanCommit, IsHistory, IsReplay, IsToldOrWaits};
 ghost use Rattle.dtx_model.specs.Grammar.{are_named_well};
-ghost use Rattle.outcome_law.specs.Appended.{backs_append, has_append, is_abort_decision, is_barred, stopped_at_append};
-ghost use Rattle.outcome_law.specs.Stopped.{is_outcome_withheld, restarts_without_evidence};
-ghost use Rattle.outcome_law.specs.Waited.{AreCallsAnswered};
+ghost use Rattle.history_table.specs.Appended.{backs_append, has_append, is_abort_decision, is_barred, stopped_at_append};
+ghost use Rattle.settled_histories.specs.Stopped.{is_outcome_withheld, restarts_without_evidence};
+ghost use Rattle.history_table.specs.Waited.{AreCallsAnswered};
 
 /// The law of one outcome: in a history that a script's lines freely cause, what is told is just, and no two are told opposite outcomes, promoted or not.
 /// (Presumed abort: a commit is told on evidence alone.) Freely: whatever each reply is. Of the script it needs that names are made once, before they are

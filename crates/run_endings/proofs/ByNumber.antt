@@ -5,7 +5,7 @@ use Rattle.std.proofs.lemmas.Bool.{eqb-true}
 use Rattle.std.proofs.lemmas.Bool.Decides.{eqb_tells}
 use Rattle.dtx_values.specs.declared.script.Line.{Line}
 use Rattle.dtx_model.specs.Grammar.{OfTransaction, is_made}
-use Rattle.outcome_law.proofs.Tests.{eq_self}
+use Rattle.history_table.proofs.Tests.{eq_self}
 use Rattle.tx_cells.specs.Board.{transactions_of}
 use Rattle.tx_cells.specs.Cell.{Cell}
 

@@ -8,14 +8,9 @@ use Rattle.dtx_model.specs.Words.{each, has, kth}
 use Rattle.dtx_model.specs.Steps.{StepName, pending}
 use Rattle.dtx_model.specs.World.{World}
 use Rattle.dtx_model.proofs.Bools.{and_left, and_right}
-use Rattle.outcome_law.proofs.Tests.{eq_self}
+use Rattle.history_table.proofs.Tests.{eq_self}
 use Rattle.tx_world.specs.Stepping.{reply_in}
 use Rattle.tx_cells.specs.Turns.{is_due, is_that, is_to, same_note}
-
--- where no step is the first, none is pending
-pub none_first : {A : Type 0} (xs : List A) → kth xs 1 ≡ None → xs ≡ []
-none_first [] e = refl
-none_first (x ∷ xs) e = absurd (cc)
 
 note_self : (n : Note) → same_note n n ≡ true
 note_self Init = refl
@@ -48,10 +43,3 @@ each_more p xs i x less here all is = subst (λ (ys : List _). each p ys ≡ tru
 
 pub each_more_set : {A : Type 0} (p : A → Bool) (xs : List A) (i : ℕ) (y : A) → i < length xs → each p (take i xs) ≡ true → p y ≡ true → each p (take (i + 1) (set xs i y)) ≡ true
 each_more_set p xs i y less all here = subst (λ (ys : List _). each p ys ≡ true) (sym (take_more_set xs i y less)) (each_push p (take i xs) y all here)
-
--- the log is as it was between two moments at which it is alike
-pub up_between : (a b c : Bool) → (IsTrue b → IsTrue a) → (IsTrue c → IsTrue b) → c ≡ a → b ≡ a
-up_between true true c h k e = refl
-up_between true false c h k e = k e
-up_between false true c h k e = sym (h refl)
-up_between false false c h k e = refl

@@ -13,9 +13,9 @@ use Rattle.dtx_model.specs.Calls.{call_of}
 use Rattle.dtx_model.specs.Caused.{IsCallOf}
 use Rattle.dtx_model.specs.Contexts.{calls_by, lines_before, scope_calls, scopes_of}
 use Rattle.dtx_model.proofs.SameNumbers.{same_actor}
-use Rattle.outcome_law.proofs.Lists.{OfEach, of-at, of-more}
-use Rattle.outcome_law.proofs.ScopeCalls.{AreApart, IsBeside, own_line, scope_calls_apart}
-use Rattle.outcome_law.proofs.Tests.{eq_self}
+use Rattle.history_table.proofs.Lists.{OfEach, of-at, of-more}
+use Rattle.script_histories.proofs.ScopesApart.{AreApart, IsBeside, own_line, scope_calls_apart}
+use Rattle.history_table.proofs.Tests.{eq_self}
 use Rattle.script_calls.specs.declared.calls.LogCall.{LogCall}
 use Rattle.script_calls.specs.declared.rows.Due.{Due}
 use Rattle.script_calls.specs.Due.{calls_at, due_at, due_by_line, given_by, log_call, log_calls_at, log_due, log_due_by_line}

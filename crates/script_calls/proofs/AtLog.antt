@@ -14,8 +14,9 @@ use Rattle.dtx_model.specs.Words.{has, kth, past_of, put}
 use Rattle.dtx_model.proofs.Bools.{or_false}
 use Rattle.dtx_model.proofs.Histories.{past_of-snoc}
 use Rattle.dtx_model.proofs.SameNumbers.{same_actor}
-use Rattle.outcome_law.proofs.Lists.{OfEach, of-all, of-at, of-both, of-map, of-more}
-use Rattle.outcome_law.proofs.Tests.{eq_self}
+use Rattle.history_table.proofs.Lists.{OfEach, of-all, of-at, of-map, of-more}
+use Rattle.script_histories.proofs.MoreLists.{of-both}
+use Rattle.history_table.proofs.Tests.{eq_self}
 use Rattle.script_calls.specs.declared.calls.LogCall.{LogCall}
 use Rattle.script_calls.specs.declared.rows.Due.{Due}
 use Rattle.script_calls.specs.Due.{log_calls_at}

@@ -7,7 +7,7 @@ use Rattle.dtx_values.specs.declared.script.Body.TheVariants.{Commit as CommitLi
 use Rattle.dtx_values.specs.declared.script.Line.{Line}
 use Rattle.dtx_values.specs.declared.words.Image.TheVariants.{Keep}
 use Rattle.dtx_values.specs.declared.words.Timeout.TheVariants.{Default as DefaultTimeout}
-use Rattle.outcome_law.proofs.ScopeExample.{scoped}
+use Rattle.script_histories.proofs.ScopeExample.{scoped}
 use Rattle.script_calls.specs.declared.calls.LogCall.TheVariants.{Stop as StopCall, Restart as RestartCall}
 use Rattle.script_calls.specs.Due.{calls_at, log_calls_at}
 use Rattle.dtx_model.proofs.Cast.{a1, t1}

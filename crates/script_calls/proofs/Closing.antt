@@ -6,7 +6,7 @@ use Rattle.dtx_values.specs.declared.entry.Entry.{Entry}
 use Rattle.dtx_values.specs.declared.scope.OpenScope.{OpenScope}
 use Rattle.dtx_model.specs.Scopes.{Closes, taken_off}
 use Rattle.dtx_model.specs.Contexts.{written}
-use Rattle.outcome_law.proofs.Tests.{eq_swap}
+use Rattle.history_table.proofs.Tests.{eq_swap}
 
 -- the entries that say that these scopes are closed
 abbrev pub closed_notes : List OpenScope → List Entry

@@ -15,9 +15,10 @@ use Rattle.dtx_model.specs.Grammar.{Name, are_named_well}
 use Rattle.dtx_model.proofs.Bools.{and_left, and_right, or_false}
 use Rattle.dtx_model.proofs.Prefixes.{past-more}
 use Rattle.dtx_model.proofs.SameNumbers.{same_actor}
-use Rattle.outcome_law.proofs.Lists.{OfEach, of-all, of-at, of-both, of-more}
-use Rattle.outcome_law.proofs.Names.{script_once}
-use Rattle.outcome_law.proofs.Tests.{eq_self}
+use Rattle.history_table.proofs.Lists.{OfEach, of-all, of-at, of-more}
+use Rattle.script_histories.proofs.MoreLists.{of-both}
+use Rattle.history_table.proofs.Names.{script_once}
+use Rattle.history_table.proofs.Tests.{eq_self}
 use Rattle.script_calls.specs.declared.rows.Due.{Due}
 use Rattle.script_calls.specs.Due.{calls_at}
 use Rattle.script_calls.specs.Prefix.{IsInOrder, IsPrefix, entered_by, own_call}

@@ -8,7 +8,9 @@ pub mod Managing
 pub mod NoneLeft
 pub mod Openings
 pub mod PlanTable
+pub mod PlannedReplies
 pub mod RightReplies
 pub mod Scoping
+pub mod Scripts
 pub mod StepBlocks
 pub mod Unsilent

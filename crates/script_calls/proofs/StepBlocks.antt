@@ -34,7 +34,7 @@ use Rattle.dtx_model.specs.Steps.{LogAnswer, Done, Full, StoppedNow, StoppedBefo
 use Rattle.dtx_model.specs.Wires.{in_transit}
 use Rattle.dtx_model.proofs.Blocks.{of_arrived, of_called, of_commit_sends, of_abort_sends, of_core_down, of_core_got, of_local_down, of_veto, of_veto_if, of_whole_act}
 use Rattle.dtx_model.proofs.Writes.{ByAct, ByCall, ByMessage, ByReply, Each, IsClosed, Source, e_cons, e_if, e_none, e_one, each_closed, promises, replies, writes}
-use Rattle.outcome_law.proofs.Scans.{each_more}
+use Rattle.history_table.proofs.Scans.{each_more}
 
 -- the entry is no reply, but an acknowledgement, no append and no free that was done, and no stop and no restart
 abbrev pub is_deed : Entry → Bool

@@ -17,7 +17,7 @@ use Rattle.dtx_model.specs.Replies.{all_due, due_of, is_answered, names, with_no
 use Rattle.dtx_model.specs.World.{World, core, half, has_left}
 use Rattle.dtx_model.specs.Steps.{StepName, ReplyOf, CoordinatorAct, core_act, deliveries_on, delivery_if, local_if, local_pending, pending, replies_due}
 use Rattle.dtx_model.proofs.Bools.{and_both}
-use Rattle.outcome_law.proofs.Scans.{each-append, each-kth}
+use Rattle.history_table.proofs.Scans.{each-append, each-kth}
 
 -- the note of a step that is a reply
 note_of : World → StepName → Option (EnlNo × Note)

@@ -6,3 +6,4 @@ pub mod Rows
 pub mod RowsOf
 pub mod Scoped
 pub mod SeenRow
+pub mod Threadable

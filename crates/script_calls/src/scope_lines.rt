@@ -18,7 +18,7 @@ use scope_context::{Context, ScopeRefusal};
 use std::alloc::{AllocError, Global};
 
 /// The calls that a scope line gives transactions.
-#[derive(Clone, Copy, PartialEq, Eq, Debug)]
+#[derive(Clone, Copy, PartialEq, Eq)]
 pub enum Gives {
     Nothing,
     Call(TxNo, Call),
@@ -27,7 +27,7 @@ pub enum Gives {
 }
 
 /// The answer of a scope line, and the calls that it gives transactions.
-#[derive(Clone, Copy, PartialEq, Eq, Debug)]
+#[derive(Clone, Copy, PartialEq, Eq)]
 pub struct Acted {
     pub answer: Answer,
     pub gives: Gives,

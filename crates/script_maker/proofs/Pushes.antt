@@ -4,7 +4,7 @@ use Rattle.std.proofs.lemmas.Bool.Decides.{nat_tests}
 use Rattle.std.proofs.lemmas.List.{append-nil}
 use Rattle.dtx_values.specs.declared.script.Line.{Line}
 use Rattle.dtx_model.specs.Grammar.{line_text, script_text}
-use Rattle.script_text.proofs.Scripts.{script_text-append}
+use Rattle.line_reader.proofs.Scripts.{script_text-append}
 use Rattle.script_maker.specs.Gen.{clone_line, enlisted_lines, first_durable_line, owner_line, second_durable_line, up_to, volatile_line, work_lines}
 
 -- a line more

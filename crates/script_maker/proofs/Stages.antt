@@ -10,7 +10,7 @@ use Rattle.dtx_model.specs.Words.{each, past_of}
 use Rattle.dtx_model.specs.Grammar.{IsScript, is_in_range, is_made, is_of_kind, is_par_once, line_text, makes, script_text, uses}
 use Rattle.dtx_model.proofs.Bools.{or_false}
 use Rattle.dtx_model.proofs.Histories.{past_of-snoc}
-use Rattle.script_text.proofs.Scripts.{IsGood, script_more, script_none, script_text-append}
+use Rattle.line_reader.proofs.Scripts.{IsGood, script_more, script_none, script_text-append}
 use Rattle.script_maker.proofs.Names.{Named, named_more, named_none}
 use Rattle.dtx_model.specs.AtLog.{has_log_line, is_log_line}
 

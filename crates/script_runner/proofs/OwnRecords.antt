@@ -26,13 +26,14 @@ use Rattle.dtx_model.specs.Words.{all_of, each, has, kth, onto, past_of, put}
 use Rattle.dtx_model.specs.Replies.{due_of}
 use Rattle.dtx_model.specs.World.{World, half}
 use Rattle.dtx_model.proofs.Bools.{and_both, and_left, and_right}
-use Rattle.outcome_law.proofs.Tests.{eq_self}
+use Rattle.history_table.proofs.Tests.{eq_self}
 use Rattle.script_calls.specs.Due.{calls_at, due_at, due_by_line, given_by}
 use Rattle.script_calls.specs.declared.rows.Due.{Due}
 use Rattle.tx_cells.specs.Board.{transactions_of}
 use Rattle.tx_cells.specs.LogCell.{AreOwn, is_own}
-use Rattle.thread_runs.specs.Run.{EachHolds, EndsOnThreads}
-use Rattle.script_runner.specs.Ending.{AreOfTransactions, AreOwnLogs, IsLogOf, MayBeRecorded}
+use Rattle.turn_parts.specs.Runs.{EachHolds}
+use Rattle.thread_runs.specs.Run.{EndsOnThreads}
+use Rattle.replay_runs.specs.Ending.{AreOfTransactions, AreOwnLogs, IsLogOf, MayBeRecorded}
 
 -- Records of a run's transactions are of a script's transactions: a number among those that pass lies in the range.
 abbrev InRange : (p : ℕ → Bool) (n a : ℕ) → Type 0

@@ -22,37 +22,12 @@ use Rattle.coordinator_log.specs.State.{LogState}
 use Rattle.program_words.specs.declared.command.Command.TheVariants.{Replay, Make, Demo, Threads}
 use Rattle.program_words.specs.declared.command.Form.{Form}
 use Rattle.tx_world.specs.AtLog.{AreLogs}
-use Rattle.thread_runs.specs.Run.{EachHolds}
-use Rattle.script_runner.specs.Ending.{AreOfTransactions, AreOwnLogs, AreRecorded, EndsAs, HasNone, IsLog, IsLogOf, MayBeRecorded}
-use Rattle.script_runner.specs.LogRun.{AreForeignSame, IsForeignKept, LogGoes, LogStays, MetNoFault}
-use Rattle.script_runner.specs.Lawful.{IsLawful}
+use Rattle.turn_parts.specs.Runs.{EachHolds}
+use Rattle.replay_runs.specs.Ending.{AreOfTransactions, AreOwnLogs, AreRecorded, EndsAs, HasNone, IsLog, IsLogOf, MayBeRecorded}
+use Rattle.replay_runs.specs.LogRun.{AreForeignSame, IsForeignKept, LogGoes, LogStays, MetNoFault}
+use Rattle.replay_runs.specs.Lawful.{IsLawful}
 use Rattle.script_runner.specs.Program.{HasNoLogLine, IsReplayOf}
-use Rattle.script_runner.specs.Run.{IsRunOf}
-
--- a script in the bytes that are read ends before they do, so they are all
-pub length-read : (b : List ℕ) (s : List Line) → Reads (take 1048577 b) s → length b ≤ 1048576
-length-read b s r =
-    let short : length (take 1048577 b) ≤ 1048576 = rw r.bytes r.script.within in
-    omega (arith, length-take 1048577 b)
-
-pub reads-all : (b : List ℕ) (s : List Line) → Reads (take 1048577 b) s → Reads b s
-reads-all b s r = subst (λ (x : List ℕ). Reads x s) (take_all 1048577 b (omega (arith, length-read b s r))) r
-
--- where the source tells b, what was read is its front
-abbrev pub IsFront : Option (List ℕ) → List ℕ → Type 0
-IsFront given bytes = ForSome given (λ b. bytes ≡ take 1048577 b)
-
--- so a script in what was read is the script of all
-pub reads-front : (given : Option (List ℕ)) (bytes : List ℕ) (s : List Line) → IsFront given bytes → Reads bytes s → ForSome given (λ b. Reads b s)
-reads-front given bytes s front reads b told = reads-all b s (subst (λ (x : List ℕ). Reads x s) (front b told) reads)
-
--- A log that had no record when a run began has none of a script's transactions.
-pub none_there : (rs : List CommitRecord) → rs ≡ [] → HasNone rs
-none_there rs none t = ap (λ (xs : List CommitRecord). filter (is_record_of (identifier_of t.value)) xs) none
-
--- a log that was formatted is in its first life
-pub none_below : (n most : ℕ) → n ≡ 0 → n ≤ most
-none_below n most e = omega (arith, e)
+use Rattle.replay_runs.specs.Run.{IsRunOf}
 
 -- where a log has no record, each image that has its records has none
 pub held_none : {D : Type 0} (image : D → List ℕ → Type 0) (log : LogState D) → open_records log.slots ≡ [] → AllHold (image log.disk) (open_records log.slots) → AllHold (image log.disk) []
@@ -92,11 +67,7 @@ are_own_logs faults honest image end from to same held empty goes h =
 pub none_rose : (a b x y : ℕ) → x ≡ a → y ≡ b → (Rose a b → ⊥) → Rose x y → ⊥
 none_rose a b x y e f none rose = none (subst (λ (n : ℕ). Rose n b) e (subst (λ (n : ℕ). Rose x n) f rose))
 
--- the script that was read has no line that stops the log or opens it again, where none that the source may give has
-pub no_log_line : (given : Option (List ℕ)) (bytes : List ℕ) (s : List Line) → IsFront given bytes → Reads bytes s → HasNoLogLine given → has_log_line s ≡ false
-no_log_line given bytes s front reads none = none s reads.script (reads-front given bytes s front reads)
-
--- so the log is up after a run in which no fault came
+-- the log is up after a run in which no fault came
 stays_up : {D : Type 0} (faults : D → ℕ) (from to : LogState D) → LogStays faults from to → IsTrue from.is_up → from.armed ≡ None → (Rose (faults from.disk) (faults to.disk) → ⊥) → IsTrue to.is_up
 stays_up faults from to stays up unarmed none = unless (stays.stays up unarmed)
   where
@@ -147,19 +118,9 @@ pub is_replay_if : {D : Type 0} (faults : D → ℕ) (honest : Bool) (image : D 
 is_replay_if faults honest image k s end old new (Ok T) same empty run lawful up ended = is_replay faults honest image k s end old new T same empty run lawful up ended
 is_replay_if faults honest image k s end old new (Err e) same empty run lawful up ended = run
 
--- nothing is left after a script
-pub left-none : (given left : Option (List ℕ)) (bytes : List ℕ) (s : List Line) → IsFront given bytes → Reads bytes s → ForSome given (λ b. left ≡ Some (drop 1048577 b))
-    → ForSome given (λ b. left ≡ Some [])
-left-none given left bytes s front reads rest b told =
-    let few = length-read b s (subst (λ (x : List ℕ). Reads x s) (front b told) reads) in
-    rest b told ∙ ap Some (drop_of_length-le b {i = 1048577} (omega (arith, few)))
-
 -- bytes that are a script aren't bad, by the law of readings
 abbrev pub NeverBoth : Type 0
 NeverBoth = (b : List ℕ) (s : List Line) (n : ℕ) (c : BadCause) → Reads b s → Bad b n c → ⊥
-
-pub never_bad : NeverBoth → (given : Option (List ℕ)) (bytes : List ℕ) (s : List Line) → IsFront given bytes → Reads bytes s → (n : ℕ) (c : BadCause) → ForSome given (λ b. Bad b n c → ⊥)
-never_bad either given bytes s front reads n c b told bad = either b s n c (reads-front given bytes s front reads b told) bad
 
 -- Two commands that are one are of one form, or of one number.
 pub form_same : (f g : Form) → Replay f ≡ Replay g → f ≡ g

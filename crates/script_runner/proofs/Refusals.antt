@@ -5,20 +5,20 @@ use Rattle.dtx_values.specs.declared.script.BadCause.{BadCause}
 use Rattle.dtx_values.specs.declared.script.Line.{Line}
 use Rattle.dtx_model.specs.Faults.{Bad}
 use Rattle.dtx_model.specs.Grammar.{Reads}
-use Rattle.tx_cells.specs.Cell.{IsThreadable}
+use Rattle.script_calls.specs.Threadable.{IsThreadable}
 use Rattle.program_words.specs.Commands.{Asks}
 use Rattle.program_words.specs.declared.command.Command.{Command}
 use Rattle.program_words.specs.declared.command.Command.TheVariants.{Replay as AskReplay, Threads as AskThreads}
 use Rattle.program_words.specs.declared.command.Form.{Form}
-use Rattle.script_runner.specs.Judged.{HasDoAt, IsJudged, first_do}
+use Rattle.program_io.specs.Judged.{HasDoAt, IsJudged, first_do}
 use Rattle.script_runner.specs.Program.{AsksReplay, AsksRun, AsksThreads, CanBeDone, IsInputFor}
-use Rattle.script_runner.specs.Refusal.{IsGoodFor, IsOnThreads, IsRunnable, Refuses}
-use Rattle.script_runner.specs.declared.exit.Exit.{Exit}
-use Rattle.script_runner.specs.declared.exit.Exit.TheVariants.{BadScript, Fine, LogFault, Memory, NotThreadable, ReadFault, Usage, WriteFault}
-use Rattle.script_runner.specs.declared.way.Way.{Way}
-use Rattle.script_runner.specs.declared.way.Way.TheVariants.{Replay, Threads}
+use Rattle.program_io.specs.Refusal.{IsGoodFor, IsOnThreads, IsRunnable, Refuses}
+use Rattle.program_io.specs.declared.exit.Exit.{Exit}
+use Rattle.program_io.specs.declared.exit.Exit.TheVariants.{BadScript, Fine, LogFault, Memory, NotThreadable, ReadFault, Usage, WriteFault}
+use Rattle.program_io.specs.declared.way.Way.{Way}
+use Rattle.program_io.specs.declared.way.Way.TheVariants.{Replay, Threads}
 use Rattle.script_runner.proofs.Programs.{NeverBoth}
-use Rattle.script_runner.proofs.Threadable.{some_do}
+use Rattle.program_io.proofs.Threadable.{some_do}
 
 -- bytes are one script, and have one first bad line and one first cause, by the law of readings
 abbrev pub OneScript : Type 0

@@ -16,9 +16,9 @@ use Rattle.dtx_model.specs.Words.{always, past_of}
 use Rattle.dtx_model.proofs.Bools.{and_both, and_left, and_right}
 use Rattle.call_order.specs.InOrder.{AreInActorOrder}
 use Rattle.thread_runs.specs.Run.{EndsOnThreads, IsRunOnThreads}
-use Rattle.script_runner.specs.Ending.{IsLogOf}
+use Rattle.replay_runs.specs.Ending.{IsLogOf}
 use Rattle.script_runner.specs.Program.{IsReplayOf, IsThreadsOf}
-use Rattle.script_runner.specs.Run.{IsRunOf}
+use Rattle.replay_runs.specs.Run.{IsRunOf}
 
 -- what holds of each value of a result, where it is this one
 pub of_ok : {A E : Type 0} (r : Result A E) (x : A) (P : A → Type 0) → r ≡ Ok x → IfOk r P → P x

@@ -1,8 +1,8 @@
 -- Which faults an answer tells of.
 use Rattle.std.specs.Prelude.{ℕ, ◌≡◌, ◌≢◌, ◌≤◌}
 use Rattle.outside.specs.Faults.{Rose}
-use Rattle.script_runner.specs.declared.exit.Exit.{Exit}
-use Rattle.script_runner.specs.declared.exit.Exit.TheVariants.{LogFault, ReadFault, WriteFault}
+use Rattle.program_io.specs.declared.exit.Exit.{Exit}
+use Rattle.program_io.specs.declared.exit.Exit.TheVariants.{LogFault, ReadFault, WriteFault}
 
 -- The faults of a call are those of the source, of the disk while the log was formatted, and of the sink, each of which counts its own: the answer that names a fault came where that count rose; and where the answer doesn't name it, the source's count and the
 -- sink's are as they were, and the disk's didn't fall.

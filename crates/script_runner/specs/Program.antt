@@ -5,20 +5,19 @@ use Rattle.dtx_values.specs.declared.script.Line.{Line}
 use Rattle.dtx_model.specs.AtLog.{has_log_line}
 use Rattle.dtx_model.specs.Grammar.{IsScript, Reads}
 use Rattle.dtx_model.specs.Traces.{Placed}
-use Rattle.dtx_model.specs.TraceText.{trace_text}
 use Rattle.program_words.specs.Commands.{Asks}
 use Rattle.program_words.specs.declared.command.Command.{Command}
 use Rattle.program_words.specs.declared.command.Command.TheVariants.{Replay, Threads}
 use Rattle.program_words.specs.declared.command.Form.{Form}
-use Rattle.program_words.specs.declared.command.Form.TheVariants.{Plain, Wire, Json, Summary}
 use Rattle.thread_runs.specs.Run.{EndsOnThreads, IsRunOnThreads}
-use Rattle.trace_text.specs.Forms.{json_text, wire_text}
-use Rattle.trace_text.specs.Summary.{summary_text}
-use Rattle.tx_cells.specs.Cell.{IsThreadable}
-use Rattle.script_runner.specs.Ending.{IsLogOf}
-use Rattle.script_runner.specs.Lawful.{IsLawful}
-use Rattle.script_runner.specs.Run.{IsRunOf}
-use Rattle.script_runner.specs.Transfer.{IsPartWritten}
+use Rattle.script_calls.specs.Threadable.{IsThreadable}
+use Rattle.replay_runs.specs.Ending.{IsLogOf}
+use Rattle.replay_runs.specs.Lawful.{IsLawful}
+use Rattle.replay_runs.specs.Run.{IsRunOf}
+pub use Rattle.program_io.specs.FormText.{form_text}
+use Rattle.program_io.specs.Transfer.{IsPartWritten}
+use Rattle.program_io.specs.declared.way.Way.{Way}
+use Rattle.program_io.specs.declared.way.Way.TheVariants.{Replay as ReplayWay, Threads as ThreadsWay}
 
 -- the words ask for a replay
 abbrev pub AsksReplay : List (List ℕ) → Type 0
@@ -31,13 +30,6 @@ AsksThreads ws = (h : ℕ) × (f : Form) × Asks ws (Threads h f)
 -- the words ask for a run of a script that is read
 abbrev pub AsksRun : List (List ℕ) → Type 0
 AsksRun ws = AsksReplay ws ⊎ AsksThreads ws
-
--- the text of a trace in a form
-abbrev pub form_text : Form → List Placed → List ℕ
-form_text Plain T = trace_text T
-form_text Wire T = wire_text T
-form_text Json T = json_text T
-form_text Summary T = summary_text T
 
 -- T is a run of the script s in the order of a replay in which the first k managers have an object, over a disk that is honest or not, whose count of faults was `from` before and is `to` now. Where each restart found what may be found, as on an honest disk and in each run without a restart, it is a
 -- settled history of the script. It keeps the laws of every run. Where the disk is honest, the log that each image holds has the records that the trace says.
@@ -52,6 +44,11 @@ pub record IsThreadsOf (k from to : ℕ) (honest : Bool) (image : List ℕ → T
   pub run : IsRunOnThreads s k from to T
   pub lawful : IsLawful honest s T
   pub log : IsTrue honest → EndsOnThreads s image T
+
+-- T is a run of this way: a replay, or one on threads
+abbrev pub IsRunBy : Way → ℕ → ℕ → ℕ → Bool → (List ℕ → Type 0) → List Line → List Placed → Type 0
+IsRunBy ReplayWay = IsReplayOf
+IsRunBy (ThreadsWay h) = IsThreadsOf
 
 -- There is a run as P says, of the script that the source gave, where it tells its bytes, and of some script where it tells nothing; and this holds of its trace.
 pub record HasRun (P : List Line → List Placed → Type 0) (given : Option (List ℕ)) (holds : List Placed → Type 0) : Type 0 where

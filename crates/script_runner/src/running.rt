@@ -3,19 +3,18 @@ ghost use Rattle.std.specs.Prelude.{◌≡◌, ◌⊎◌, ◌≤◌, ℕ, false,
 ghost use Rattle.outside.specs.Faults.{Rose};
 ghost use Rattle.coordinator_log.specs.declared.layout.TheConstants.{LOG_BYTES};
 ghost use Rattle.dtx_model.specs.Grammar.{IsScript};
-ghost use Rattle.tx_cells.specs.Cell.{IsThreadable};
+ghost use Rattle.script_calls.specs.Threadable.{IsThreadable};
 ghost use Rattle.tx_cells.specs.Fresh.{IsFresh};
-ghost use Rattle.script_runner.specs.Ending.{AreOwnLogs, IsLog};
-ghost use Rattle.script_runner.specs.LogRun.{MetNoFault};
-ghost use Rattle.script_runner.specs.Refusal.{IsRunBy, IsRunnable};
+ghost use Rattle.replay_runs.specs.Ending.{AreOwnLogs, IsLog};
+ghost use Rattle.replay_runs.specs.LogRun.{MetNoFault};
+ghost use Rattle.program_io.specs.Refusal.{IsRunnable};
+ghost use Rattle.script_runner.specs.Program.{IsRunBy};
 ghost use Rattle.dtx_model.specs.AtLog.{has_log_line};
 
-use crate::exit::Exit;
-use crate::formatting::{FormatStop, formatted};
 use crate::threads::{ThreadsError, replayed_over, run_threads};
-use crate::way::Way;
 use coordinator_log::Log;
 use outside::{Disk, Gate};
+use program_io::{Exit, FormatStop, Way, formatted};
 use script_text::Script;
 use std::sync::Wait;
 use std::thread::Threads;

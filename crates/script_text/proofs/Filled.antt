@@ -9,8 +9,8 @@ use Rattle.dtx_values.specs.declared.script.Support.TheVariants.{SinglePhase, Tw
 use Rattle.dtx_model.specs.Grammar.{words, command_words, is_from, is_in_range}
 use Rattle.dtx_model.specs.Faults.{Pattern, word, number, allows, command_forms, line_forms, actor_pattern, transaction_pattern, enlistment_pattern, clone_pattern, scope_pattern, manager_pattern, connection_pattern, timeout_pattern, iso_pattern, option_pattern, vote_pattern, owner_pattern, promote_pattern, kind_pattern, image_pattern}
 use Rattle.dtx_model.proofs.Bools.{and_both, and_left, and_right, or_case, or_right}
-use Rattle.script_text.specs.Reader.{ahead}
-use Rattle.script_text.proofs.WordFaults.{fits, fits_some}
+use Rattle.line_reader.specs.Reader.{ahead}
+use Rattle.line_reader.proofs.WordFaults.{fits, fits_some}
 use Rattle.script_words.proofs.Meanings.{Means, listed, counted, actor, transaction, enlistment, clone, scope, manager, connection, timeout, iso, option, vote, owner, promote, kind, image}
 
 infixr 10 ◌beside◌

@@ -11,8 +11,8 @@ use Rattle.dtx_model.specs.Faults.{Pattern, allows, command_forms, line_forms, a
 use Rattle.dtx_model.proofs.Bools.{and_both, and_left, and_right, or_right}
 use Rattle.script_words.proofs.Patterns.{actor_allowed, transaction_allowed, enlistment_allowed, clone_allowed, scope_allowed, manager_allowed, connection_allowed, timeout_allowed, isolation_allowed}
 use Rattle.script_words.proofs.Patterns.{option_allowed, vote_allowed, owner_allowed, promotion_allowed, kind_allowed, image_allowed, number_allowed}
-use Rattle.script_text.specs.Reader.{ahead}
-use Rattle.script_text.proofs.WordFaults.{fits, fits_some}
+use Rattle.line_reader.specs.Reader.{ahead}
+use Rattle.line_reader.proofs.WordFaults.{fits, fits_some}
 
 -- words fill the form at a place of some forms
 abbrev fits_at : List (List Pattern) → ℕ → List (List ℕ) → Bool

@@ -10,12 +10,12 @@ use Rattle.dtx_values.specs.declared.script.Line.{Line}
 use Rattle.dtx_model.specs.Words.{each, past_of}
 use Rattle.dtx_model.specs.Grammar.{words, command_words, line_text, script_text, is_in_range, is_short, IsScript}
 use Rattle.dtx_model.specs.Faults.{front, has_newline, words_of, reach, form_fault, name_fault, word_fault, line_forms, IsBadFor, ByForm, ByNames}
-use Rattle.script_text.proofs.WordFaults.{fits_none}
-use Rattle.script_text.proofs.CleanWords.{is_clean, clean_line}
+use Rattle.line_reader.proofs.WordFaults.{fits_none}
+use Rattle.line_reader.proofs.CleanWords.{is_clean, clean_line}
 use Rattle.script_text.proofs.Fitting.{line_fits}
-use Rattle.script_text.proofs.LineTexts.{is_text, behind_front, text_words, front_text, behind_text, newline_there, words_joined}
+use Rattle.line_reader.proofs.LineTexts.{is_text, behind_front, text_words, front_text, behind_text, newline_there, words_joined}
 use Rattle.script_text.proofs.SameLines.{same_line}
-use Rattle.script_text.proofs.Scripts.{IsGood, last_good}
+use Rattle.line_reader.proofs.Scripts.{IsGood, last_good}
 
 -- the line at the front has no fault by its bytes
 pub record IsFormed (taken : ℕ) (bs : List ℕ) : Type 0 where

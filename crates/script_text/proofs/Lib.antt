@@ -1,17 +1,8 @@
-pub mod Forms
-pub mod Fronts
-pub mod Keys
-pub mod Tables
-pub mod CleanWords
-pub mod Figures
 pub mod Filled
 pub mod Fitting
 pub mod GoodLines
-pub mod LineTexts
 pub mod Longer
 pub mod OneReading
 pub mod SameLines
-pub mod Scripts
 pub mod SomeReading
-pub mod WordFaults
 pub mod Printing

@@ -9,7 +9,7 @@ use Rattle.dtx_model.specs.Faults.{name_fault, IsBadFor, ByForm, ByNames, Bad}
 use Rattle.dtx_model.proofs.Bools.{and_left, and_right}
 use Rattle.script_text.proofs.GoodLines.{same_first, not_bad_here}
 use Rattle.script_text.proofs.SameLines.{same_line}
-use Rattle.script_text.proofs.Scripts.{script_front, line_nonempty}
+use Rattle.line_reader.proofs.Scripts.{script_front, line_nonempty}
 
 -- the numbers of each line are in their ranges
 abbrev are_in_range : List Line → Bool

@@ -9,10 +9,10 @@ use Rattle.dtx_values.specs.declared.script.Line.{Line}
 use Rattle.dtx_model.specs.Words.{past_of}
 use Rattle.dtx_model.specs.Grammar.{words, line_text, script_text, IsScript, Reads}
 use Rattle.dtx_model.specs.Faults.{front, has_newline, words_of, reach, form_fault, name_fault, line_forms, IsBadFor, ByForm, ByNames, Bad}
-use Rattle.script_text.proofs.WordFaults.{none_fits}
-use Rattle.script_text.proofs.LineTexts.{behind_front, join_words, cut_front}
+use Rattle.line_reader.proofs.WordFaults.{none_fits}
+use Rattle.line_reader.proofs.LineTexts.{behind_front, join_words, cut_front}
 use Rattle.script_text.proofs.Filled.{AreLineWords, line_of}
-use Rattle.script_text.proofs.Scripts.{IsGood, script_none, script_more, bytes_more}
+use Rattle.line_reader.proofs.Scripts.{IsGood, script_none, script_more, bytes_more}
 use Rattle.script_text.proofs.GoodLines.{IsFormed, none_formed, line_text-append}
 
 -- what bytes are

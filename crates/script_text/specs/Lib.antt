@@ -1,3 +1,3 @@
 pub mod Print
-pub mod Reader
 pub mod Reading
+pub use Rattle.line_reader.specs.Reader

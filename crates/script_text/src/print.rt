@@ -8,14 +8,14 @@ ghost use Rattle.script_text.specs.declared.print.TheConstants.{COMMAND_ROOM};
 ghost use Rattle.script_text.specs.Print.{is_simple};
 ghost use Rattle.dtx_model.specs.Grammar.{IsScript, Reads, asked_iso_word, command_words, enlistment_name, line_text, manager_name, scope_name, script_text, timeout_word, transaction_name};
 
-use crate::verbs::{
-    AWAIT, BEGIN, CLONE, CLOSE, COMMIT, COMPLETE, CURRENT, DO, DURABLE, FINISH, GONE, LOSE,
-    MARSHAL, OPEN, PAR, PROMOTABLE, RECOVERED, REENLIST, REQUIRED, REQUIRES_NEW, RESTART, ROLLBACK,
-    SINGLE_PHASE, STATUS, STOP, SUPPRESS, TICK, TWO_PHASE, VOLATILE,
-};
 use dtx_values::{
     Body, CloneKind, CloneNo, Conn, EnlNo, EnlistOption, Image, IsoWord, Line, Opening, Outcome,
     RmNo, ScopeNo, Script, Support, Timeout, TxNo, Vote,
+};
+use line_reader::verbs::{
+    AWAIT, BEGIN, CLONE, CLOSE, COMMIT, COMPLETE, CURRENT, DO, DURABLE, FINISH, GONE, LOSE,
+    MARSHAL, OPEN, PAR, PROMOTABLE, RECOVERED, REENLIST, REQUIRED, REQUIRES_NEW, RESTART, ROLLBACK,
+    SINGLE_PHASE, STATUS, STOP, SUPPRESS, TICK, TWO_PHASE, VOLATILE,
 };
 use line_tail::Tail;
 use line_words::{

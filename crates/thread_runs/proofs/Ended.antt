@@ -8,7 +8,7 @@ use Rattle.dtx_values.specs.declared.entry.Entry.{Entry}
 use Rattle.dtx_values.specs.declared.number.ActorNo.{ActorNo}
 use Rattle.dtx_values.specs.declared.number.TxNo.{TxNo}
 use Rattle.dtx_values.specs.declared.script.Line.{Line}
-use Rattle.dtx_model.specs.AtLog.{armed, at_log, faults as faults_told, is_log_up, is_up_by, one_if}
+use Rattle.dtx_model.specs.AtLog.{at_log, is_log_up, is_up_by}
 use Rattle.dtx_model.specs.Caused.{IsOwnRun}
 use Rattle.dtx_model.specs.Grammar.{OfTransaction, is_made}
 use Rattle.dtx_model.specs.Log.{CommitRecord, log_has}
@@ -18,18 +18,18 @@ use Rattle.dtx_model.specs.World.{World}
 use Rattle.dtx_values.specs.declared.call.Call.{Call}
 use Rattle.coordinator_log.specs.Crash.{AllHold}
 use Rattle.coordinator_log.specs.Slots.{open_records}
-use Rattle.coordinator_log.specs.declared.stop.ArmedStop.{ArmedStop}
 use Rattle.script_calls.specs.Due.{calls_at}
 use Rattle.script_calls.specs.Prefix.{IsPrefix, lines_by}
 use Rattle.script_calls.specs.Rows.{are_entered}
 use Rattle.script_calls.specs.SeenRow.{SeenRow}
 use Rattle.call_order.specs.InOrder.{lines_of}
 use Rattle.tx_cells.specs.Cell.{Cell}
-use Rattle.tx_cells.specs.LogCell.{AreCounted, AreOwn, IsLogKept, LAST, LogCell, is_left}
+use Rattle.tx_cells.specs.LogCell.{AreOwn, IsLogKept, LogCell}
+use Rattle.turn_parts.proofs.Records.{found_so}
 use Rattle.thread_runs.specs.Contexts.{entries_of}
 use Rattle.run_endings.specs.Finished.{AreFinished}
 use Rattle.thread_runs.specs.Gathering.{HasContexts, IsCellOf, with_histories, with_log}
-use Rattle.thread_runs.specs.Run.{EndsOnThreads, IsRise}
+use Rattle.thread_runs.specs.Run.{EndsOnThreads}
 use Rattle.thread_runs.proofs.ByCell.{Rises, find_cell, rises_transactions, unmade}
 use Rattle.thread_runs.proofs.Marked.{marked_there}
 use Rattle.thread_runs.proofs.Placing.{contexts_before_log, contexts_kept, histories_before_log, log_kept, log_there}
@@ -71,37 +71,10 @@ lines_there s k honest log t h whole unnamed (inl f) a =
     ap (lines_by a.value) f.3 ∙ whole c.rows c.tx.world run prefix d.entered a
 lines_there s k honest log t h whole unnamed (inr f) a = ap (lines_by a.value) f.1 ∙ ap lines_of (sym (unnamed (unmade s t f.0) a.value))
 
--- The count of faults rose as much as the trace tells of, unless it stands at its last value.
-abbrev pub rise_of : ℕ → ℕ → ℕ → ℕ
-rise_of from to told = if nat_lt to LAST then to - from else told
-
-pub rise_known : (from to told : ℕ) → IsRise from to (rise_of from to told)
-rise_known from to told less = let here : nat_lt to LAST ≡ true = grind (arith, nat_tests) in rw here refl
-
-one_more : (b : Bool) (n : ℕ) → n ≤ one_if b n
-one_more true n = omega arith
-one_more false n = omega arith
-
-pub rise_told : (from to : ℕ) (stop : Option ArmedStop) (l h : List Entry) → h ≡ l → AreCounted from to stop l → faults_told h ≤ rise_of from to (faults_told h)
-rise_told from to stop l h is counted = by (cases_Bool (nat_lt to LAST))
-  where
-    by : (nat_lt to LAST ≡ true) ⊎ (nat_lt to LAST ≡ false) → faults_told h ≤ rise_of from to (faults_told h)
-    by (inl e) =
-        let less : to < LAST = grind (arith, nat_tests) in
-        let told = subst (λ (x : List Entry). from + one_if (is_left stop (armed x)) (faults_told x) ≤ to) (sym is) (counted.told less) in
-        let more = one_more (is_left stop (armed h)) (faults_told h) in
-        rw e (omega (arith, told, more))
-    by (inr e) = rw e (omega arith)
-
 -- Whether the log is up.
 pub up_there : {D : Type 0} (faults : D → ℕ) (sure : Bool) (image : D → List ℕ → Type 0) (s : List Line) (k : ℕ) (honest : Bool) (from : ℕ) (ess : List (List Entry)) (log : LogCell D) (T : List Placed) → IsGathered faults sure image s k honest from ess log T
     → log.log.is_up ≡ is_log_up T
 up_there faults sure image s k honest from ess log T g = sym g.kept.up ∙ ap is_up_by (sym g.at_the_log)
-
--- What is so of the records of each image's bytes, where they are a log's, is so of these records.
-pub found_so : (P : List CommitRecord → Type 0) (r : Result (List CommitRecord) ℕ) (rs : List CommitRecord) → r ≡ Ok rs → IfOk r P → P rs
-found_so P (Ok qs) rs e k = let same : qs ≡ rs = cc in subst P same k
-found_so P (Err p) rs e k = absurd cc
 
 -- The log at the end.
 pub ends_there : {D : Type 0} (faults : D → ℕ) (sure : Bool) (image : D → List ℕ → Type 0) (s : List Line) (k : ℕ) (honest : Bool) (from : ℕ) (ess : List (List Entry)) (log : LogCell D) (T : List Placed) → IsTrue sure

@@ -8,7 +8,7 @@ use Rattle.dtx_values.specs.declared.trace.Place.TheVariants.{Log, Transaction}
 use Rattle.dtx_model.specs.Traces.{Placed, placed}
 use Rattle.dtx_model.specs.Words.{each}
 use Rattle.dtx_model.proofs.Bools.{and_both}
-use Rattle.outcome_law.proofs.Scans.{each_more}
+use Rattle.history_table.proofs.Scans.{each_more}
 use Rattle.tx_cells.specs.Board.{transactions_of}
 use Rattle.tx_cells.specs.Cell.{Cell}
 use Rattle.thread_runs.specs.Gathering.{IsLaidBelow, are_in_order, rank, with_histories, with_log}

@@ -16,28 +16,18 @@ use Rattle.dtx_model.specs.Wires.{is_stopped}
 use Rattle.dtx_model.specs.Words.{each, has}
 use Rattle.dtx_model.specs.World.{core}
 use Rattle.dtx_model.proofs.Bools.{and_left, and_right, not_both}
-use Rattle.outcome_law.proofs.CoreStages.{recorded_mark, stopped_same}
+use Rattle.history_table.proofs.CoreStages.{recorded_mark, stopped_same}
 use Rattle.coordinator_log.specs.Slots.{open_records}
 use Rattle.tx_world.specs.AtLog.{AtMostOne, id_of}
 use Rattle.tx_world.proofs.Begun.{stopped_begun}
-use Rattle.tx_world.proofs.Fitting.{one_found}
+use Rattle.world_parts.proofs.Fitting.{one_found}
 use Rattle.tx_cells.specs.Board.{transactions_of}
+use Rattle.turn_parts.proofs.Records.{one_there}
 use Rattle.tx_cells.specs.Cell.{Cell}
 use Rattle.tx_cells.specs.LogCell.{AreOwn, LogCell, is_own}
 use Rattle.thread_runs.specs.Run.{records_of}
 use Rattle.thread_runs.proofs.ByCell.{is_among}
 use Rattle.thread_runs.proofs.Standing.{IsDone, Stands}
-
--- Of records of which at most one has an identifier there is one exactly where the first is found.
-pub one_there : (id : ℕ) (rs : List CommitRecord) → AtMostOne id rs → length (filter (is_record_of id) rs) ≡ (if is_some (first_of id rs) then 1 else 0)
-one_there id [] k = refl
-one_there id (r ∷ rs) k = by (is_record_of id r) k (one_there id rs)
-  where
-    by : (b : Bool) → length (if b then r ∷ filter (is_record_of id) rs else filter (is_record_of id) rs) ≤ 1
-        → (AtMostOne id rs → length (filter (is_record_of id) rs) ≡ (if is_some (first_of id rs) then 1 else 0))
-        → length (if b then r ∷ filter (is_record_of id) rs else filter (is_record_of id) rs) ≡ (if is_some (if b then Some r else first_of id rs) then 1 else 0)
-    by true k ih = omega (arith, k)
-    by false k ih = ih k
 
 -- A coordinator that follows a log that is up isn't stopped.
 never : (a b : Bool) → (a && b && false) ≡ false

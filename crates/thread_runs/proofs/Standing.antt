@@ -22,8 +22,8 @@ use Rattle.dtx_model.specs.Words.{each}
 use Rattle.dtx_model.proofs.Bools.{and_both, and_left, and_right}
 use Rattle.dtx_model.proofs.Lifting.{lift_ran}
 use Rattle.dtx_model.proofs.SameNumbers.{same_transaction}
-use Rattle.outcome_law.proofs.ReplaySame.{pending_same}
-use Rattle.outcome_law.proofs.ScriptCalls.{ran_calls}
+use Rattle.script_histories.proofs.ReplaySame.{pending_same}
+use Rattle.script_histories.proofs.ScriptCalls.{ran_calls}
 use Rattle.script_calls.specs.Rows.{are_entered}
 use Rattle.tx_cells.specs.Board.{transactions_of}
 use Rattle.tx_cells.specs.Cell.{Cell}

@@ -1,28 +1,20 @@
 -- A run of a script on threads, as its trace has it.
-use Rattle.std.specs.Prelude.{ℕ, ◌-◌, ◌≡◌, ◌<◌, Bool, true, false, List, Ok, IsTrue, filter, length, if◌then◌else◌}
+use Rattle.std.specs.Prelude.{ℕ, ◌≡◌, Bool, true, false, List, IsTrue, length, if◌then◌else◌}
 use Rattle.dtx_values.specs.declared.number.TxNo.{TxNo}
 use Rattle.dtx_values.specs.declared.script.Line.{Line}
 use Rattle.dtx_model.specs.AtLog.{at_log, is_log_up}
 use Rattle.dtx_model.specs.Caused.{Caused}
 use Rattle.dtx_model.specs.History.{IsHistory}
-use Rattle.dtx_model.specs.Log.{CommitRecord, is_record_of, log_has}
-use Rattle.dtx_model.specs.Promotes.{identifier_of}
-use Rattle.dtx_model.specs.Tied.{has_mark, tied}
+use Rattle.dtx_model.specs.Log.{CommitRecord}
+use Rattle.dtx_model.specs.Tied.{has_mark}
 use Rattle.dtx_model.specs.Traces.{Placed, history}
 use Rattle.dtx_model.specs.Words.{has, past_of}
 use Rattle.coordinator_log.specs.Crash.{AllHold}
 use Rattle.coordinator_log.specs.State.{LogState}
 use Rattle.call_order.specs.InOrder.{AreInActorOrder}
 use Rattle.tx_cells.specs.LogAnswers.{is_no_log_answer}
-use Rattle.tx_cells.specs.LogCell.{AreOwn, LAST}
-
--- in each transaction each restart found what may be found: so it is where none came, and on an honest disk
-abbrev pub AreTied : List Placed → Type 0
-AreTied T = (t : TxNo) → tied (history t.value (past_of T)) ≡ true
-
--- a count of faults that was `from` rose by so many, unless it stands at its last value, where nobody knows by how many
-abbrev pub IsRise : ℕ → ℕ → ℕ → Type 0
-IsRise from to rise = to < LAST → rise ≡ to - from
+pub use Rattle.turn_parts.specs.Runs.{AreTied, EachHolds, IsRise, records_of}
+use Rattle.tx_cells.specs.LogCell.{AreOwn}
 
 -- T is a run of the script on threads in which the first k managers have an object, over a disk whose count of faults was `from` before and is `to` now: each transaction's history is one that the script's lines cause; at each place the calls of
 -- each actor are those that its lines make there, in order; and where each restart found what may be found, it is a settled history of the script.
@@ -33,17 +25,9 @@ pub record IsRunOnThreads (s : List Line) (k from to : ℕ) (T : List Placed) : 
   pub ordered : AreInActorOrder s T
   pub history : AreTied T → IsHistory s k rise T
 
--- the records of a transaction of this number, of these
-abbrev pub records_of : ℕ → List CommitRecord → List CommitRecord
-records_of t rs = filter (is_record_of (identifier_of t)) rs
-
 -- The records of a log that is up, where T is the trace, newest first: of each transaction there is one where the last of `logged`, `freed`, `restarted found` and `restarted none` is `logged` or `restarted found`, and else none.
 abbrev pub AreMarked : List Placed → List CommitRecord → Type 0
 AreMarked T rs = (t : TxNo) → length (records_of t.value rs) ≡ (if has_mark (history t.value T) then 1 else 0)
-
--- each image that a crash can leave is a log whose records are so
-abbrev pub EachHolds : (List ℕ → Type 0) → (List CommitRecord → Type 0) → Type 0
-EachHolds image P = (c : List ℕ) → image c → (rs : List CommitRecord) × (log_has c ≡ Ok rs) × P rs
 
 -- The log at the end of a run of the script s on threads, as its images have it: where the trace leaves the log up, each image has the same records, one of each transaction that has one by the trace; and each image, whether the log is up or not, is
 -- a log of the script's transactions alone, with at most one record of each.

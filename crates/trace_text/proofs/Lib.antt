@@ -1,16 +1,2 @@
-pub mod Arrays
-pub mod Framed
-pub mod Lines
-pub mod OneTrace
-pub mod Plain
-pub mod Printing
-pub mod ReadInfo
 pub mod ReadLines
-pub mod ReadPieces
 pub mod ReadTraces
-pub mod Summaries
-pub mod TellAnswers
-pub mod TellEntries
-pub mod TellMessages
-pub mod TellPieces
-pub mod TellWords

@@ -1,12 +1,11 @@
 -- Texts of traces, line by line.
-use Rattle.std.proofs.Common.{◌≡◌, ◌≢◌, ℕ, suc, ◌+◌, ◌<◌, true, List, [], ◌∷◌, ◌++◌, length, length-append, refl, ap, sym, ◌∙◌, arith, append_assoc}
+use Rattle.std.proofs.Common.{◌≡◌, ◌≢◌, ℕ, suc, ◌+◌, true, List, [], ◌∷◌, ◌++◌, length, length-append, refl, ap, sym, ◌∙◌, arith, append_assoc}
 use Rattle.std.proofs.lemmas.List.{append-nil}
 use Rattle.dtx_model.specs.Words.{each}
 use Rattle.dtx_model.specs.Traces.{Placed}
 use Rattle.dtx_model.specs.TraceText.{trace_line, lines_from, trace_text, is_fit, IsTextOf, IsBadLine}
 use Rattle.dtx_model.proofs.Bools.{and_left, and_right, and_both}
-use Rattle.trace_text.specs.Forms.{line_words}
-use Rattle.trace_text.proofs.ReadLines.{same_after}
+use Rattle.trace_lines.proofs.LineEnds.{line_long, same_after}
 
 -- one entry more at the end is one line more
 lines_push : (n m : ℕ) (xs : List Placed) (x : Placed) → m ≡ n + length xs → lines_from n (xs ++ x ∷ []) ≡ lines_from n xs ++ trace_line m x
@@ -32,10 +31,6 @@ text_none b xs e = ap (λ t. lines_from 1 t ++ b) (sym e)
 pub fit_push : (xs : List Placed) (x : Placed) → each is_fit xs ≡ true → is_fit x ≡ true → each is_fit (xs ++ x ∷ []) ≡ true
 fit_push [] x h k = and_both (is_fit x) _ k refl
 fit_push (y ∷ xs) x h k = and_both (is_fit y) _ (and_left (is_fit y) (each is_fit xs) h) (fit_push xs x (and_right (is_fit y) (each is_fit xs) h) k)
-
--- a line isn't empty
-pub line_long : (n : ℕ) (x : Placed) → 0 < length (trace_line n x)
-line_long n x = omega (arith, length-append (line_words n x) (10 ∷ []))
 
 -- no line of a trace stands at the front
 abbrev IsUnread : ℕ → List ℕ → Type 0

@@ -1,7 +1,7 @@
-pub mod Forms
-pub mod Headings
-pub mod OneTrace
-pub mod Printed
-pub mod ReadGroups
 pub mod ReadTrace
-pub mod Summary
+pub use Rattle.trace_lines.specs.Forms
+pub use Rattle.trace_lines.specs.Headings
+pub use Rattle.trace_lines.specs.OneTrace
+pub use Rattle.trace_lines.specs.Printed
+pub use Rattle.trace_lines.specs.Summary
+pub use Rattle.entry_reader.specs.ReadGroups

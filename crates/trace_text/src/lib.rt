@@ -1,27 +1,9 @@
-//! Texts of traces.
+//! Texts of traces: reads them line by line, and hands on what prints them.
 #![tactic(auto)]
 
-mod answer_words;
-mod answers;
-mod entries;
-mod entry_words;
-mod keys;
-mod message_words;
-mod messages;
-mod names;
-mod objects;
-mod printer;
-mod read_answers;
-mod read_entries;
-mod read_messages;
 mod reader;
-mod tally;
-mod widths;
-mod wire;
 
 pub use dtx_values::Place;
 pub use entry_lists::{PlacedEntries, Trace};
-pub use objects::json_trace;
-pub use printer::{print_lines, print_trace};
-pub use reader::{TraceError, one_trace, read_trace, reads_traces_exactly};
-pub use tally::summary;
+pub use reader::{TraceError, read_trace, reads_traces_exactly};
+pub use trace_lines::{json_trace, one_trace, print_lines, print_trace, summary};

@@ -1,20 +1,16 @@
 //! Reads traces: each line is read, printed again, and compared.
-ghost use Rattle.std.specs.Prelude.{◌≡◌, ◌≢◌, ◌++◌, ℕ, List, map, true, IfOk, IfErr, IfSome, IfNone, Some};
-ghost use Rattle.dtx_values.specs.declared.message.Info.{Info};
+ghost use Rattle.std.specs.Prelude.{◌≡◌, ◌≢◌, ◌++◌, ℕ, List, true, IfOk, IfErr, IfSome, IfNone, Some};
 ghost use Rattle.dtx_model.specs.Traces.{Placed};
-ghost use Rattle.dtx_model.specs.TraceText.{trace_line, trace_text, is_fit, IsTextOf, IsBadLine};
-ghost use Rattle.dtx_model.specs.Words.{each};
-ghost use Rattle.trace_text.specs.Forms.{line_words};
-ghost use Rattle.trace_text.specs.OneTrace.{is_carried_at, is_typed_at, named_at, told_at};
+ghost use Rattle.dtx_model.specs.TraceText.{trace_line, is_fit, IsTextOf, IsBadLine};
+ghost use Rattle.trace_lines.specs.Forms.{line_words};
 ghost use Rattle.trace_text.specs.ReadTrace.{IsBadTrace};
 
-use crate::names::place_of;
-use crate::printer::put_line;
-use crate::read_entries::entry_of;
 use dtx_values::{Entry, Place};
 use entry_lists::{PlacedEntries, Trace};
+use entry_reader::{entry_of, place_of};
 use line_tail::{Tail, parts};
 use std::alloc::Global;
+use trace_lines::put_line;
 
 /// Why bytes aren't the text of a trace.
 #[derive(Clone, Copy, PartialEq, Eq, Debug)]
@@ -85,14 +81,4 @@ pub fn read_trace(alloc: Global, bytes: &[u8]) -> Result<Trace, TraceError>
 pub fn reads_traces_exactly()
     ensures either { (b : List ℕ) (T : List Placed) (n : ℕ) → IsTextOf b T → IsBadLine b n → ⊥ }
     ensures first { (b : List ℕ) (n m : ℕ) → IsBadLine b n → IsBadLine b m → n ≡ m }
-{}
-
-/// A text has one trace, up to what a message's line leaves out: two traces of one text are the same trace once any one identifier and any
-/// one recovery information stand in all their messages. That is so where each message is one that its connection carries (`one`); a line
-/// doesn't tell another from those of its name (`names`). A law: the body is empty, and who calls this has the law in its proof.
-pub fn one_trace()
-    ensures one { (S T : List Placed) (u : ℕ) (i : Info) → each is_typed_at S ≡ true → each is_typed_at T ≡ true
-        → each is_carried_at S ≡ true → each is_carried_at T ≡ true → trace_text S ≡ trace_text T → map (told_at u i) S ≡ map (told_at u i) T }
-    ensures names { (S T : List Placed) (u : ℕ) (i : Info) → each is_typed_at S ≡ true → each is_typed_at T ≡ true
-        → trace_text S ≡ trace_text T → map (named_at u i) S ≡ map (named_at u i) T }
 {}

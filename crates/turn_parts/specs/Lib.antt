@@ -1,2 +1,4 @@
+pub mod Counted
 pub mod Marks
 pub mod Reopening
+pub mod Runs

@@ -1,11 +1,12 @@
 -- A stop and an opening of the log, what a restart is answered, and what they write there.
 use Rattle.std.specs.Prelude.{ℕ, ◌+◌, ◌≡◌, ◌≢◌, Bool, true, false, List, ◌∷◌, length, Result, Ok, Err, IfOk, IsTrue, OnOk, is_ok, if◌then◌else◌}
 use Rattle.outside.specs.Faults.{Rose}
+use Rattle.dtx_values.specs.declared.Image.{Image}
 use Rattle.dtx_values.specs.declared.entry.Answer.{Answer}
 use Rattle.dtx_values.specs.declared.entry.Answer.TheVariants.{Fine, Fault, NotALog}
 use Rattle.dtx_values.specs.declared.entry.Entry.{Entry}
 use Rattle.dtx_values.specs.declared.entry.Entry.TheVariants.{Called, LogWord, Stopped}
-use Rattle.dtx_values.specs.declared.entry.LogNote.TheVariants.{Opened}
+use Rattle.dtx_values.specs.declared.entry.LogNote.TheVariants.{Armed, Opened}
 use Rattle.dtx_values.specs.declared.number.ActorNo.{ActorNo}
 use Rattle.coordinator_log.specs.Crash.{IsOpened}
 use Rattle.coordinator_log.specs.Slots.{open_records}
@@ -31,6 +32,11 @@ restart_answer (Ok n) = Fine
 restart_answer (Err (Refusal.NotALog p)) = NotALog p
 restart_answer (Err r) = Fault
 
+-- the call of a restart that found no log
+abbrev pub is_no_log_answer : Entry → Bool
+is_no_log_answer (Called n a (NotALog p)) = true
+is_no_log_answer _ = false
+
 abbrev pub opened_where : Result ℕ LogRefusal → List Entry → List Entry
 opened_where (Ok n) past = LogWord (Opened n) ∷ past
 opened_where (Err r) past = past
@@ -43,3 +49,7 @@ restarted n a was_up r past = opened_where r (stop_if was_up (Called n a (restar
 abbrev pub stop_noted : Bool → Bool → List Entry → List Entry
 stop_noted true false past = Stopped ∷ past
 stop_noted _ _ past = past
+
+-- a stop at the k-th device call is armed by line n
+abbrev pub stop_armed : ℕ → ActorNo → ℕ → Image → List Entry → List Entry
+stop_armed n a k i past = LogWord (Armed k i) ∷ Called n a Fine ∷ past

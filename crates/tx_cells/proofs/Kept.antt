@@ -24,8 +24,8 @@ use Rattle.script_calls.specs.Prefix.{IsPrefix}
 use Rattle.script_calls.specs.Rows.{next_in, row_at}
 use Rattle.script_calls.specs.SeenRow.{SeenRow}
 use Rattle.script_calls.proofs.Entered.{next_line_new, next_name_new}
-use Rattle.outcome_law.proofs.ScopeCalls.{given_call, is_scope_call}
-use Rattle.outcome_law.proofs.Tests.{eq_self}
+use Rattle.history_table.proofs.ScopeCalls.{given_call, is_scope_call}
+use Rattle.history_table.proofs.Tests.{eq_self}
 use Rattle.tx_world.specs.State.{TxState, is_maker, is_name, may_enter, sends_begin, turned}
 use Rattle.tx_world.specs.OwnCalls.{is_alone, is_do}
 use Rattle.tx_world.proofs.StillTied.{is_restarting, turned_tied}
@@ -33,6 +33,8 @@ use Rattle.tx_cells.specs.Cell.{IsKept, IsThreadable, is_do_line, untouched}
 use Rattle.tx_cells.specs.Entering.{is_promoting, is_promoting_line, later_if, may_promote_at, must_wait, put_off}
 use Rattle.tx_cells.specs.declared.turns.Turned.TheVariants.{NotNext}
 use Rattle.script_calls.proofs.RightReplies.{IsReplyRight, right_step, right_stop}
+use Rattle.script_calls.proofs.Scripts.{given_more}
+use Rattle.turn_parts.proofs.Turned.{same_made, turned_calls}
 
 -- at the start: no call was entered, and no entry is there
 none_in : (n : ℕ) (a : ActorNo) (c : Call) → IsIn [] n a c → ⊥
@@ -45,15 +47,7 @@ none_in n a c i = by i.place i.stands
 pub kept_new : (s : List Line) (k : ℕ) (honest : Bool) (t : TxNo) (rows : List (SeenRow Call)) → IsThreadable s → is_made s (OfTransaction t.value) ≡ true → IsPrefix s t.value rows [] → IsKept s k honest (untouched t) rows
 kept_new s k honest t rows script named prefix = record { script = script; named = named; given = λ n a c i. absurd (none_in n a c i); in_order = prefix; planned = refl; sound = λ _. refl }
 
--- the calls, and the replies, after a step, with the stop that may follow it
-pub turned_calls : (up : Bool) (t : ℕ) (w : World) (m : Step) → (turned up t w m).calls ≡ entered m w.calls
-unfolding after
-turned_calls up t w m = by (sends_begin t w m && not up)
-  where
-    by : (c : Bool) → (if c then after t (after t w m) Stops else after t w m).calls ≡ entered m w.calls
-    by true = refl
-    by false = refl
-
+-- the replies after a step, with the stop that may follow it
 turned_right : (s : List Line) (k : ℕ) (up : Bool) (t : ℕ) (w : World) (m : Step) → IsReplyRight (plans_of s) (has_object s k) m → always (is_as_planned (plans_of s) (has_object s k)) w.past ≡ true
     → always (is_as_planned (plans_of s) (has_object s k)) (turned up t w m).past ≡ true
 unfolding after block_at
@@ -86,17 +80,6 @@ pub kept_step : (s : List Line) (k : ℕ) (honest up : Bool) (x y : TxState) (ro
 kept_step s k honest up x y rows m none q other t w kept = kept_tied s k honest up x y rows m none q (λ is. sound_step up x y m other w) t w kept
 
 -- and after a call that the script gives, with its row one further.
-pub given_more : (s : List Line) (t : ℕ) (k : EnteredCall) (ks : List EnteredCall) → IsCallOf s t k.line k.actor k.call → ((n : ℕ) (a : ActorNo) (c : Call) → IsIn ks n a c → IsCallOf s t n a c)
-    → (n : ℕ) (a : ActorNo) (c : Call) → IsIn (k ∷ ks) n a c → IsCallOf s t n a c
-given_more s t k ks mine given n a c i = by i.place i.stands
-  where
-    by : (j : ℕ) → kth (k ∷ ks) j ≡ Some (record { line = n; actor = a; call = c }) → IsCallOf s t n a c
-    by zero e = absurd cc
-    by (suc zero) e =
-        let same : k ≡ record { line = n; actor = a; call = c } = cc in
-        subst (λ (j : EnteredCall). IsCallOf s t j.line j.actor j.call) same mine
-    by (suc (suc j)) e = given n a c (record { place = suc j; stands = e })
-
 pub kept_call : (s : List Line) (k : ℕ) (honest up : Bool) (x y : TxState) (rows rows' : List (SeenRow Call)) (n : ℕ) (a : ActorNo) (c : Call) (m : ℕ) → IsCallOf s x.transaction.value n a c
     → IsPrefix s x.transaction.value rows' (record { line = n; actor = a; call = c } ∷ x.world.calls) → y.transaction ≡ x.transaction → y.world ≡ turned up x.transaction.value x.world (Calls n a c m) → IsKept s k honest x rows → IsKept s k honest y rows'
 kept_call s k honest up x y rows rows' n a c m mine prefix t w kept =
@@ -224,26 +207,6 @@ unput w n c e = by (n == n) (eq_self n) (must_wait w c) e
     by true k true f = absurd cc
     by true k false f = refl
     by false k q f = absurd cc
-
--- a call that makes a name makes this one
-name_here : (x : Name) (o : Option Name) → is_name x o ≡ true → o ≡ Some x
-name_here (OfEnlistment e) (Some (OfEnlistment f)) k = ap (λ j. Some (OfEnlistment j)) (sym (eqb-true e f k))
-name_here (OfEnlistment e) (Some (OfClone f)) k = absurd cc
-name_here (OfEnlistment e) (Some (OfTransaction f)) k = absurd cc
-name_here (OfEnlistment e) (Some (OfScope f)) k = absurd cc
-name_here (OfEnlistment e) None k = absurd cc
-name_here (OfClone e) (Some (OfClone f)) k = ap (λ j. Some (OfClone j)) (sym (eqb-true e f k))
-name_here (OfClone e) (Some (OfEnlistment f)) k = absurd cc
-name_here (OfClone e) (Some (OfTransaction f)) k = absurd cc
-name_here (OfClone e) (Some (OfScope f)) k = absurd cc
-name_here (OfClone e) None k = absurd cc
-name_here (OfTransaction e) o k = absurd cc
-name_here (OfScope e) o k = absurd cc
-
--- so both make the same
-pub same_made : (o : Option Name) (d : Call) → is_maker o d ≡ true → (x : Name) × (o ≡ Some x) × (made_by d ≡ Some x)
-same_made (Some x) d k = (x, refl, name_here x (made_by d) k)
-same_made None d k = absurd cc
 
 -- the call that isn't put off is next, and may be entered
 pub next_may : (s : List Line) (k : ℕ) (honest : Bool) (x : TxState) (rows : List (SeenRow Call)) (a : ActorNo) (n : ℕ) (c : Call) → IsKept s k honest x rows → next_in (row_at a rows) ≡ Some (record { line = n; call = c })

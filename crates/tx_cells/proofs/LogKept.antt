@@ -21,6 +21,7 @@ use Rattle.script_calls.specs.SeenRow.{SeenRow}
 use Rattle.script_calls.specs.declared.calls.LogCall.{LogCall}
 use Rattle.tx_cells.specs.LogAnswers.{is_no_log_answer, stop_armed}
 use Rattle.tx_cells.specs.LogCell.{AreCounted, AreOwn, IsLogKept, LAST, LogCell, is_left}
+use Rattle.turn_parts.proofs.Counting.{counted_armed}
 use Rattle.turn_parts.specs.Reopening.{IsReopened, restart_answer, restarted}
 
 -- Of what is counted, where as much is told as before,
@@ -40,14 +41,6 @@ counted_more b m n stop past U left told le rose k = record {
   grows = le_trans k.grows le;
   told = λ less. rw (left, told) (more_if b m n (faults_told past) (is_left stop (armed past)) less rose (k.told (omega arith)));
 }
-
--- A stop that is armed tells of no fault.
-fewer : (b m f : ℕ) (l : Bool) → b + one_if l f ≤ m → b + f ≤ m
-fewer b m f true le = omega arith
-fewer b m f false le = le
-
-pub counted_armed : (b m : ℕ) (old : Option ArmedStop) (s : ArmedStop) (past : List Entry) (n : ℕ) (a : ActorNo) (k : ℕ) (i : Image) → AreCounted b m old past → AreCounted b m (Some s) (stop_armed n a k i past)
-counted_armed b m old s past n a k i c = record { grows = c.grows; told = λ less. fewer b m (faults_told past) (is_left old (armed past)) (c.told less) }
 
 -- What a restart writes leaves the armed stop as it was,
 armed_restarted : (n : ℕ) (a : ActorNo) (up : Bool) (found : Result ℕ LogRefusal) (past : List Entry) → armed (restarted n a up found past) ≡ armed past

@@ -30,32 +30,8 @@ use Rattle.tx_world.specs.Stepping.{IsAnswered}
 use Rattle.tx_cells.specs.Board.{transactions_of}
 use Rattle.tx_cells.specs.LogAnswers.{is_no_log_answer}
 use Rattle.tx_cells.specs.LogCell.{AreCounted, AreOwn, IsLogKept, LAST, LogCell, is_left, is_own}
+use Rattle.turn_parts.proofs.Counting.{counted_stopped, not_fewer}
 use Rattle.turn_parts.specs.Reopening.{stop_noted}
-
--- A count that doesn't fall, and one that rose
-not_fewer : (b m n f : ℕ) → m ≤ n → b + f ≤ m → b + f ≤ n
-not_fewer b m n f le was = omega arith
-
-one_more : (b m n f : ℕ) → n < LAST → b + f ≤ m → Rose m n → b + suc f ≤ n
-one_more b m n f less was rose = omega arith
-
--- What a stop of the log adds to the faults that are told of, and to what is left armed, rose the count.
-told_stopped : (b m n : ℕ) (old new : Option ArmedStop) (past : List Entry) → is_called past ≡ false → m ≤ n → n < LAST → b + one_if (is_left old (armed past)) (faults_told past) ≤ m
-    → (old ≡ None → Rose m n) → Rose m n ⊎ (new ≡ None) → (old ≡ None → new ≡ None) → b + one_if (is_left new (armed (Stopped ∷ past))) (faults_told (Stopped ∷ past)) ≤ n
-told_stopped b m n old new past uncalled le less was cause used unarmed = rw uncalled (count (armed past) (faults_told past) old new was cause used unarmed)
-  where
-    count : (a : Option ℕ) (f : ℕ) (old new : Option ArmedStop) → b + one_if (is_left old a) f ≤ m → (old ≡ None → Rose m n) → Rose m n ⊎ (new ≡ None) → (old ≡ None → new ≡ None)
-        → b + one_if (is_left new None) (one_if (is_unarmed a) f) ≤ n
-    count (Some i) f None None was cause used unarmed = not_fewer b m n f le was
-    count (Some i) f (Some r) None was cause used unarmed = not_fewer b m n f le was
-    count (Some i) f None (Some s) was cause used unarmed = let none = unarmed refl in absurd cc
-    count (Some i) f (Some r) (Some s) was cause (inl rose) unarmed = one_more b m n f less was rose
-    count (Some i) f (Some r) (Some s) was cause (inr e) unarmed = absurd cc
-    count None f None None was cause used unarmed = one_more b m n f less was (cause refl)
-    count None f None (Some s) was cause used unarmed = let none = unarmed refl in absurd cc
-    count None f (Some r) None was cause used unarmed = not_fewer b m n (suc f) le was
-    count None f (Some r) (Some s) was cause (inl rose) unarmed = one_more b m n (suc f) less was rose
-    count None f (Some r) (Some s) was cause (inr e) unarmed = absurd cc
 
 -- Records that are the run's, with those of one of its transactions changed, are still the run's.
 split_own : (p : CommitRecord → Bool) (id : ℕ) (xs : List CommitRecord) → ((r : CommitRecord) → is_record_of id r ≡ true → p r ≡ true) → each p (of_others id xs) ≡ true → each p xs ≡ true
@@ -146,12 +122,6 @@ counted_calm b m n old new past le unarmed k = record {
     count (Some r) None (Some i) unarmed was = not_fewer b m n (faults_told past) le was
     count (Some r) (Some s) None unarmed was = omega arith
     count (Some r) (Some s) (Some i) unarmed was = not_fewer b m n (faults_told past) le was
-
-pub counted_stopped : (b m n : ℕ) (old new : Option ArmedStop) (past : List Entry) → is_called past ≡ false → m ≤ n → (old ≡ None → Rose m n) → Rose m n ⊎ (new ≡ None) → (old ≡ None → new ≡ None) → AreCounted b m old past → AreCounted b n new (Stopped ∷ past)
-counted_stopped b m n old new past uncalled le cause used unarmed k = record {
-  grows = le_trans k.grows le;
-  told = λ less. told_stopped b m n old new past uncalled le less (k.told (omega arith)) cause used unarmed;
-}
 
 -- What is known of a step of transaction x, which is y after it, over a log that is `to` after it.
 pub record StepsOver {D : Type 0} (faults : D → ℕ) (honest : Bool) (image : D → List ℕ → Type 0) (s : List Line) (x y : TxState) (from to : LogState D) : Type 0 where

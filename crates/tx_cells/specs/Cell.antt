@@ -1,43 +1,28 @@
 -- What lies under a transaction's lock, and what its type keeps.
-use Rattle.std.specs.Prelude.{ℕ, ◌≡◌, ◌⊎◌, Bool, true, false, List, [], Some, None, IsTrue}
+use Rattle.std.specs.Prelude.{ℕ, ◌≡◌, ◌⊎◌, Bool, true, List, Some, IsTrue}
 use Rattle.dtx_values.specs.declared.call.Call.{Call}
 use Rattle.dtx_values.specs.declared.note.Note.{Note}
 use Rattle.dtx_values.specs.declared.note.Reply.{Reply}
 use Rattle.dtx_values.specs.declared.number.ActorNo.{ActorNo}
 use Rattle.dtx_values.specs.declared.number.EnlNo.{EnlNo}
-use Rattle.dtx_values.specs.declared.number.TxNo.{TxNo}
-use Rattle.dtx_values.specs.declared.script.Body.{Body}
-use Rattle.dtx_values.specs.declared.script.Body.TheVariants.{Do as DoLine}
 use Rattle.dtx_values.specs.declared.script.Line.{Line}
-use Rattle.dtx_model.specs.Words.{always, has}
-use Rattle.dtx_model.specs.Grammar.{IsScript, OfTransaction, is_made}
+use Rattle.dtx_model.specs.Words.{always}
+use Rattle.dtx_model.specs.Grammar.{OfTransaction, is_made}
 use Rattle.dtx_model.specs.Plans.{planned}
 use Rattle.dtx_model.specs.Replies.{fits}
 use Rattle.dtx_model.specs.Tied.{tied}
 use Rattle.dtx_model.specs.Caused.{IsCallOf, IsIn, has_object, is_as_planned, plans_of}
 use Rattle.script_calls.specs.Prefix.{IsPrefix}
 use Rattle.script_calls.specs.SeenRow.{SeenRow}
+pub use Rattle.script_calls.specs.Threadable.{IsThreadable, is_do_line}
 use Rattle.tx_world.specs.State.{TxState}
+pub use Rattle.turn_parts.specs.Runs.{untouched}
 
 -- the transaction; for each actor its calls there, and how many of them were entered; and the enlistments whose replies are out: each was asked outside the lock, with this note
 pub record Cell : Type 0 where
   pub tx : TxState
   pub rows : List (SeenRow Call)
   pub out : List (EnlNo × Note)
-
--- a transaction to which nothing came yet
-abbrev pub untouched : TxNo → TxState
-untouched t = record { transaction = t; world = record { calls = []; past = [] }; ours = None; unsure = false; life = 0 }
-
--- the line is a `do`, which is for a replay alone
-abbrev pub is_do_line : Body → Bool
-is_do_line (DoLine t k n) = true
-is_do_line _ = false
-
--- the lines are a script that can run on threads: no line is a `do`
-pub record IsThreadable (s : List Line) : Type 0 where
-  pub script : IsScript s
-  pub free_of_do : has (λ l. is_do_line l.body) s ≡ false
 
 -- What a cell keeps in a run of the script s in which the first k managers have an object, and whose disk tells what it holds where `honest` says so: the script names the transaction, each call that was entered is one that its line
 -- gives the transaction, of each actor's calls there those that were entered are the first ones, in order, and each reply is the planned one, or that of an enlistment whose manager has an object; over an honest disk each restart of the log

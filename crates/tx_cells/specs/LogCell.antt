@@ -1,18 +1,18 @@
 -- What lies under the log's lock, and what its type keeps.
-use Rattle.std.specs.Prelude.{ℕ, ◌+◌, ◌-◌, ◌^◌, ◌==◌, ◌≡◌, ◌<◌, ◌≤◌, Bool, true, false, List, length, Option, Some, None, IsTrue}
+use Rattle.std.specs.Prelude.{ℕ, ◌+◌, ◌^◌, ◌==◌, ◌≡◌, ◌≤◌, Bool, true, false, List, length, IsTrue}
 use Rattle.dtx_values.specs.declared.entry.Entry.{Entry}
 use Rattle.dtx_values.specs.declared.script.Line.{Line}
-use Rattle.dtx_model.specs.AtLog.{armed, faults as faults_told, is_called, is_up_by, one_if}
+use Rattle.dtx_model.specs.AtLog.{is_called, is_up_by}
 use Rattle.dtx_model.specs.Log.{CommitRecord}
 use Rattle.dtx_model.specs.Promotes.{identifier_of}
 use Rattle.dtx_model.specs.Words.{each, has}
 use Rattle.coordinator_log.specs.Slots.{open_records}
 use Rattle.coordinator_log.specs.State.{LogState}
-use Rattle.coordinator_log.specs.declared.stop.ArmedStop.{ArmedStop}
 use Rattle.script_calls.specs.Prefix.{IsLogPrefix}
 use Rattle.script_calls.specs.SeenRow.{SeenRow}
 use Rattle.script_calls.specs.declared.calls.LogCall.{LogCall}
 use Rattle.tx_world.specs.AtLog.{AreFit, AreLogs, AtMostOne}
+pub use Rattle.turn_parts.specs.Counted.{AreCounted, LAST, is_left}
 use Rattle.tx_cells.specs.Board.{transactions_of}
 use Rattle.tx_cells.specs.Cell.{IsThreadable}
 use Rattle.tx_cells.specs.LogAnswers.{is_no_log_answer}
@@ -22,21 +22,6 @@ pub record LogCell (D : Type 0) : Type 0 where
   pub log : LogState D
   pub rows : List (SeenRow LogCall)
   pub past : List Entry
-
--- the last value of a count of faults, which doesn't rise any more
-abbrev pub LAST : ℕ
-LAST = 2 ^ 64 - 1
-
--- a stop is armed at the log that its entries have used up: a fault came in its place
-abbrev pub is_left : Option ArmedStop → Option ℕ → Bool
-is_left (Some s) None = true
-is_left _ _ = false
-
--- The disk's count of faults was `before` at the start and is `now`: the faults that the entries tell of, and one in place of an armed stop that is left over, rose it, unless it is at its last
--- value.
-pub record AreCounted (before now : ℕ) (stop : Option ArmedStop) (past : List Entry) : Type 0 where
-  pub grows : before ≤ now
-  pub told : now < LAST → before + one_if (is_left stop (armed past)) (faults_told past) ≤ now
 
 -- the identifier of a transaction of the run
 abbrev pub is_own : List Line → CommitRecord → Bool

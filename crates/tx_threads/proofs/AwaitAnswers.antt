@@ -22,7 +22,7 @@ use Rattle.dtx_model.specs.Outcome.{is_empty}
 use Rattle.dtx_model.specs.Steps.{pending}
 use Rattle.dtx_model.specs.Words.{latest, put}
 use Rattle.dtx_model.specs.World.{World, answer_at, half}
-use Rattle.outcome_law.proofs.Tests.{eq_self}
+use Rattle.history_table.proofs.Tests.{eq_self}
 use Rattle.script_calls.specs.declared.rows.Due.{Due}
 use Rattle.tx_world.specs.OwnCalls.{DoesAlone}
 use Rattle.tx_cells.specs.Cell.{Cell}

@@ -1,3 +1,1 @@
 pub mod AwaitAnswers
-pub mod Causes
-pub mod Standing

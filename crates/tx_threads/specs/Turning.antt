@@ -1,8 +1,6 @@
--- What a turn came to, and the words for a call that waits.
-use Rattle.std.specs.Prelude.{ℕ, ◌≡◌, ◌⊎◌, ◌==◌, ◌&&◌, ◌||◌, not, Bool, true, false, List, [], ◌++◌, ◌∷◌, Option, Some, None}
+-- The words for a call that waits, and for one that moves the log.
+use Rattle.std.specs.Prelude.{ℕ, ◌==◌, ◌&&◌, ◌||◌, not, Bool, true, false, List, Option, Some, None}
 use Rattle.dtx_values.specs.declared.call.Call.{Call}
-use Rattle.dtx_values.specs.declared.note.Note.{Note}
-use Rattle.dtx_values.specs.declared.number.EnlNo.{EnlNo}
 use Rattle.dtx_values.specs.declared.entry.Entry.{Entry}
 use Rattle.dtx_values.specs.declared.entry.Entry.TheVariants.{Answered}
 use Rattle.dtx_values.specs.declared.script.Body.{Body}
@@ -13,32 +11,8 @@ use Rattle.dtx_model.specs.Steps.{pending}
 use Rattle.dtx_model.specs.Words.{kth}
 use Rattle.coordinator_log.specs.State.{LogState}
 use Rattle.script_calls.specs.declared.rows.Due.{Due}
-use Rattle.tx_world.specs.State.{TxState}
 use Rattle.tx_cells.specs.Cell.{Cell}
-use Rattle.tx_cells.specs.Entering.{IsKthDone}
-use Rattle.tx_cells.specs.Ties.{IsCause}
-use Rattle.tx_cells.specs.Turns.{turn_of, with_tx}
-use Rattle.tx_cells.specs.declared.error.TurnError.{TurnError}
-use Rattle.tx_cells.specs.declared.error.TurnError.TheVariants.{Memory}
-use Rattle.tx_cells.specs.declared.turns.Turn.TheVariants.{Step}
-use Rattle.tx_threads.specs.declared.holds.Came.{Came}
-use Rattle.tx_threads.specs.declared.holds.Came.TheVariants.{Nothing}
-
--- something was done in the turn
-abbrev pub is_turned : Came → Bool
-is_turned Nothing = false
-is_turned _ = true
-
--- the first pending step was done that isn't a reply that is out, and it was no reply
-pub record HasStepped (old new : Cell) : Type 0 where
-  pub place : ℕ
-  pub first : turn_of old ≡ Step place
-  pub done : IsKthDone place old.tx new.tx
-  pub same : new ≡ with_tx new.tx old
-
--- Why a turn in the transaction isn't done that may take the log's lock: memory ran out, or there is a log with which the transaction doesn't tie, and the two are named.
-abbrev pub MayFail : (D : Type 0) → TxState → TurnError → Type 0
-MayFail D x e = (e ≡ Memory) ⊎ (log : LogState D) × IsCause x log e
+pub use Rattle.lent_turns.specs.Turning.{HasStepped, MayFail, is_turned, marked}
 
 -- the log was stopped or opened between the two
 abbrev pub is_other : Bool → Bool → Bool
@@ -47,10 +21,6 @@ is_other false b = b
 
 abbrev pub is_moved : {D : Type 0} → LogState D → LogState D → Bool
 is_moved x y = is_other x.is_up y.is_up || not (x.life == y.life)
-
--- the cell in which the reply of this enlistment to this note is out too
-abbrev pub marked : EnlNo × Note → Cell → Cell
-marked x c = record { tx = c.tx; rows = c.rows; out = c.out ++ x ∷ [] }
 
 -- the entry answers the call of line n
 abbrev pub is_answer_to : ℕ → Entry → Bool

@@ -10,10 +10,8 @@ ghost use Rattle.tx_cells.specs.declared.turns.Turned.{Turned};
 ghost use Rattle.tx_threads.specs.Turning.{is_await_at, is_of_line, is_quiet};
 ghost use Rattle.tx_world.specs.OwnCalls.{DoesAlone};
 
-use crate::holds::{is_of, tell};
-use crate::shared::SharedRun;
-use crate::turning::{begin_turn, end_turn};
 use dtx_values::{ActorNo, Call, Resource, TxNo};
+use lent_turns::{SharedRun, begin_turn, end_turn, is_of, tell};
 use outside::{Disk, Gate};
 use script_calls::Due;
 use std::alloc::Global;

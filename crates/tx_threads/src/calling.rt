@@ -8,12 +8,9 @@ ghost use Rattle.tx_cells.specs.LogEntering.{EntersLog, next_at_log};
 ghost use Rattle.tx_cells.specs.declared.turns.Turned.{Turned};
 ghost use Rattle.tx_threads.specs.Turning.{MayFail, is_answer_to, is_moved, is_other};
 
-use crate::hearing::go_round;
-use crate::holds::{Came, is_of, tell};
-use crate::shared::SharedRun;
-use crate::turning::{begin_turn, end_turn};
 use dtx_values::{ActorNo, Answer, Entry, Resource, TxNo};
 use entry_lists::Entries;
+use lent_turns::{SharedRun, begin_turn, end_turn, go_round, is_of, tell};
 use outside::{Disk, Gate};
 use std::alloc::Global;
 use std::sync::{Mutex, Wait};

@@ -7,10 +7,10 @@ use Rattle.dtx_model.specs.Steps.{Acts, Delivers, LocalAct, Delivery, pending}
 use Rattle.dtx_model.specs.Caused.{HasStepped, IsIn, IsOwnRun}
 use Rattle.coordinator_log.specs.State.{LogState}
 use Rattle.world_laws.specs.Left.{steps_left}
-use Rattle.tx_world.specs.declared.pending.PendingStep.{PendingStep}
-use Rattle.tx_world.specs.declared.pending.PendingStep.TheVariants.{Reply, Act, Coordinate, Deliver}
+use Rattle.world_parts.specs.declared.pending.PendingStep.{PendingStep}
+use Rattle.world_parts.specs.declared.pending.PendingStep.TheVariants.{Reply, Act, Coordinate, Deliver}
 use Rattle.tx_world.specs.OwnCalls.{DoesAlone, DoesKthAlone}
-use Rattle.tx_world.specs.Pending.{is_alone_step, name_of, step_of}
+use Rattle.world_parts.specs.Pending.{is_alone_step, name_of, step_of}
 use Rattle.tx_world.specs.State.{TxState}
 use Rattle.tx_world.specs.Stepping.{DoesKth}
 use Rattle.tx_world.proofs.LeftSteps.{step_nearer}

@@ -17,11 +17,11 @@ use Rattle.dtx_model.specs.Caused.{IsIn, is_begin_sent, is_full_answer, may_coor
 use Rattle.dtx_model.specs.Log.{CommitRecord}
 use Rattle.dtx_model.specs.Tied.{tied}
 use Rattle.dtx_model.proofs.Bools.{and_left, and_right, not_true, or_case, or_false}
-use Rattle.outcome_law.proofs.CoreKnown.{may_log_can}
-use Rattle.outcome_law.proofs.CoreStages.{active_open, recorded_mark}
-use Rattle.outcome_law.proofs.Recording.{can_unstopped}
-use Rattle.outcome_law.proofs.Scans.{each_more}
-use Rattle.outcome_law.proofs.Steady.{run_keeps}
+use Rattle.history_table.proofs.CoreKnown.{may_log_can}
+use Rattle.history_table.proofs.CoreStages.{active_open, recorded_mark}
+use Rattle.history_table.proofs.Recording.{can_unstopped}
+use Rattle.history_table.proofs.Scans.{each_more}
+use Rattle.history_table.proofs.Steady.{run_keeps}
 use Rattle.local_half.specs.Half.{Known}
 use Rattle.coordinator_core.proofs.Causes.{active_then, heard_why}
 use Rattle.coordinator_core.specs.Kept.{Kept as CoreKept}
@@ -37,7 +37,7 @@ use Rattle.tx_world.specs.Prepared.{Names, NamesPrepared}
 use Rattle.tx_world.specs.Tried.{IsTried}
 use Rattle.tx_world.proofs.Begun.{may_write}
 use Rattle.world_laws.proofs.Far.{far_abort, far_commit}
-use Rattle.tx_world.proofs.Keeping.{runs_still, runs_then}
+use Rattle.world_parts.proofs.Keeping.{runs_still, runs_then}
 use Rattle.tx_world.proofs.Living.{own_ours, seen_as}
 use Rattle.tx_world.proofs.FreedRecords.{may_free_can}
 use Rattle.tx_world.proofs.Onward.{core_is, core_transaction, step_kept}

@@ -15,8 +15,8 @@ use Rattle.dtx_model.specs.World.{World, core}
 use Rattle.dtx_model.specs.Steps.{Step, after, block_at, entered}
 use Rattle.dtx_model.specs.Coordinated.{is_recorded}
 use Rattle.dtx_model.specs.Caused.{AreMadeOnce, IsIn, IsOwnRun, MayCome, is_begin_sent}
-use Rattle.outcome_law.proofs.BeginSent.{recorded_begun as begun_if_recorded, stopped_begun as begun_if_stopped}
-use Rattle.outcome_law.proofs.Scans.{has_more}
+use Rattle.history_table.proofs.BeginSent.{recorded_begun as begun_if_recorded, stopped_begun as begun_if_stopped}
+use Rattle.history_table.proofs.Scans.{has_more}
 use Rattle.world_laws.specs.Carried.{are_sendable}
 use Rattle.tx_world.proofs.Onward.{ran_on}
 use Rattle.world_laws.proofs.Sendable.{id_valid, ran_ends}

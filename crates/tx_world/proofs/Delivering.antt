@@ -24,7 +24,7 @@ use Rattle.dtx_model.specs.Caused.{IsIn, IsOwnRun, is_begin_sent}
 use Rattle.dtx_model.proofs.Bools.{and_left, and_right, not_both, not_false, not_true, or_case, or_false}
 use Rattle.dtx_model.proofs.Heeding.{coordinate-onto}
 use Rattle.dtx_model.proofs.Histories.{onto-append}
-use Rattle.outcome_law.proofs.CoreStages.{stopped_same}
+use Rattle.history_table.proofs.CoreStages.{stopped_same}
 use Rattle.oletx_session.specs.declared.session.Delivered.{Delivered}
 use Rattle.oletx_session.specs.declared.session.Delivered.TheVariants.{Msg, End, BadFrame}
 use Rattle.local_half.specs.Half.{Known, after as known_after}
@@ -43,8 +43,7 @@ use Rattle.tx_world.proofs.Onward.{core_is, core_transaction, far_heeds_all, nea
 use Rattle.tx_world.proofs.Written.{Ready, block_of, far_written, near_written, stopped_is}
 use Rattle.dtx_model.proofs.Quiet.{is_lined, sent_has_line}
 use Rattle.dtx_model.proofs.Connections.{same_is, same_way_is}
-use Rattle.outcome_law.proofs.Crossed.{came}
-use Rattle.outcome_law.proofs.Crossed.{is_sent_on}
+use Rattle.history_table.proofs.Crossed.{came, is_sent_on}
 
 -- the message is the first of those on the way
 pub next_first : (m : Message) (ms : List Message) → is_next m ms → (rest : List Message) × (ms ≡ m ∷ rest)

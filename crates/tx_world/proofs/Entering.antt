@@ -32,11 +32,11 @@ use Rattle.dtx_model.specs.Caused.{AreMadeOnce, IsIn, IsOwnRun, MayCome, Ran, is
 use Rattle.dtx_model.proofs.Bools.{and_left, and_right, not_both, not_false, not_true, or_case, or_right, three_hold}
 use Rattle.dtx_model.proofs.Quiet.{Quiet, is_quiet, q_act, q_appended, q_called, q_ended_at, q_freed, q_got_by, q_if, q_reply, q_restarted}
 use Rattle.dtx_model.proofs.Reading.{has-onto}
-use Rattle.outcome_law.proofs.Lists.{of-at}
-use Rattle.outcome_law.proofs.Makers.{IsWaiter, makes_name, ran_made}
-use Rattle.outcome_law.proofs.Rule.{is_cloned}
-use Rattle.outcome_law.proofs.TableRows.{clone_stands, enlisted_in_rows}
-use Rattle.outcome_law.proofs.Tests.{eq_self}
+use Rattle.history_table.proofs.Lists.{of-at}
+use Rattle.history_table.proofs.Makers.{IsWaiter, makes_name, ran_made}
+use Rattle.history_table.proofs.EntryTests.{is_cloned}
+use Rattle.history_table.proofs.TableRows.{clone_stands, enlisted_in_rows}
+use Rattle.history_table.proofs.Tests.{eq_self}
 use Rattle.local_half.specs.Half.{is_free, is_made_by_waiting}
 use Rattle.tx_world.specs.State.{is_maker, is_name, may_enter}
 use Rattle.world_laws.specs.Course.{is_far}

@@ -8,7 +8,7 @@ use Rattle.dtx_values.specs.declared.words.Outcome.{Outcome}
 use Rattle.dtx_model.specs.Answers.{await_answer, if_begun, local_answer}
 use Rattle.dtx_model.specs.Facts.{has_facts}
 use Rattle.dtx_model.specs.World.{World, answer_at, half}
-use Rattle.tx_world.specs.Entering.{is_local, is_near, is_unlinked}
+use Rattle.world_parts.specs.Entering.{is_local, is_near, is_unlinked}
 use Rattle.tx_world.specs.State.{is_linking}
 use Rattle.tx_world.proofs.Calling.{own_local}
 use Rattle.tx_world.proofs.Leaving.{gone_alone}

@@ -29,21 +29,19 @@ use Rattle.dtx_model.specs.Tied.{before_first_stop, can_free, can_log, enlist_go
 use Rattle.dtx_model.specs.Coordinated.{Coordinated, accepts, ballot_of, coordinate, desk_number, desks_after, follow, has_aborted, is_active, is_desk_of, is_finished, is_prepared, is_recorded, is_undecided, may_free, stage_after, unacked, with_ack, with_ballot}
 use Rattle.dtx_model.proofs.Bools.{and_left, and_right, and_both, not_both, not_true, or_case, or_right, or_second}
 use Rattle.coordinator_core.proofs.Causes.{heard_why}
-use Rattle.outcome_law.proofs.Tests.{eq_self, eq_swap, third_of_five}
-use Rattle.outcome_law.proofs.Scans.{has_more}
-use Rattle.outcome_law.proofs.Lists.{has-insert}
-use Rattle.outcome_law.proofs.Rule.{is_enlisted}
-use Rattle.outcome_law.proofs.Table.{is_cast, is_enlist_got, is_opening_got, message_row, stands_volatile}
-use Rattle.outcome_law.proofs.Keeping.{Keeps, keeps_before, newest, newest_tied}
-use Rattle.outcome_law.proofs.Crossed.{is_got_on, is_sent_on, was_sent}
-use Rattle.outcome_law.proofs.Sendings.{from_got, own_info, record_of_mark}
-use Rattle.outcome_law.proofs.Recording.{can_commit, can_live, can_ready, can_unstopped, if_record, live_first, stopped_stop}
-use Rattle.outcome_law.proofs.CoreStages.{active_begun, changed, has_recorded, open_before, recorded_mark, restart_open}
-use Rattle.outcome_law.proofs.CoreKnown.{aborted_there, desk_there, enlist_of, has_made, later_opened, record_seen, work_begun}
-use Rattle.outcome_law.proofs.Recorded.{each_inserted}
-use Rattle.outcome_law.proofs.Managed.{desks_managed, is_enlist_by, is_managed_desk, one_manager, named_sent, names}
-use Rattle.outcome_law.proofs.HalfKnows.{one_tag_more}
-use Rattle.outcome_law.proofs.Desked.{is_prepared_desk}
+use Rattle.history_table.proofs.Tests.{eq_self, eq_swap, third_of_five}
+use Rattle.history_table.proofs.Scans.{has_more}
+use Rattle.history_table.proofs.Lists.{has-insert}
+use Rattle.history_table.proofs.EntryTests.{is_enlisted}
+use Rattle.history_table.proofs.Table.{is_cast, is_enlist_got, is_opening_got, message_row, stands_volatile}
+use Rattle.history_table.proofs.Keeping.{Keeps, keeps_before, newest, newest_tied}
+use Rattle.history_table.proofs.Crossed.{is_got_on, is_sent_on, was_sent}
+use Rattle.history_table.proofs.Sendings.{from_got, own_info, record_of_mark}
+use Rattle.history_table.proofs.Recording.{can_commit, can_live, can_ready, can_unstopped, if_record, live_first, stopped_stop}
+use Rattle.history_table.proofs.CoreStages.{active_begun, changed, has_recorded, open_before, recorded_mark, restart_open}
+use Rattle.history_table.proofs.CoreKnown.{aborted_there, desk_there, enlist_of, has_made, later_opened, record_seen, work_begun}
+use Rattle.history_table.proofs.Managed.{each_inserted, desks_managed, is_enlist_by, is_managed_desk, one_manager, named_sent, names, is_prepared_desk}
+use Rattle.history_table.proofs.HalfKnows.{one_tag_more}
 
 -- An enlistment that said PREPARED said nothing else: it votes once.
 abbrev is_unprepared : ℕ → Entry → Bool

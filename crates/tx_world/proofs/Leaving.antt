@@ -41,10 +41,10 @@ use Rattle.coordinator_core.specs.Kept.{Kept as CoreKept}
 use Rattle.world_laws.specs.Carried.{are_sendable}
 use Rattle.tx_world.specs.Kept.{Kept}
 use Rattle.tx_world.specs.State.{may_enter}
-use Rattle.tx_world.proofs.Calling.{call_heeded}
+use Rattle.world_parts.proofs.LocalCalls.{call_heeded}
 use Rattle.tx_world.proofs.Linking.{Linked, fine_block, linked}
 use Rattle.tx_world.proofs.Onward.{half_is}
-use Rattle.tx_world.specs.Entering.{cut_if, links_cut}
+use Rattle.world_parts.specs.Entering.{cut_if, links_cut}
 
 -- no more messages than entries are on the way
 opened_few : (d : Dir) (m : Message) (b : Bool) → length (opened_with d m b) ≤ 1

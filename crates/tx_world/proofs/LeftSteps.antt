@@ -18,7 +18,7 @@ use Rattle.dtx_model.specs.Words.{kth, onto}
 use Rattle.dtx_model.specs.World.{World, half, has_left}
 use Rattle.dtx_model.proofs.Bools.{and_right, not_true}
 use Rattle.dtx_model.proofs.Quiet.{wire_run}
-use Rattle.outcome_law.proofs.ReplayRuns.{pending_comes}
+use Rattle.history_table.proofs.PendingSteps.{pending_comes}
 use Rattle.world_laws.specs.Left.{steps_left}
 use Rattle.tx_world.specs.State.{sends_begin, turned}
 use Rattle.world_laws.proofs.LeftActs.{act_falls, reply_falls}

@@ -25,7 +25,8 @@ use Rattle.world_laws.specs.Carried.{are_sendable}
 use Rattle.tx_world.specs.Kept.{Kept}
 use Rattle.tx_world.specs.State.{may_enter, sends_begin}
 use Rattle.tx_world.proofs.Begun.{may_write}
-use Rattle.tx_world.proofs.Calling.{call_heeded, call_once, may_come}
+use Rattle.tx_world.proofs.Calling.{call_once, may_come}
+use Rattle.world_parts.proofs.LocalCalls.{call_heeded}
 use Rattle.tx_world.proofs.Onward.{half_is, step_kept}
 use Rattle.dtx_model.specs.Facts.{has_facts}
 

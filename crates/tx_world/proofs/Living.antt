@@ -20,7 +20,7 @@ use Rattle.tx_world.specs.AtLog.{IsOurs, Kept as LogKept}
 use Rattle.tx_world.specs.Kept.{Kept, Whole, stop_if, stopped_if}
 use Rattle.tx_world.specs.Stepping.{DoesAt}
 use Rattle.tx_world.specs.Tried.{IsTried}
-use Rattle.tx_world.proofs.Keeping.{ours_stays, ours_stopped}
+use Rattle.world_parts.proofs.Keeping.{ours_stays, ours_stopped}
 use Rattle.tx_world.proofs.Onward.{core_is}
 use Rattle.tx_world.proofs.StillTied.{block_elsewhere, is_apart}
 use Rattle.tx_world.proofs.Trying.{tied_before, tried_onto, tried_stopped, tried_turned}

@@ -1,6 +1,5 @@
--- What is found among the branches of a manager, and what its calls are answered.
-use Rattle.std.proofs.Common.{ℕ, ◌≡◌, ◌≢◌, ◌∙◌, Bool, true, false, not, ◌&&◌, ◌||◌, List, [], ◌∷◌, filter, Option, Some, None, refl, ap, if◌then◌else◌}
-use Rattle.std.specs.Prelude.{find}
+-- What it is answered that a manager has recovered.
+use Rattle.std.proofs.Common.{ℕ, ◌≡◌, ◌≢◌, ◌∙◌, Bool, true, false, not, Option, Some, None, ap, if◌then◌else◌}
 use Rattle.dtx_values.specs.declared.call.Call.TheVariants.{Recovered}
 use Rattle.dtx_values.specs.declared.entry.Answer.{Answer}
 use Rattle.dtx_values.specs.declared.entry.Answer.TheVariants.{Fine, NoSuch, Over, Stopped}
@@ -10,30 +9,12 @@ use Rattle.dtx_values.specs.Ends.{is_in}
 use Rattle.dtx_model.specs.declared.branch.Branch.{Branch}
 use Rattle.dtx_model.specs.Answers.{if_begun}
 use Rattle.dtx_model.specs.Facts.{has_facts}
-use Rattle.dtx_model.specs.Words.{has}
 use Rattle.dtx_model.specs.World.{World, answer_at, core, half, unless_connected}
 use Rattle.local_half.specs.Half.{Known}
 use Rattle.coordinator_core.specs.Kept.{Kept as CoreKept}
 use Rattle.tx_world.specs.Kept.{Kept}
-use Rattle.tx_world.specs.Managers.{first_link, has_accepted, recovery_answer}
+use Rattle.world_parts.specs.Managers.{first_link, has_accepted, recovery_answer}
 use Rattle.tx_world.proofs.Onward.{core_is, half_is}
-
--- among those that pass one test
-pub has_filter : (p q : Branch → Bool) (xs : List Branch) → has (λ b. q b && p b) xs ≡ has p (filter q xs)
-has_filter p q [] = refl
-has_filter p q (x ∷ xs) = by (has_filter p q xs) (q x)
-  where
-    by : has (λ b. q b && p b) xs ≡ has p (filter q xs) → (c : Bool) → ((c && p x) || has (λ b. q b && p b) xs) ≡ has p (if c then x ∷ filter q xs else filter q xs)
-    by e true = ap (λ v. p x || v) e
-    by e false = e
-
-pub find_filter : (p q : Branch → Bool) (xs : List Branch) → find (λ b. q b && p b) xs ≡ find p (filter q xs)
-find_filter p q [] = refl
-find_filter p q (x ∷ xs) = by (find_filter p q xs) (q x)
-  where
-    by : find (λ b. q b && p b) xs ≡ find p (filter q xs) → (c : Bool) → (if c && p x then Some x else find (λ b. q b && p b) xs) ≡ find p (if c then x ∷ filter q xs else filter q xs)
-    by e true = ap (λ (o : Option Branch). if p x then Some x else o) e
-    by e false = e
 
 -- what a `recovered` is answered
 pub recovered_is : (t : TxNo) (w : World) (h : Known) (k : CoreKept) (u : TxNo) (r : RmNo) (m : ℕ) (a : Answer) → Kept t w h k → a ≡ if_begun h.half.seen.limit (recovery_answer h.half.seen k.state w.past r)

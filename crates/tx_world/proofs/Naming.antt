@@ -2,12 +2,12 @@
 use Rattle.std.proofs.Common.{◌≡◌, ◌∙◌, inl, inr, ℕ, Bool, true, false, ◌&&◌, ◌||◌, not, List, [], ◌∷◌, map, filter, Option, Some, None, is_some, Result, Ok, Err, OnOk, OnErr, refl, ap, sym, subst, if◌then◌else◌}
 use Rattle.dtx_values.specs.RecoveryInfo.{pair_of}
 use Rattle.dtx_values.specs.declared.entry.Entry.{Entry}
-use Rattle.dtx_values.specs.declared.entry.Entry.TheVariants.{Got, Logged, Restarted, Stopped}
+use Rattle.dtx_values.specs.declared.entry.Entry.TheVariants.{Got, Restarted, Stopped}
 use Rattle.dtx_values.specs.declared.message.Conn.{Conn}
 use Rattle.dtx_values.specs.declared.message.Conn.TheVariants.{Enl, Again}
 use Rattle.dtx_values.specs.declared.message.Dir.TheVariants.{Up}
 use Rattle.dtx_values.specs.declared.message.Message.{Message}
-use Rattle.dtx_values.specs.declared.message.Message.TheVariants.{EnlistAck, EnlistEnlist, ReenlistAck, ReenlistCommitted}
+use Rattle.dtx_values.specs.declared.message.Message.TheVariants.{EnlistAck, EnlistEnlist, ReenlistAck}
 use Rattle.dtx_values.specs.declared.number.TxNo.{TxNo}
 use Rattle.dtx_values.specs.Table.{insert_by}
 use Rattle.dtx_model.specs.declared.desk.Desk.{Desk}
@@ -16,65 +16,48 @@ use Rattle.dtx_model.specs.declared.desk.Stage.TheVariants.{Recorded}
 use Rattle.dtx_model.specs.Words.{each, onto}
 use Rattle.dtx_model.specs.Log.{CommitRecord}
 use Rattle.dtx_model.specs.Promotes.{identifier_of}
-use Rattle.dtx_model.specs.Coordinated.{Coordinated, accepts, ballot_of, commit_sends, coordinate, desk_number, desks_after, follow, follow_all, is_active, is_prepared, is_recorded, unacked, with_ack, with_ballot}
+use Rattle.dtx_model.specs.Coordinated.{Coordinated, accepts, ballot_of, coordinate, desk_number, desks_after, follow, is_active, is_prepared, is_recorded, unacked, with_ack, with_ballot}
 use Rattle.dtx_model.specs.Wires.{MayCross, WireRun}
 use Rattle.dtx_model.specs.World.{World, core}
 use Rattle.dtx_model.specs.Steps.{Step, block_at}
 use Rattle.dtx_model.specs.Caused.{IsIn, IsOwnRun}
 use Rattle.dtx_model.proofs.Bools.{and_left, and_right, or_case}
 use Rattle.dtx_model.proofs.Quiet.{wire_run}
-use Rattle.outcome_law.proofs.CoreStages.{stopped_same}
-use Rattle.outcome_law.proofs.Crossed.{nothing_up}
+use Rattle.history_table.proofs.CoreStages.{stopped_same}
+use Rattle.history_table.proofs.Crossed.{nothing_up}
 use Rattle.local_half.specs.Half.{Known}
-use Rattle.coordinator_core.specs.Acting.{record_for}
 use Rattle.coordinator_core.specs.Kept.{Kept as CoreKept}
-use Rattle.coordinator_core.proofs.Following.{after_commit, after_waiting}
 use Rattle.tx_world.specs.AtLog.{IsOurs, Kept as LogKept, Tie, id_of}
 use Rattle.tx_world.specs.Kept.{Whole, stop_if}
 use Rattle.tx_world.specs.OwnCalls.{DoesAlone}
 use Rattle.tx_world.specs.Prepared.{Names, NamesPrepared}
 use Rattle.tx_world.specs.State.{TxState, sends_begin}
 use Rattle.tx_world.specs.Stepping.{DoesAt}
-use Rattle.tx_world.proofs.Keeping.{is_elsewhere, stage_same, stopped_same as stop_same}
+use Rattle.world_parts.proofs.Keeping.{is_elsewhere, stage_same, stopped_same as stop_same}
 use Rattle.tx_world.proofs.Living.{own_ours, seen_as}
 use Rattle.tx_world.proofs.Onward.{turned_past}
 use Rattle.tx_world.proofs.StillTied.{block_elsewhere, is_apart, kept_apart}
 use Rattle.tx_world.proofs.Unlogged.{at_alone}
-
--- the enlistments that said PREPARED, by these desks
-abbrev prepared_in : List Desk → List (ℕ × ℕ)
-prepared_in ds = map (λ d. pair_of (d.manager, d.enlistment)) (filter (λ d. is_prepared d.ballot) ds)
-
-abbrev record_with : ℕ → List (ℕ × ℕ) → Option CommitRecord
-record_with t ps = Some (record { id = identifier_of t; enlistments = ps })
-
--- a coordinator whose desks say the same of them writes the same record
-names_same : (t : ℕ) (o : Option CommitRecord) (k j : Coordinated) → prepared_in j.desks ≡ prepared_in k.desks → Names t o k → Names t o j
-names_same t o k j e n = λ s. n s ∙ ap (λ (ps : List (ℕ × ℕ)). record_with t ps) (sym e)
-
-pub names_none : (t : ℕ) (o : Option CommitRecord) (k : Coordinated) → o ≡ None → Names t o k
-names_none t o k e = λ s. absurd (never (ap (λ (p : Option CommitRecord). is_some p) (sym e) ∙ s))
-  where
-    never : false ≡ true → ⊥
-    never f = absurd cc
+use Rattle.coordinator_core.proofs.Loops.{pairs_of}
+use Rattle.world_parts.proofs.Named.{named_stopped, names_same, record_with}
 
 -- An acknowledgement changes none of them, and a restart that finds the record keeps them.
-acked_prepared : (e : ℕ) (ds : List Desk) → prepared_in (map (with_ack e) ds) ≡ prepared_in ds
+acked_prepared : (e : ℕ) (ds : List Desk) → pairs_of (map (with_ack e) ds) ≡ pairs_of ds
 acked_prepared e [] = refl
 acked_prepared e (d ∷ ds) = by (is_prepared d.ballot) (acked_prepared e ds)
   where
-    by : (b : Bool) → prepared_in (map (with_ack e) ds) ≡ prepared_in ds
+    by : (b : Bool) → pairs_of (map (with_ack e) ds) ≡ pairs_of ds
         → map (λ d. pair_of (d.manager, d.enlistment)) (if b then with_ack e d ∷ filter (λ d. is_prepared d.ballot) (map (with_ack e) ds) else filter (λ d. is_prepared d.ballot) (map (with_ack e) ds))
         ≡ map (λ d. pair_of (d.manager, d.enlistment)) (if b then d ∷ filter (λ d. is_prepared d.ballot) ds else filter (λ d. is_prepared d.ballot) ds)
     by true k = ap (λ (ps : List (ℕ × ℕ)). pair_of (d.manager, d.enlistment) ∷ ps) k
     by false k = k
 
-kept_prepared : (ds : List Desk) → prepared_in (map unacked (filter (λ d. is_prepared d.ballot) ds)) ≡ prepared_in ds
+kept_prepared : (ds : List Desk) → pairs_of (map unacked (filter (λ d. is_prepared d.ballot) ds)) ≡ pairs_of ds
 kept_prepared [] = refl
 kept_prepared (d ∷ ds) = by (is_prepared d.ballot) refl (kept_prepared ds)
   where
-    by : (b : Bool) → is_prepared d.ballot ≡ b → prepared_in (map unacked (filter (λ d. is_prepared d.ballot) ds)) ≡ prepared_in ds
-        → prepared_in (map unacked (if b then d ∷ filter (λ d. is_prepared d.ballot) ds else filter (λ d. is_prepared d.ballot) ds))
+    by : (b : Bool) → is_prepared d.ballot ≡ b → pairs_of (map unacked (filter (λ d. is_prepared d.ballot) ds)) ≡ pairs_of ds
+        → pairs_of (map unacked (if b then d ∷ filter (λ d. is_prepared d.ballot) ds else filter (λ d. is_prepared d.ballot) ds))
         ≡ map (λ d. pair_of (d.manager, d.enlistment)) (if b then d ∷ filter (λ d. is_prepared d.ballot) ds else filter (λ d. is_prepared d.ballot) ds)
     by true q k = rw q (ap (λ (ps : List (ℕ × ℕ)). pair_of (d.manager, d.enlistment) ∷ ps) k)
     by false q k = k
@@ -87,18 +70,18 @@ recorded_idle : (s : Stage) → is_recorded s ≡ true → is_active s ≡ false
 recorded_idle Recorded r = refl
 recorded_idle _ r = absurd cc
 
-not_taken : (b : Bool) (xs ys : List Desk) → b ≡ false → prepared_in (if b then xs else ys) ≡ prepared_in ys
+not_taken : (b : Bool) (xs ys : List Desk) → b ≡ false → pairs_of (if b then xs else ys) ≡ pairs_of ys
 not_taken true xs ys e = absurd cc
 not_taken false xs ys e = refl
 
 -- it heeds no message upward that would change them
 unheeded : (h : List Entry) (e : Conn) (m : Message) (b : Bool) (xs : List Desk) → is_settled (coordinate h) ≡ true → MayCross h (Got e Up m) → (is_active (coordinate h).stage ≡ false → b ≡ false)
-    → prepared_in (if b then xs else (coordinate h).desks) ≡ prepared_in (coordinate h).desks
+    → pairs_of (if b then xs else (coordinate h).desks) ≡ pairs_of (coordinate h).desks
 unheeded h e m b xs s w f =
     or_case (coordinate h).stopped (is_recorded (coordinate h).stage) (λ t. absurd (nothing_up e m h (sym (stopped_same h) ∙ t) w))
     (λ r. not_taken b xs (coordinate h).desks (f (recorded_idle (coordinate h).stage r))) s
 
-one_same : (h : List Entry) (x : Entry) → is_elsewhere x ≡ true → MayCross h x → is_settled (coordinate h) ≡ true → prepared_in (desks_after (coordinate h) x) ≡ prepared_in (coordinate h).desks
+one_same : (h : List Entry) (x : Entry) → is_elsewhere x ≡ true → MayCross h x → is_settled (coordinate h) ≡ true → pairs_of (desks_after (coordinate h) x) ≡ pairs_of (coordinate h).desks
 one_same h (Got (Enl e) Up (EnlistEnlist i)) el w s =
     let k = coordinate h in
     unheeded h (Enl e) (EnlistEnlist i) (accepts k) (insert_by desk_number (record { enlistment = e; manager = i.rm; ballot = None; acked = false }) k.desks) s w (λ n. ap (λ b. b && not k.commit) n)
@@ -115,7 +98,7 @@ wires_before : (h es : List Entry) → WireRun (onto h es) → WireRun h
 wires_before h [] w = w
 wires_before h (x ∷ es) w = (wires_before (x ∷ h) es w).1
 
-all_same : (h es : List Entry) → each is_elsewhere es ≡ true → WireRun (onto h es) → is_settled (coordinate h) ≡ true → prepared_in (coordinate (onto h es)).desks ≡ prepared_in (coordinate h).desks
+all_same : (h es : List Entry) → each is_elsewhere es ≡ true → WireRun (onto h es) → is_settled (coordinate h) ≡ true → pairs_of (coordinate (onto h es)).desks ≡ pairs_of (coordinate h).desks
 unfolding coordinate follow
 all_same h [] el w s = refl
 all_same h (x ∷ es) el w s =
@@ -124,7 +107,7 @@ all_same h (x ∷ es) el w s =
 
 -- nor does a stop after them
 turned_same : (b : Bool) (h es : List Entry) → each is_elsewhere es ≡ true → WireRun (stop_if b (onto h es)) → is_settled (coordinate h) ≡ true
-    → prepared_in (coordinate (stop_if b (onto h es))).desks ≡ prepared_in (coordinate h).desks
+    → pairs_of (coordinate (stop_if b (onto h es))).desks ≡ pairs_of (coordinate h).desks
 unfolding coordinate follow
 turned_same true h es el w s = all_same h es el w.1 s
 turned_same false h es el w s = all_same h es el w s
@@ -141,8 +124,8 @@ kept_settled id k x o s = by k.stopped refl
 names_on : (t : TxNo) (w v : World) (x : LogKept) (b : Bool) (es : List Entry) → IsOurs (identifier_of t.value) (core w) x → WireRun v.past → each is_elsewhere es ≡ true → v.past ≡ stop_if b (onto w.past es)
     → Names t.value x.ours (core w) → Names t.value x.ours (core v)
 names_on t w v x b es o wires el past n = λ s.
-    let same : prepared_in (core v).desks ≡ prepared_in (core w).desks
-    = ap (λ (h : List Entry). prepared_in (coordinate h).desks) past ∙ turned_same b w.past es el (subst (λ (h : List Entry). WireRun h) past wires) (kept_settled (identifier_of t.value) (core w) x o s) in
+    let same : pairs_of (core v).desks ≡ pairs_of (core w).desks
+    = ap (λ (h : List Entry). pairs_of (coordinate h).desks) past ∙ turned_same b w.past es el (subst (λ (h : List Entry). WireRun h) past wires) (kept_settled (identifier_of t.value) (core w) x o s) in
     names_same t.value x.ours (core w) (core v) same n s
 
 -- the same of a transaction as its users see it
@@ -178,23 +161,7 @@ pub named_alone : {t : TxNo} {w v : World} {f g : Known} {k j : CoreKept} (m : S
     → DoesAlone m old (seen_as t v x) → NamesPrepared old → NamesPrepared (seen_as t v x)
 named_alone {t} {w} {v} m x old was is apart seen d n = named_near true 0 m x x old was is apart seen (at_alone true 0 m old (seen_as t v x) d) n
 
--- The coordinator's act keeps the very record that it writes,
-pub named_logged : (t : ℕ) (k : Coordinated) (r : CommitRecord) → r ≡ record_for t k → Names t (Some r) (follow_all k (Logged ∷ commit_sends (follow k Logged)))
-unfolding follow_all follow
-named_logged t k r e = λ s.
-    let j = follow k Logged in
-    let told : (follow_all j (commit_sends j)).desks ≡ k.desks = ap (λ (i : Coordinated). i.desks) (after_commit j ∙ after_waiting j ReenlistCommitted) in
-    names_same t (Some r) k (follow_all j (commit_sends j)) (ap (λ (ds : List Desk). prepared_in ds) told) (λ z. ap (λ (q : CommitRecord). Some q) e) s
-
--- also where it stops;
-pub named_stopped : (t : ℕ) (o : Option CommitRecord) (k : Coordinated) → Names t o k → Names t o (follow k Stopped)
-unfolding follow
-named_stopped t o k n = n
-
-pub named_tried : (t : ℕ) (k : Coordinated) (r : CommitRecord) → r ≡ record_for t k → Names t (Some r) (follow k Stopped)
-named_tried t k r e = named_stopped t (Some r) k (λ s. ap (λ (q : CommitRecord). Some q) e)
-
--- and a restart that finds what is kept keeps it so.
+-- A restart that finds what is kept keeps it so.
 pub named_found : (t : ℕ) (o found : Option CommitRecord) (u : Bool) (k : Coordinated) → Tie o u found → Names t o k → Names t found (follow k (Restarted (is_some found)))
 unfolding follow
 named_found t o None u k tie n = λ s. absurd cc

@@ -15,19 +15,16 @@ use Rattle.dtx_values.specs.declared.number.EnlNo.{EnlNo}
 use Rattle.dtx_values.specs.declared.number.RmNo.{RmNo}
 use Rattle.dtx_values.specs.declared.number.TxNo.{TxNo}
 use Rattle.dtx_model.specs.declared.branch.Branch.{Branch}
-use Rattle.dtx_model.specs.declared.waiting.EnteredCall.{EnteredCall}
 use Rattle.dtx_model.specs.Answers.{if_begun}
 use Rattle.dtx_model.specs.Caused.{is_begin_sent}
 use Rattle.dtx_model.specs.Coordinated.{Coordinated, follow_all}
 use Rattle.dtx_model.specs.Facts.{has_facts}
-use Rattle.dtx_model.specs.Half.{Half, heeds_all}
+use Rattle.dtx_model.specs.Half.{Half}
 use Rattle.dtx_model.specs.Observed.{is_branch}
 use Rattle.dtx_model.specs.Promotes.{identifier_of}
 use Rattle.dtx_model.specs.Steps.{Calls, block_at, entered}
 use Rattle.dtx_model.specs.Words.{each, has, onto, past_of}
 use Rattle.dtx_model.specs.World.{World, answer_at, core, half, is_connected, is_finished_there, reenlist_answer, reenlist_by, reenlist_facts}
-use Rattle.dtx_model.proofs.Heeding.{heeds_all_same}
-use Rattle.dtx_model.proofs.Quiet.{Quiet}
 use Rattle.dtx_model.proofs.Writes.{Each, e_cons}
 use Rattle.local_half.specs.Half.{Known, after as known_after}
 use Rattle.coordinator_core.specs.Kept.{Kept as CoreKept}
@@ -37,11 +34,10 @@ use Rattle.world_laws.specs.Carried.{are_sendable}
 use Rattle.world_laws.specs.Course.{is_near, is_written}
 use Rattle.world_laws.proofs.Near.{near_reenlist}
 use Rattle.world_laws.proofs.Sendable.{id_valid}
-use Rattle.tx_world.specs.Entering.{return_block}
+use Rattle.world_parts.specs.Entering.{return_block}
 use Rattle.tx_world.specs.Kept.{Kept}
-use Rattle.tx_world.specs.Managers.{returned}
+use Rattle.world_parts.specs.Managers.{returned}
 use Rattle.tx_world.specs.State.{may_enter}
-use Rattle.tx_world.proofs.Calling.{call_heeded}
 use Rattle.tx_world.proofs.Linking.{Linked, fine_block, linked}
 use Rattle.tx_world.proofs.Onward.{half_is, near_follow_all}
 use Rattle.tx_world.proofs.Written.{block_of, near_written}
@@ -127,27 +123,12 @@ fine_accepted t w h k e m kept fine =
     ap (λ (g : Half). has (λ b. is_branch e.value b && b.enlisted) g.seen.branches) (half_is t w h k kept) ∙ accepted e.value w (half w).seen.limit (half w).seen.branches fine
 
 -- What it writes.
-quiet_return : (t : ℕ) (o : Option Branch) → Quiet (reenlist_facts t o)
-quiet_return t None = record { proof = refl }
-quiet_return t (Some b) = record { proof = refl }
-
 silent_return : (t : ℕ) (n : ℕ) (a : ActorNo) (o : Option Branch) → has is_begin_sent (Called n a Fine ∷ reenlist_facts t o) ≡ false
 silent_return t n a None = refl
 silent_return t n a (Some b) = refl
 
 near_return : (t : ℕ) (h : Half) (n : ℕ) (a : ActorNo) (e : EnlNo) → Each is_near (return_block t h n a e)
 near_return t h n a e = e_cons (Called n a Fine) refl (near_reenlist t (find (is_branch e.value) h.seen.branches))
-
--- what the local side knows after it
-pub return_known : (h : Known) (n : ℕ) (a : ActorNo) (e : EnlNo) (m : ℕ)
-    → known_after [] h (reenlist_facts h.transaction.value (find (is_branch e.value) h.half.seen.branches)) ≡ known_after (entered (Calls n a (Reenlist e) m) []) h (return_block h.transaction.value h.half n a e)
-unfolding heeds_all
-return_known h n a e m =
-    let mine : List EnteredCall = record { line = n; actor = a; call = Reenlist e } ∷ [] in
-    let o = find (is_branch e.value) h.half.seen.branches in
-    let es = reenlist_facts h.transaction.value o in
-    ap (λ (g : Half). record { transaction = h.transaction; half = g }) (sym (heeds_all_same mine h.half es (quiet_return h.transaction.value o)))
-    ∙ ap (λ (g : Half). record { transaction = h.transaction; half = heeds_all mine g es }) (sym (call_heeded h.half n a (Reenlist e) Fine refl refl))
 
 reenlist_same : (t : ℕ) (w : World) (e : EnlNo) (m : ℕ) → answer_at t w (Reenlist e) m ≡ answer_at t w (Reenlist e) 0
 unfolding answer_at

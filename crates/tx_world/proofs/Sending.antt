@@ -24,7 +24,7 @@ use Rattle.local_half.specs.Half.{Follows, Known}
 use Rattle.coordinator_core.specs.Kept.{Kept as CoreKept}
 use Rattle.world_laws.specs.Course.{Course}
 use Rattle.tx_world.specs.Kept.{Kept}
-use Rattle.tx_world.specs.Sending.{MayWrite, is_sent, may_promote}
+use Rattle.world_parts.specs.Sending.{MayWrite, is_sent, may_promote}
 use Rattle.tx_world.proofs.Entering.{has_none}
 use Rattle.tx_world.proofs.Onward.{half_is}
 use Rattle.tx_world.proofs.Written.{Ready}

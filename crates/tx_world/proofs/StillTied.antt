@@ -30,13 +30,13 @@ use Rattle.dtx_model.specs.Caused.{IsNamed}
 use Rattle.dtx_model.proofs.Bools.{and_both, and_left, and_right}
 use Rattle.dtx_model.proofs.Writes.{Each, e_cons, e_one, IsClosed, each_closed, Source, ByCall, ByReply, ByMessage, ByAct, writes, is_outcome_message}
 use Rattle.dtx_model.proofs.Blocks.{of_act, of_arrived, of_called, of_commit_sent, of_core_down, of_core_got, of_local_down, of_reply}
-use Rattle.outcome_law.proofs.Scans.{each_more}
-use Rattle.outcome_law.proofs.QuietBlocks.{is_quiet, q_coordinates}
+use Rattle.history_table.proofs.Scans.{each_more}
+use Rattle.history_table.proofs.QuietBlocks.{is_quiet, q_coordinates}
 use Rattle.std.specs.Prelude.{is_some}
 use Rattle.coordinator_log.specs.State.{LogState}
 use Rattle.tx_world.specs.State.{TxState, sends_begin, turned}
 use Rattle.tx_world.specs.Stepping.{DoesKth, IsKeptAfter, Stepped}
-use Rattle.tx_world.proofs.Keeping.{is_elsewhere}
+use Rattle.world_parts.proofs.Keeping.{is_elsewhere}
 
 -- the blocks of calls, replies, deliveries and the local act have no entry of the log
 elsewhere : IsClosed (λ ws es. Each is_elsewhere es)

@@ -8,13 +8,13 @@ use Rattle.dtx_model.specs.Log.{CommitRecord}
 use Rattle.dtx_model.specs.Tied.{before_first_stop, before_last_stop, can_free, can_log, has_mark, is_stop, is_tied, is_unmarked, mark_of, tied}
 use Rattle.dtx_model.specs.Coordinated.{coordinate, follow, is_undecided}
 use Rattle.dtx_model.proofs.Bools.{and_both, and_left, and_right, not_both, or_right}
-use Rattle.outcome_law.proofs.CoreStages.{open_before, recorded_mark, restart_open, stopped_same}
-use Rattle.outcome_law.proofs.Recording.{first_none, first_some, stopped_stop}
-use Rattle.outcome_law.proofs.Steady.{tied_under}
+use Rattle.history_table.proofs.CoreStages.{open_before, recorded_mark, restart_open, stopped_same}
+use Rattle.history_table.proofs.Recording.{first_none, first_some, stopped_stop}
+use Rattle.history_table.proofs.Steady.{tied_under}
 use Rattle.tx_world.specs.AtLog.{IsOurs, Kept, Tie}
 use Rattle.tx_world.specs.Kept.{stop_if}
 use Rattle.tx_world.specs.Tried.{IsTried}
-use Rattle.tx_world.proofs.Keeping.{is_elsewhere}
+use Rattle.world_parts.proofs.Keeping.{is_elsewhere}
 
 -- what a coordinator keeps that runs: a record exactly where there is one, and nothing is unsure
 pub record IsSure (h : List Entry) (x : Kept) : Type 0 where

@@ -20,8 +20,8 @@ use Rattle.dtx_model.specs.World.{World, half}
 use Rattle.dtx_model.specs.Steps.{Step, Replies, Acts, after, block_at, entered}
 use Rattle.dtx_model.specs.Caused.{AreMadeOnce, IsIn, MayCome, is_begin_sent}
 use Rattle.dtx_model.proofs.Bools.{not_true}
-use Rattle.outcome_law.proofs.CoreStages.{stopped_same}
-use Rattle.outcome_law.proofs.Scans.{each_more}
+use Rattle.history_table.proofs.CoreStages.{stopped_same}
+use Rattle.history_table.proofs.Scans.{each_more}
 use Rattle.local_half.specs.Half.{Known, after as known_after, fits_due}
 use Rattle.coordinator_core.specs.Kept.{Kept as CoreKept}
 use Rattle.tx_world.specs.State.{TxState, sends_begin, turned}

@@ -1,15 +1,13 @@
 -- What holds of each world.
-use Rattle.std.specs.Prelude.{◌≡◌, Bool, true, false, List, ◌∷◌}
-use Rattle.dtx_values.specs.declared.entry.Entry.{Entry}
-use Rattle.dtx_values.specs.declared.entry.Entry.TheVariants.{Stopped}
+use Rattle.std.specs.Prelude.{◌≡◌, true}
 use Rattle.dtx_values.specs.declared.number.TxNo.{TxNo}
-use Rattle.dtx_model.specs.Coordinated.{follow}
 use Rattle.dtx_model.specs.Promotes.{identifier_of}
 use Rattle.dtx_model.specs.Tied.{tied}
 use Rattle.dtx_model.specs.World.{World, half, core}
 use Rattle.dtx_model.specs.Caused.{AreMadeOnce, IsIn, IsOwnRun}
 use Rattle.local_half.specs.Half.{Known}
 use Rattle.coordinator_core.specs.Kept.{Kept as CoreKept}
+pub use Rattle.world_parts.specs.Stopping.{stop_if, stopped_if}
 use Rattle.tx_world.specs.AtLog.{IsOurs, Kept as LogKept}
 use Rattle.tx_world.specs.Tried.{IsTried}
 
@@ -26,13 +24,3 @@ pub record Whole (t : TxNo) (w : World) (h : Known) (k : CoreKept) (x : LogKept)
   pub kept : Kept t w h k
   pub ours : IsOurs (identifier_of k.transaction.value) k.state x
   pub tried : tied w.past ≡ true → IsTried w.past x
-
--- the coordinator, where it stops
-abbrev pub stopped_if : Bool → CoreKept → CoreKept
-stopped_if true k = record { transaction = k.transaction; state = follow k.state Stopped }
-stopped_if false k = k
-
--- the history, where the stop is written
-abbrev pub stop_if : Bool → List Entry → List Entry
-stop_if true past = Stopped ∷ past
-stop_if false past = past

@@ -3,12 +3,12 @@ pub mod AtLog
 pub mod Tried
 pub mod Stepping
 pub mod Kept
-pub mod Pending
-pub mod Entering
-pub mod Names
-pub mod Managers
 pub mod OwnCalls
 pub mod Prepared
 pub mod Leaves
 pub mod Recorded
-pub mod Sending
+pub use Rattle.world_parts.specs.Entering
+pub use Rattle.world_parts.specs.Managers
+pub use Rattle.world_parts.specs.Names
+pub use Rattle.world_parts.specs.Pending
+pub use Rattle.world_parts.specs.Sending

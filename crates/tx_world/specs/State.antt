@@ -1,14 +1,14 @@
 -- The world of one transaction, as its users see it, and what a call and a stop make of it.
-use Rattle.std.specs.Prelude.{ℕ, ◌==◌, ◌&&◌, not, nat_le, Bool, true, false, Option, Some, None, if◌then◌else◌}
+use Rattle.std.specs.Prelude.{ℕ, ◌==◌, ◌&&◌, not, nat_le, Bool, true, false, Option, if◌then◌else◌}
 use Rattle.dtx_values.specs.declared.call.Call.{Call}
 use Rattle.dtx_values.specs.declared.call.Call.TheVariants.{Lose, Gone, Reenlist, Recovered}
 use Rattle.dtx_values.specs.declared.number.TxNo.{TxNo}
 use Rattle.dtx_model.specs.Words.{has}
-use Rattle.dtx_model.specs.Grammar.{Name, OfEnlistment, OfClone}
 use Rattle.dtx_model.specs.Log.{CommitRecord}
 use Rattle.dtx_model.specs.World.{World, core}
 use Rattle.dtx_model.specs.Steps.{Step, Stops, after, block_at}
 use Rattle.dtx_model.specs.Caused.{is_begin_sent, made_by}
+pub use Rattle.world_parts.specs.Names.{is_maker, is_name}
 
 -- The transaction; the calls that it was given, and its history; the record of the commit that its coordinator appended, or tried to append when the log was
 -- stopped, as long as it wasn't freed and no restart found none; whether the log was stopped under an append or a free of it, and wasn't opened again since;
@@ -31,16 +31,6 @@ turned is_up t w m = if sends_begin t w m && not is_up then after t (after t w m
 -- the life of the coordinator after a step: it begins to live where BEGIN is sent
 abbrev pub life_after : ℕ → ℕ → World → Step → ℕ → ℕ
 life_after log_life t w m life = if sends_begin t w m then log_life else life
-
--- the call makes this name
-abbrev pub is_name : Name → Option Name → Bool
-is_name (OfEnlistment e) (Some (OfEnlistment f)) = e == f
-is_name (OfClone c) (Some (OfClone d)) = c == d
-is_name _ _ = false
-
-abbrev pub is_maker : Option Name → Call → Bool
-is_maker (Some x) c = is_name x (made_by c)
-is_maker None c = false
 
 -- the call of this line may be entered: no call of the line was, and none that makes the same enlistment or the same clone
 abbrev pub may_enter : World → ℕ → Call → Bool

@@ -22,8 +22,6 @@ ghost use Rattle.tx_world.specs.Stepping.{Does, DoesKth, Settles, needs_log, rep
 ghost use Rattle.tx_world.specs.Tried.{IsTried};
 ghost use Rattle.tx_world.specs.Prepared.{NamesPrepared};
 
-use crate::at_log::AtLog;
-use crate::history::History;
 use crate::refusal::WorldError;
 use coordinator_core::Core;
 use coordinator_log::Log;
@@ -34,6 +32,7 @@ use local_half::{LocalHalf, Right};
 use outside::Disk;
 use std::alloc::Global;
 use std::marker::Model;
+use world_parts::{AtLog, History};
 
 mod alone;
 mod at_the_log;

@@ -39,23 +39,24 @@ use Rattle.dtx_model.specs.World.{World, half, core, answer_at, facts_at}
 use Rattle.dtx_model.proofs.Bools.{and_left, and_right, not_both, not_true, or_first, or_right, or_second}
 use Rattle.dtx_model.proofs.Counts.{how_many-insert_by}
 use Rattle.dtx_model.proofs.Heeding.{fresh}
-use Rattle.local_half.proofs.Lists.{not_counted}
-use Rattle.outcome_law.proofs.DecidingBlocks.{kept_act, kept_begin_promotion, kept_called, kept_coordinates, kept_reply, kept_restarted}
-use Rattle.outcome_law.proofs.Lists.{OfEach, has-insert}
-use Rattle.outcome_law.proofs.Makers.{IsWaiter, ran_made}
-use Rattle.outcome_law.proofs.Owned.{decision_seen}
-use Rattle.outcome_law.proofs.PlainBlocks.{plain_act, plain_begin_promotion, plain_called, plain_coordinates, plain_reply, plain_restarted}
-use Rattle.outcome_law.proofs.Waiters.{own_call}
+use Rattle.half_parts.proofs.Lists.{not_counted}
+use Rattle.history_table.proofs.DecidingBlocks.{kept_act, kept_begin_promotion, kept_called, kept_coordinates, kept_reply, kept_restarted}
+use Rattle.history_table.proofs.Lists.{OfEach, has-insert}
+use Rattle.history_table.proofs.Makers.{IsWaiter}
+use Rattle.history_table.proofs.Makers.{ran_made}
+use Rattle.history_table.proofs.Owned.{decision_seen}
+use Rattle.history_table.proofs.PlainBlocks.{plain_act, plain_begin_promotion, plain_called, plain_coordinates, plain_reply, plain_restarted}
+use Rattle.history_table.proofs.Waiters.{own_call}
 use Rattle.world_laws.proofs.FewBranches.{Roomy, block_roomy, called_roomy, gentle_roomy, none_roomy, row_roomy, sent_roomy}
 use Rattle.local_half.specs.Linked.{AreLinked}
-use Rattle.outcome_law.proofs.Tests.{eq_self}
+use Rattle.history_table.proofs.Tests.{eq_self}
 use Rattle.world_laws.proofs.Sendable.{ran_ends}
 use Rattle.world_laws.proofs.SendingCalls.{unstarted}
 use Rattle.dtx_values.specs.RecoveryInfo.{is_id}
 use Rattle.world_laws.proofs.FewRuns.{IsIdle, delivered_roomy, durable_done, room_of, roomy_if, step_idle}
-use Rattle.outcome_law.proofs.Handovers.{option_volatile}
-use Rattle.outcome_law.proofs.WorldCalls.{done_behind}
-use Rattle.outcome_law.proofs.OneBegin.{owns_alone}
+use Rattle.history_table.proofs.Makers.{option_volatile}
+use Rattle.history_table.proofs.WorldCalls.{done_behind}
+use Rattle.history_table.proofs.ToPromote.{owns_alone}
 
 no : false ≡ true → ⊥
 no e = absurd cc

@@ -39,22 +39,22 @@ use Rattle.dtx_model.specs.Words.{each, has, onto}
 use Rattle.dtx_model.proofs.Bools.{and_left, and_right, not_both, or_case, or_right, or_second}
 use Rattle.dtx_model.proofs.Counts.{how_many-insert_by, how_many-map}
 use Rattle.dtx_model.proofs.Reading.{has-onto}
-use Rattle.local_half.specs.declared.branches.BranchChange.TheVariants.{Enlisted as IsEnlisted, Aborted as IsAborted, Acked as IsAcked, Due}
+use Rattle.half_parts.specs.declared.branches.BranchChange.TheVariants.{Enlisted as IsEnlisted, Aborted as IsAborted, Acked as IsAcked, Due}
 use Rattle.local_half.specs.Linked.{AreLinked, is_held}
 use Rattle.local_half.specs.Waits.{without}
-use Rattle.local_half.proofs.Links.{links-answered, links-changed, links-held, links-row, links-wait, links-branched}
-use Rattle.local_half.proofs.Lists.{how_many-filter-le}
-use Rattle.local_half.proofs.Rows.{lasts-mark, lasts-more, lasts-new, lasts-vote}
-use Rattle.outcome_law.proofs.Coming.{keep_place, same_wants}
-use Rattle.outcome_law.proofs.DecidingBlocks.{Keeps, is_kept}
-use Rattle.outcome_law.proofs.Lists.{OfEach}
-use Rattle.outcome_law.proofs.Makers.{IsWaiter, of-filter, of-found, place_number}
-use Rattle.outcome_law.proofs.Messages.{ENLIST}
-use Rattle.outcome_law.proofs.Owned.{has_filter}
-use Rattle.outcome_law.proofs.PlainBlocks.{Plain, is_plain}
-use Rattle.outcome_law.proofs.Scans.{each_both}
-use Rattle.outcome_law.proofs.Tests.{eq_self}
-use Rattle.outcome_law.proofs.CameOnce.{is_unopening}
+use Rattle.half_parts.proofs.Links.{links-answered, links-changed, links-held, links-row, links-wait, links-branched}
+use Rattle.half_parts.proofs.Lists.{how_many-filter-le}
+use Rattle.half_parts.proofs.Rows.{lasts-mark, lasts-more, lasts-new, lasts-vote}
+use Rattle.history_table.proofs.Makers.{keep_place, same_wants}
+use Rattle.history_table.proofs.DecidingBlocks.{Keeps, is_kept}
+use Rattle.history_table.proofs.Lists.{OfEach}
+use Rattle.history_table.proofs.Makers.{IsWaiter, of-filter, of-found, place_number}
+use Rattle.history_table.proofs.Messages.{ENLIST}
+use Rattle.history_table.proofs.Owned.{has_filter}
+use Rattle.history_table.proofs.PlainBlocks.{Plain, is_plain}
+use Rattle.history_table.proofs.Scans.{each_both}
+use Rattle.history_table.proofs.Tests.{eq_self}
+use Rattle.history_table.proofs.CameOnce.{is_unopening}
 
 no : false ≡ true → ⊥
 no e = absurd cc

@@ -22,13 +22,13 @@ use Rattle.dtx_model.specs.Wires.{WireRun, in_transit, is_next, is_open_wire, is
 use Rattle.dtx_model.specs.Words.{each, has}
 use Rattle.dtx_model.proofs.Bools.{and_both, and_left, and_right, not_both, or_case, or_right}
 use Rattle.dtx_model.proofs.Counts.{how_many-insert_by, how_many-map}
-use Rattle.local_half.proofs.Lists.{how_many-all, how_many-filter-le, not_counted, picked, spread}
+use Rattle.half_parts.proofs.Lists.{how_many-all, how_many-filter-le, not_counted, picked, spread}
 use Rattle.dtx_model.proofs.Connections.{same_is}
-use Rattle.outcome_law.proofs.Leading.{opening_was_sent}
-use Rattle.outcome_law.proofs.Lists.{has-insert}
-use Rattle.outcome_law.proofs.Scans.{has_more}
-use Rattle.outcome_law.proofs.Table.{is_opening_got}
-use Rattle.outcome_law.proofs.Tests.{eq_self, eq_swap}
+use Rattle.history_table.proofs.Leading.{opening_was_sent}
+use Rattle.history_table.proofs.Lists.{has-insert}
+use Rattle.history_table.proofs.Scans.{has_more}
+use Rattle.history_table.proofs.Table.{is_opening_got}
+use Rattle.history_table.proofs.Tests.{eq_self, eq_swap}
 use Rattle.world_laws.proofs.SendingOpened.{Opened, branch_stays}
 
 no : false ≡ true → ⊥

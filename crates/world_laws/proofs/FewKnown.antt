@@ -24,14 +24,14 @@ use Rattle.dtx_model.proofs.Bools.{and_both, and_left, and_right, or_case, or_ri
 use Rattle.dtx_model.proofs.Counts.{how_many-insert_by}
 use Rattle.coordinator_core.specs.Kept.{IsFew}
 use Rattle.local_half.specs.Linked.{AreLinked, is_of_branch}
-use Rattle.local_half.proofs.Links.{ends_few}
-use Rattle.local_half.proofs.Lists.{how_many-filter-le, how_many-filter-none}
+use Rattle.half_parts.proofs.Links.{ends_few}
+use Rattle.half_parts.proofs.Lists.{how_many-filter-le, how_many-filter-none}
 use Rattle.dtx_model.proofs.Connections.{same_is, same_self}
-use Rattle.outcome_law.proofs.Leading.{opening_was_sent}
-use Rattle.outcome_law.proofs.Lists.{has-insert}
-use Rattle.outcome_law.proofs.Owned.{has_filter}
-use Rattle.outcome_law.proofs.Scans.{has_more}
-use Rattle.outcome_law.proofs.Table.{is_opening_got}
+use Rattle.history_table.proofs.Leading.{opening_was_sent}
+use Rattle.history_table.proofs.Lists.{has-insert}
+use Rattle.history_table.proofs.Owned.{has_filter}
+use Rattle.history_table.proofs.Scans.{has_more}
+use Rattle.history_table.proofs.Table.{is_opening_got}
 use Rattle.world_laws.proofs.FewBranches.{Roomy}
 use Rattle.world_laws.proofs.FewDesks.{desks_few, each_by, opened_there, within}
 use Rattle.world_laws.proofs.SendingOpened.{Opened}

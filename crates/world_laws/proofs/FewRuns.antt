@@ -51,15 +51,15 @@ use Rattle.dtx_model.proofs.Heeding.{fresh}
 use Rattle.dtx_model.proofs.Quiet.{Quiet, is_quiet, q_act, q_called, q_appended, q_ended_at, q_freed, q_got_by, q_if, q_one, q_reply, q_restarted}
 use Rattle.dtx_model.proofs.Reading.{has-onto}
 use Rattle.local_half.specs.Linked.{is_held}
-use Rattle.local_half.proofs.Lists.{how_many-filter-le}
-use Rattle.local_half.proofs.Waiters.{found_number}
-use Rattle.outcome_law.proofs.DecidingBlocks.{kept_arrived, kept_core_got, kept_ended_at}
-use Rattle.outcome_law.proofs.HalfKnows.{way_seen}
-use Rattle.outcome_law.proofs.Lists.{OfEach, of-more}
-use Rattle.outcome_law.proofs.Makers.{IsWaiter, waiter_more}
-use Rattle.outcome_law.proofs.Owned.{decision_seen}
-use Rattle.outcome_law.proofs.PlainBlocks.{plain_arrived, plain_core_got, plain_ended_at}
-use Rattle.outcome_law.proofs.Waiters.{own_call}
+use Rattle.half_parts.proofs.Lists.{how_many-filter-le}
+use Rattle.half_parts.proofs.Waiters.{found_number}
+use Rattle.history_table.proofs.DecidingBlocks.{kept_arrived, kept_core_got, kept_ended_at}
+use Rattle.history_table.proofs.HalfKnows.{way_seen}
+use Rattle.history_table.proofs.Lists.{OfEach, of-more}
+use Rattle.history_table.proofs.Makers.{IsWaiter, waiter_more}
+use Rattle.history_table.proofs.Owned.{decision_seen}
+use Rattle.history_table.proofs.PlainBlocks.{plain_arrived, plain_core_got, plain_ended_at}
+use Rattle.history_table.proofs.Waiters.{own_call}
 use Rattle.world_laws.proofs.FewBranches.{Roomy, block_roomy, gentle_roomy, given_roomy, placed_roomy, sent_roomy}
 
 no : false ≡ true → ⊥

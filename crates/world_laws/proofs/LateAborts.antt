@@ -23,20 +23,19 @@ use Rattle.dtx_model.specs.Promotes.{ends_told, is_begun_got, is_promoting, is_r
 use Rattle.dtx_model.specs.Tied.{before_first_stop, can_log, is_stop}
 use Rattle.dtx_model.specs.Wires.{begins_ended, ended_after, ends, is_ended, lost_since, opens}
 use Rattle.dtx_model.proofs.Bools.{and_left, and_right, not_both, not_true, or_case, or_false, or_right}
-use Rattle.outcome_law.specs.Appended.{is_abort_decision, stopped_at_append}
-use Rattle.outcome_law.proofs.Tests.{fourth_of_four, third_of_four}
-use Rattle.outcome_law.proofs.Scans.{has_more}
-use Rattle.outcome_law.proofs.Table.{but_failed, ends_called_off, is_enlist_got, is_lost_there, is_of_conn, is_opening_got, is_there, is_volatile_conn, message_row, rule}
-use Rattle.outcome_law.proofs.Keeping.{Keeps, arrived, earlier, keeps_before, newest}
-use Rattle.outcome_law.proofs.Crossed.{got_sent, is_sent_on}
+use Rattle.history_table.specs.Appended.{is_abort_decision, stopped_at_append}
+use Rattle.history_table.proofs.Tests.{fourth_of_four, third_of_four}
+use Rattle.history_table.proofs.Scans.{has_more}
+use Rattle.history_table.proofs.Table.{but_failed, ends_called_off, is_enlist_got, is_lost_there, is_of_conn, is_opening_got, is_there, is_volatile_conn, message_row, rule}
+use Rattle.history_table.proofs.Keeping.{Keeps, arrived, earlier, keeps_before, newest}
+use Rattle.history_table.proofs.Crossed.{got_sent, is_sent_on}
 use Rattle.dtx_model.proofs.Connections.{same_is}
-use Rattle.outcome_law.proofs.Sendings.{abort_of, aborted_more, is_abort_message, sent_row}
-use Rattle.outcome_law.proofs.Recording.{came_voted_at, came_voted_stays, can_commit, can_live, can_yes, first_none, first_some, from_first, keeps_first, yes_at}
-use Rattle.outcome_law.proofs.Evident.{good_voted}
-use Rattle.outcome_law.proofs.Aborting.{decided_off}
-use Rattle.outcome_law.proofs.Appending.{abort_latest, barred_unable}
-use Rattle.outcome_law.proofs.CoreKnown.{got_opened, sent_opened_there}
-use Rattle.outcome_law.proofs.Standing.{opened_if_got}
+use Rattle.history_table.proofs.Sendings.{abort_of, aborted_more, is_abort_message, sent_row}
+use Rattle.history_table.proofs.Recording.{came_voted_at, came_voted_stays, can_commit, can_live, can_yes, first_none, first_some, from_first, keeps_first, yes_at}
+use Rattle.history_table.proofs.Evident.{good_voted}
+use Rattle.history_table.proofs.Aborting.{decided_off, abort_latest, barred_unable}
+use Rattle.history_table.proofs.CoreKnown.{got_opened, sent_opened_there}
+use Rattle.history_table.proofs.Standing.{opened_if_got}
 use Rattle.world_laws.specs.Carried.{are_sendable, is_sendable}
 use Rattle.world_laws.proofs.SendingApt.{can_send}
 

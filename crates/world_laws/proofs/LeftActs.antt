@@ -36,7 +36,7 @@ use Rattle.dtx_model.specs.Outcome.{is_empty}
 use Rattle.dtx_model.specs.Replies.{ack_on, conn_due, due_conn, due_of, fits, is_volatile_row, may_still_vote, note_of_conn, note_of_row, owes_outcome, owes_promotion, owes_request, owes_vote, owner_entries, promote_entries, reply_entries, request_message, request_of, row_note, vote_message, voted_by}
 use Rattle.dtx_model.specs.Words.{has, onto, or_else}
 use Rattle.dtx_model.proofs.Bools.{and_both, and_left, and_right, not_true}
-use Rattle.outcome_law.proofs.Tests.{eq_self, second_of_four, second_of_three}
+use Rattle.history_table.proofs.Tests.{eq_self, second_of_four, second_of_three}
 use Rattle.world_laws.specs.Left.{unmarked, untold, unvoted}
 use Rattle.world_laws.proofs.LeftCounts.{find-passes, has-found}
 use Rattle.world_laws.proofs.LeftHalf.{client-half, decided-half, handed-half, promote-half, replied-half, requested-half, sealed-half, single-half, yes-half}

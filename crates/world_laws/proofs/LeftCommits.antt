@@ -29,13 +29,13 @@ use Rattle.dtx_model.specs.Wires.{WireRun, in_transit}
 use Rattle.dtx_model.specs.Words.{each, has, onto}
 use Rattle.dtx_model.specs.World.{World, answer_at, core, facts_at, half}
 use Rattle.dtx_model.proofs.Bools.{and_both, and_left, and_right, not_true}
-use Rattle.outcome_law.proofs.BareBlocks.{Bare, Requests, Seals, act_kind, bare_appended, bare_called, bare_cons, bare_core_got, bare_ended_at, bare_freed, bare_if, bare_local_got, bare_one, bare_restarted, is_bare, reply_kind}
-use Rattle.outcome_law.proofs.Messages.{COMMIT}
-use Rattle.outcome_law.proofs.Crossed.{is_got_on}
-use Rattle.outcome_law.proofs.InTransit.{no_more}
+use Rattle.history_table.proofs.BareBlocks.{Bare, Requests, Seals, act_kind, bare_appended, bare_called, bare_cons, bare_core_got, bare_ended_at, bare_freed, bare_if, bare_local_got, bare_one, bare_restarted, is_bare, reply_kind}
+use Rattle.history_table.proofs.Messages.{COMMIT}
+use Rattle.history_table.proofs.Crossed.{is_got_on}
+use Rattle.history_table.proofs.InTransit.{no_more}
 use Rattle.world_laws.specs.Left.{commits}
 use Rattle.world_laws.proofs.LeftActs.{owed}
-use Rattle.outcome_law.proofs.Asking.{is_commit_sent, bare_uncommit}
+use Rattle.history_table.proofs.Asking.{is_commit_sent, bare_uncommit}
 
 no : false ≡ true → ⊥
 no e = absurd cc

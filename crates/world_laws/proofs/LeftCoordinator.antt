@@ -23,8 +23,8 @@ use Rattle.dtx_model.specs.Wires.{in_transit}
 use Rattle.dtx_model.specs.Words.{has, onto}
 use Rattle.dtx_model.proofs.Bools.{and_left, and_right, not_true}
 use Rattle.dtx_model.proofs.Counts.{length-insert_by}
-use Rattle.outcome_law.proofs.Tests.{first_of_five, first_of_three, second_of_five, second_of_three}
-use Rattle.local_half.proofs.Lists.{length-filter-le}
+use Rattle.history_table.proofs.Tests.{first_of_five, first_of_three, second_of_five, second_of_three}
+use Rattle.half_parts.proofs.Lists.{length-filter-le}
 use Rattle.world_laws.specs.Left.{asks_left, commits, core_left, half_left, opened, outcome_left, total, unless, weight, wires_left}
 use Rattle.world_laws.proofs.LeftCore.{IsFewer, abort-core, commits-more, logged-core, stopped-core}
 use Rattle.world_laws.proofs.LeftItems.{gain, got-half}

@@ -15,7 +15,7 @@ use Rattle.dtx_model.specs.declared.desk.Stage.TheVariants.{Idle, Active, Aborte
 use Rattle.dtx_model.specs.Coordinated.{Coordinated, abort_if, aborts, ballot_of, but, follow, is_active, is_undecided, with_ack, with_ballot}
 use Rattle.dtx_model.specs.Entries.{is_commit_got}
 use Rattle.dtx_model.proofs.Bools.{and_left, and_right}
-use Rattle.local_half.proofs.Lists.{length-filter-le}
+use Rattle.half_parts.proofs.Lists.{length-filter-le}
 use Rattle.world_laws.specs.Left.{asks_left, commits, core_left, outcome_left, unless}
 
 no : false ≡ true → ⊥

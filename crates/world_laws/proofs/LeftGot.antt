@@ -19,7 +19,7 @@ use Rattle.dtx_model.specs.Observed.{observe}
 use Rattle.dtx_model.specs.Wires.{in_transit, is_ended}
 use Rattle.dtx_model.specs.Words.{has, onto}
 use Rattle.dtx_model.proofs.Counts.{length-insert_by}
-use Rattle.local_half.proofs.Lists.{length-filter-le}
+use Rattle.half_parts.proofs.Lists.{length-filter-le}
 use Rattle.world_laws.specs.Left.{commits, core_left, opened, outcome_left, weight}
 use Rattle.world_laws.proofs.LeftCore.{IsFewer, abort-core, fewer-core, got-fewer}
 use Rattle.world_laws.proofs.LeftCoordinator.{begin-core, commit-core, enlist-core, free-abort, free-each2, free-to, got-by, got-left}

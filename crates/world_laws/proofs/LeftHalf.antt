@@ -32,7 +32,7 @@ use Rattle.dtx_model.specs.declared.waiting.EnteredCall.{EnteredCall}
 use Rattle.dtx_model.specs.Waiting.{Waiter, is_place, waiting}
 use Rattle.dtx_model.specs.Words.{has, latest}
 use Rattle.dtx_model.proofs.Counts.{how_many-insert_by, how_many-map}
-use Rattle.outcome_law.proofs.TableRows.{there}
+use Rattle.history_table.proofs.TableRows.{there}
 use Rattle.world_laws.specs.Left.{half_left, places_left, unmarked, untold, unvoted}
 use Rattle.world_laws.proofs.LeftSums.{how_many-filter}
 use Rattle.world_laws.proofs.LeftCounts.{how_many-map-le}

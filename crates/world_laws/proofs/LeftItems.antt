@@ -30,8 +30,8 @@ use Rattle.dtx_model.specs.Waiting.{Waiter, is_place, waiting}
 use Rattle.dtx_model.specs.Words.{has}
 use Rattle.dtx_model.proofs.Bools.{and_both, and_left, and_right, not_true}
 use Rattle.dtx_model.proofs.Counts.{how_many-insert_by, how_many-map}
-use Rattle.outcome_law.proofs.Scans.{has_more}
-use Rattle.outcome_law.proofs.TableRows.{there}
+use Rattle.history_table.proofs.Scans.{has_more}
+use Rattle.history_table.proofs.TableRows.{there}
 use Rattle.world_laws.specs.Left.{half_left, places_left, unmarked, untold, unvoted}
 use Rattle.world_laws.proofs.LeftSums.{how_many-filter, how_many-none}
 use Rattle.world_laws.proofs.LeftCounts.{falls, how_many-map-le, how_many-map-lt}

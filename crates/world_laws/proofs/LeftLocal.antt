@@ -31,7 +31,7 @@ use Rattle.dtx_model.specs.Waiting.{Waiter, is_place, is_place_of, waiting}
 use Rattle.dtx_model.specs.Wires.{in_transit, is_ended}
 use Rattle.dtx_model.specs.Words.{has, onto}
 use Rattle.dtx_model.proofs.Bools.{and_left, not_true}
-use Rattle.outcome_law.proofs.Tests.{eq_self, first_of_three, second_of_three}
+use Rattle.history_table.proofs.Tests.{eq_self, first_of_three, second_of_three}
 use Rattle.world_laws.specs.Left.{commits, opened, weight}
 use Rattle.world_laws.proofs.LeftCore.{commits-more, core-free}
 use Rattle.world_laws.proofs.LeftCounts.{has-found}

@@ -15,7 +15,7 @@ use Rattle.dtx_model.specs.World.{has_left}
 use Rattle.dtx_model.proofs.Bools.{not_both, or_false, or_first, or_second}
 use Rattle.dtx_model.proofs.Connections.{same_is}
 use Rattle.world_laws.specs.Left.{opened}
-use Rattle.outcome_law.proofs.Crossed.{none_taken}
+use Rattle.history_table.proofs.Crossed.{none_taken}
 
 -- nothing is left there, and it wasn't opened
 record IsBare (c : Conn) (d : Dir) (h : List Entry) : Type 0 where

@@ -16,7 +16,7 @@ use Rattle.dtx_model.specs.Facts.{local_facts}
 use Rattle.dtx_model.specs.Half.{Half}
 use Rattle.dtx_model.specs.Replies.{reply_entries}
 use Rattle.dtx_model.specs.World.{gone_unlinked, reenlist_facts}
-use Rattle.outcome_law.proofs.Scans.{each_more}
+use Rattle.history_table.proofs.Scans.{each_more}
 use Rattle.world_laws.specs.Course.{is_near}
 use Rattle.dtx_model.proofs.Writes.{Each, e_one}
 use Rattle.world_laws.proofs.Bare.{bare_act, bare_facts, bare_gone, bare_local_down, bare_local_got, bare_reenlist, bare_reply, is_bare}

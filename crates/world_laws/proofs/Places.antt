@@ -28,20 +28,19 @@ use Rattle.dtx_model.specs.World.{World, is_linked}
 use Rattle.dtx_model.specs.Caused.{AreMadeOnce, Ran}
 use Rattle.local_half.specs.Rights.{is_commit_sent, is_in_one_place, right_after, right_of, right_seen}
 use Rattle.dtx_model.proofs.Bools.{and_both, and_left, and_never, and_right, not_both, not_true, or_case, or_right, three_hold}
-use Rattle.outcome_law.proofs.Tests.{first_of_five, first_of_three, fourth_of_four, second_of_three, third_of_five}
-use Rattle.outcome_law.proofs.Scans.{has_more}
-use Rattle.outcome_law.proofs.Lists.{has-insert, has_kept, if_kept}
-use Rattle.outcome_law.proofs.Owned.{any_hand_seen, decision_seen, has_filter}
-use Rattle.outcome_law.proofs.Rule.{is_only}
-use Rattle.outcome_law.proofs.Table.{have_come, is_there, message_row, rule}
-use Rattle.outcome_law.proofs.Keeping.{Keeps, before, fifth_of_five, keeps_before, newest, third_of_three}
-use Rattle.outcome_law.proofs.Crossed.{since_opened}
+use Rattle.history_table.proofs.Tests.{first_of_five, first_of_three, fourth_of_four, second_of_three, third_of_five}
+use Rattle.history_table.proofs.Scans.{has_more}
+use Rattle.history_table.proofs.Lists.{has-insert, has_kept, if_kept}
+use Rattle.history_table.proofs.Owned.{any_hand_seen, decision_seen, has_filter}
+use Rattle.history_table.proofs.EntryTests.{is_only}
+use Rattle.history_table.proofs.Table.{have_come, is_there, message_row, rule}
+use Rattle.history_table.proofs.Keeping.{Keeps, before, fifth_of_five, keeps_before, newest, third_of_three}
+use Rattle.history_table.proofs.Crossed.{since_opened}
 use Rattle.dtx_model.proofs.Connections.{same_is}
-use Rattle.outcome_law.proofs.Recording.{promoting_if_promoted}
-use Rattle.outcome_law.proofs.Evident.{sealed_if_handed}
-use Rattle.outcome_law.proofs.Knowledge.{other_stays, with_other, with_own}
-use Rattle.outcome_law.proofs.CoreKnown.{has_made}
-use Rattle.outcome_law.proofs.HalfKnows.{end_same, got_same, one_tag_more, sent_same, unmapped, way_seen}
+use Rattle.history_table.proofs.Recording.{promoting_if_promoted}
+use Rattle.history_table.proofs.Evident.{sealed_if_handed}
+use Rattle.history_table.proofs.HalfKnows.{other_stays, with_other, with_own, end_same, got_same, one_tag_more, sent_same, unmapped, way_seen}
+use Rattle.history_table.proofs.CoreKnown.{has_made}
 use Rattle.world_laws.specs.Carried.{are_sendable, is_sendable}
 use Rattle.world_laws.proofs.SendingApt.{can_send}
 use Rattle.world_laws.proofs.SendingOpened.{some_many}

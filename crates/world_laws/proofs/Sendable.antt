@@ -33,10 +33,10 @@ use Rattle.dtx_model.specs.Words.{always, has, onto}
 use Rattle.dtx_model.specs.World.{World, half, core}
 use Rattle.dtx_model.proofs.Bools.{and_both, not_both}
 use Rattle.dtx_model.proofs.Quiet.{wire_run}
-use Rattle.outcome_law.proofs.OnTheWay.{is_unplaced}
-use Rattle.outcome_law.proofs.Scans.{each_more}
-use Rattle.outcome_law.proofs.Makers.{AreMade, all_unplaced, ran_made}
-use Rattle.outcome_law.proofs.Welcomes.{is_direct, step_direct}
+use Rattle.history_table.proofs.Waiters.{is_unplaced}
+use Rattle.history_table.proofs.Scans.{each_more}
+use Rattle.history_table.proofs.Makers.{AreMade, all_unplaced, ran_made}
+use Rattle.history_table.proofs.Welcomes.{is_direct, step_direct}
 use Rattle.world_laws.specs.Carried.{are_sendable}
 use Rattle.world_laws.proofs.SendingBlocks.{apt_act, apt_arrived, apt_coordinates, apt_core_down, apt_core_got, apt_local_down, apt_reply}
 use Rattle.world_laws.proofs.SendingKnown.{hears, speaks}

@@ -45,21 +45,21 @@ use Rattle.dtx_model.specs.Wires.{in_transit, is_ended, is_stopped, lost_since, 
 use Rattle.dtx_model.specs.Words.{each, has, holds, latest, onto}
 use Rattle.dtx_model.specs.World.{World, answer_at, facts_at, half, core, is_connected, is_finished_there, is_linked, reenlist_by, reenlist_facts, unless_stopped}
 use Rattle.dtx_model.proofs.Bools.{and_left, and_right, not_both, not_false, not_true, or_case, or_second, or_first}
-use Rattle.outcome_law.proofs.Crossed.{is_sent_on}
-use Rattle.outcome_law.proofs.Makers.{AreMade, makes_lasting}
-use Rattle.outcome_law.proofs.Messages.{ENLIST}
-use Rattle.outcome_law.proofs.Owned.{has_rows}
-use Rattle.outcome_law.proofs.Picks.{found_at, has-at, none_each}
-use Rattle.outcome_law.proofs.Scans.{has_more}
-use Rattle.outcome_law.proofs.Tests.{eq_self}
+use Rattle.history_table.proofs.Crossed.{is_sent_on}
+use Rattle.history_table.proofs.Makers.{AreMade, makes_lasting}
+use Rattle.history_table.proofs.Messages.{ENLIST}
+use Rattle.history_table.proofs.Owned.{has_rows}
+use Rattle.history_table.proofs.Lists.{found_at, has-at, none_each}
+use Rattle.history_table.proofs.Scans.{has_more}
+use Rattle.history_table.proofs.Tests.{eq_self}
 use Rattle.world_laws.proofs.SendingApt.{can_same}
 use Rattle.world_laws.proofs.SendingBlocks.{Hears, apt_facts_at, apt_facts_if, may_open}
 use Rattle.world_laws.proofs.SendingKnown.{hears}
 use Rattle.world_laws.proofs.SendingOpened.{Opened, branch_stays}
 use Rattle.world_laws.proofs.SendingEnds.{Ends, again_ends, apt_ends, begin_ends, ends_if, enlist_ends, one_ends, promotable_ends, start_ends}
-use Rattle.outcome_law.proofs.WorldCalls.{done_behind, branch_done}
-use Rattle.outcome_law.proofs.OneBegin.{marshal_waits, owns_alone, to_promote, unowned, unstarted as none_started}
-use Rattle.outcome_law.proofs.HalfKnows.{cause_seen, failed_seen}
+use Rattle.history_table.proofs.WorldCalls.{done_behind, branch_done}
+use Rattle.history_table.proofs.ToPromote.{marshal_waits, owns_alone, to_promote, unowned, unstarted as none_started}
+use Rattle.history_table.proofs.HalfKnows.{cause_seen, failed_seen}
 
 no : false ≡ true → ⊥
 no e = absurd cc

@@ -17,18 +17,18 @@ use Rattle.dtx_model.specs.Observed.{cause_of_promotion, ends_of, is_promotion_f
 use Rattle.dtx_model.specs.Wires.{WireRun, ended_after, ends, in_transit, is_ended, is_kept, is_stopped, loses, lost_since, opens, same_connection, without_first}
 use Rattle.dtx_model.specs.Words.{has, latest}
 use Rattle.dtx_model.proofs.Bools.{and_both, and_left, and_never, and_right, not_both, not_false, not_true, or_case, or_false, or_right}
-use Rattle.outcome_law.proofs.Lists.{has_kept, has-insert, if_kept}
-use Rattle.outcome_law.proofs.Owned.{has_filter}
-use Rattle.outcome_law.proofs.Scans.{has_more}
+use Rattle.history_table.proofs.Lists.{has_kept, has-insert, if_kept}
+use Rattle.history_table.proofs.Owned.{has_filter}
+use Rattle.history_table.proofs.Scans.{has_more}
 use Rattle.dtx_model.proofs.Connections.{same_self, same_is}
-use Rattle.outcome_law.proofs.Crossed.{IsStill, end_still, nothing_up, no_end_up, still_more, still_silent, stopped_down}
-use Rattle.outcome_law.proofs.Leading.{opening_was_sent}
-use Rattle.outcome_law.proofs.Reenlisted.{opened_since}
-use Rattle.outcome_law.proofs.HalfKnows.{cause_seen}
-use Rattle.outcome_law.proofs.Table.{is_opening_got}
+use Rattle.history_table.proofs.Crossed.{IsStill, end_still, nothing_up, no_end_up, still_more, still_silent, stopped_down}
+use Rattle.history_table.proofs.Leading.{opening_was_sent}
+use Rattle.history_table.proofs.Reenlisted.{opened_since}
+use Rattle.history_table.proofs.HalfKnows.{cause_seen}
+use Rattle.history_table.proofs.Table.{is_opening_got}
 use Rattle.world_laws.proofs.SendingApt.{can_same, can_send, ended_same}
 use Rattle.world_laws.proofs.SendingBlocks.{Hears, Speaks}
-use Rattle.outcome_law.proofs.Foregoing.{not_up}
+use Rattle.history_table.proofs.Tests.{not_up}
 
 no : false ≡ true → ⊥
 no e = absurd cc

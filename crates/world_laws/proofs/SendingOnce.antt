@@ -16,12 +16,12 @@ use Rattle.dtx_model.specs.Wires.{WireRun, in_transit, opens, same_connection}
 use Rattle.dtx_model.specs.Words.{always, has}
 use Rattle.dtx_model.proofs.Bools.{and_both, and_left, and_right, not_both, not_true, or_case}
 use Rattle.dtx_model.proofs.Connections.{same_self, same_is}
-use Rattle.outcome_law.proofs.Crossed.{is_got_on, is_sent_on}
-use Rattle.outcome_law.proofs.InTransit.{no_more}
-use Rattle.outcome_law.proofs.Leading.{sent_opens}
-use Rattle.outcome_law.proofs.StillBlocks.{is_welcome}
-use Rattle.outcome_law.proofs.Table.{ends_with, is_opening_got}
-use Rattle.outcome_law.proofs.Welcomes.{is_direct}
+use Rattle.history_table.proofs.Crossed.{is_got_on, is_sent_on}
+use Rattle.history_table.proofs.InTransit.{no_more}
+use Rattle.history_table.proofs.Leading.{sent_opens}
+use Rattle.history_table.proofs.StillBlocks.{is_welcome}
+use Rattle.history_table.proofs.Table.{ends_with, is_opening_got}
+use Rattle.history_table.proofs.Welcomes.{is_direct}
 use Rattle.world_laws.proofs.SendingOpened.{Opened, none_many, some_many}
 
 no : false ≡ true → ⊥

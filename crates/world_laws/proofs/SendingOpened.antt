@@ -32,13 +32,13 @@ use Rattle.dtx_model.specs.Promotes.{is_begun_got, is_created_got, is_promoting}
 use Rattle.dtx_model.specs.Wires.{opens, same_connection}
 use Rattle.dtx_model.specs.Words.{each, has}
 use Rattle.dtx_model.proofs.Bools.{and_both, and_left, and_never, and_right, not_both, not_true, or_case, or_first, or_right, or_second}
-use Rattle.outcome_law.proofs.Owned.{has_filter}
-use Rattle.outcome_law.proofs.Scans.{has_more}
+use Rattle.history_table.proofs.Owned.{has_filter}
+use Rattle.history_table.proofs.Scans.{has_more}
 use Rattle.dtx_model.proofs.Connections.{same_is}
-use Rattle.outcome_law.proofs.Lists.{has-insert, has_kept}
-use Rattle.outcome_law.proofs.Tests.{eq_self}
-use Rattle.outcome_law.proofs.Rule.{is_enlisted}
-use Rattle.outcome_law.proofs.TableRows.{enlisted_in_rows}
+use Rattle.history_table.proofs.Lists.{has-insert, has_kept}
+use Rattle.history_table.proofs.Tests.{eq_self}
+use Rattle.history_table.proofs.EntryTests.{is_enlisted}
+use Rattle.history_table.proofs.TableRows.{enlisted_in_rows}
 use Rattle.world_laws.proofs.SendingApt.{is_apt}
 
 no : false ≡ true → ⊥

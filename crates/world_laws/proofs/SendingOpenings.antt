@@ -32,12 +32,12 @@ use Rattle.dtx_model.specs.Waiting.{Waiter, class_by, is_place_of, waiting, want
 use Rattle.dtx_model.specs.Wires.{opens}
 use Rattle.dtx_model.specs.Words.{each, has, latest, onto}
 use Rattle.dtx_model.proofs.Bools.{and_left, and_right, not_both, not_false, not_true}
-use Rattle.outcome_law.proofs.Lists.{OfEach}
-use Rattle.outcome_law.proofs.OnTheWay.{is_unplaced}
-use Rattle.outcome_law.proofs.Rule.{is_enlisted}
-use Rattle.outcome_law.proofs.Scans.{each_more}
-use Rattle.outcome_law.proofs.Tests.{eq_self}
-use Rattle.outcome_law.proofs.Makers.{IsWaiter, of-found}
+use Rattle.history_table.proofs.Lists.{OfEach}
+use Rattle.history_table.proofs.Waiters.{is_unplaced}
+use Rattle.history_table.proofs.EntryTests.{is_enlisted}
+use Rattle.history_table.proofs.Scans.{each_more}
+use Rattle.history_table.proofs.Tests.{eq_self}
+use Rattle.history_table.proofs.Makers.{IsWaiter, of-found}
 use Rattle.world_laws.proofs.SendingBlocks.{apt_begun_late}
 use Rattle.world_laws.proofs.SendingKnown.{hears}
 use Rattle.world_laws.proofs.SendingOpened.{Opened}

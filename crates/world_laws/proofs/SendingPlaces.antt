@@ -35,11 +35,11 @@ use Rattle.dtx_model.specs.World.{World, half, core, answer_at, facts_at}
 use Rattle.dtx_model.proofs.Bools.{and_both, and_left, and_right, not_both, not_false, not_true, or_false, or_first, or_second}
 use Rattle.dtx_model.proofs.Heeding.{fresh}
 use Rattle.dtx_model.proofs.Quiet.{Quiet, is_quiet, q_act, q_appended, q_called, q_ended_at, q_freed, q_got_by, q_if, q_one, q_reply, q_restarted}
-use Rattle.outcome_law.proofs.Lists.{OfEach, has-insert}
-use Rattle.outcome_law.proofs.Owned.{has_filter}
-use Rattle.outcome_law.proofs.Scans.{has_more}
-use Rattle.outcome_law.proofs.Tests.{eq_swap}
-use Rattle.outcome_law.proofs.Makers.{AreMade, IsWaiter, waits_at, place_number}
+use Rattle.history_table.proofs.Lists.{OfEach, has-insert}
+use Rattle.history_table.proofs.Owned.{has_filter}
+use Rattle.history_table.proofs.Scans.{has_more}
+use Rattle.history_table.proofs.Tests.{eq_swap}
+use Rattle.history_table.proofs.Makers.{AreMade, IsWaiter, waits_at, place_number}
 
 no : false ≡ true → ⊥
 no e = absurd cc

@@ -8,7 +8,7 @@ ghost use Rattle.dtx_model.specs.Observed.{observe};
 ghost use Rattle.dtx_model.specs.Tied.{tied};
 ghost use Rattle.dtx_model.specs.Grammar.{are_named_well};
 ghost use Rattle.dtx_model.specs.Caused.{FreelyCaused, IsCallOf};
-ghost use Rattle.outcome_law.specs.Appended.{is_abort_decision, stopped_at_append};
+ghost use Rattle.history_table.specs.Appended.{is_abort_decision, stopped_at_append};
 ghost use Rattle.local_half.specs.Rights.{is_in_one_place, right_after, right_of, right_seen};
 
 /// The law of the right to commit, a function that does nothing when it runs: a caller's proof asks for it. In a history that a script's lines freely cause the right

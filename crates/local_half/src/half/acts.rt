@@ -11,19 +11,19 @@ ghost use Rattle.dtx_model.specs.Acts.{act_entries, after_seal, ask_or, commit_a
 ghost use Rattle.dtx_model.specs.Half.{is_handed, to_up};
 ghost use Rattle.dtx_model.specs.Steps.{Acts, after as world_after};
 ghost use Rattle.dtx_model.specs.World.{World};
-ghost use Rattle.local_half.specs.Half.{Follows, HasRoom, IsRoom, after};
+ghost use Rattle.half_parts.specs.Half.{Follows, HasRoom, IsRoom, after};
 ghost use Rattle.local_half.specs.Told.{MayAct, entries_if, entries_of};
 
 use super::LocalHalf;
-use crate::branches::is_enlisted;
-use crate::votes::first_promotable;
 use dtx_model::Listener;
 use dtx_values::{Ask, Conn, EnlNo, Entry, Message, Outbox, Outcome, Party};
+use half_parts::branches::is_enlisted;
+use half_parts::votes::first_promotable;
 use light_committer::{LightAct, decide};
 use volatile_enlist::{hears, next_ask};
 
 /// A local act.
-#[derive(Clone, Copy, PartialEq, Eq, Debug)]
+#[derive(Clone, Copy, PartialEq, Eq)]
 pub enum LocalAct {
     /// It is this entry alone: one is asked, told, or handed the commit.
     Write(Entry),
@@ -35,7 +35,7 @@ pub enum LocalAct {
     SayYes,
 }
 
-#[tactic(auto, using(crate::proofs::Writing::outgoing), unfolding(dtx_model::specs::Half::heeds_all, dtx_model::specs::Acts::act_entries))]
+#[tactic(auto, using(half_parts::proofs::Writing::outgoing), unfolding(dtx_model::specs::Half::heeds_all, dtx_model::specs::Acts::act_entries))]
 impl LocalHalf {
     /// Whether the commit was handed to the enlistment.
     pub(super) fn is_handed(&self, e: EnlNo) -> bool

@@ -2,12 +2,12 @@
 ghost use Rattle.std.specs.Prelude.{◌≡◌, length, true};
 ghost use Rattle.dtx_model.specs.Answers.{clone_answer, complete_answer, durable_answer, gone_answer, has_promotion, if_begun, is_crowded, is_full, is_full_of_durables, local_answer, marshal_answer, promotable_answer, status_answer, unless_late, unless_over, volatile_answer};
 ghost use Rattle.dtx_model.specs.Half.{is_gone, stands};
-ghost use Rattle.local_half.specs.Half.{is_its_own};
+ghost use Rattle.half_parts.specs.Half.{is_its_own};
 
 use super::LocalHalf;
-use crate::waits;
 use dtx_values::{Answer, CALLS, CLONES, Call, DURABLES, ENLISTMENTS, EnlNo};
 use durable_enlist::cause_of;
+use half_parts::waits;
 use promotable_enlist::try_own;
 
 /// What the completion of a clone is answered, once it is begun and while nothing is decided.

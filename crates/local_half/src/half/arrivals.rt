@@ -7,17 +7,17 @@ ghost use Rattle.dtx_values.specs.declared.entry.Entry.TheVariants.{Got, Down as
 ghost use Rattle.dtx_values.specs.declared.message.Dir.TheVariants.{Down};
 ghost use Rattle.dtx_model.specs.Arrivals.{aborted_by, begun, created, ended_by, ended_there, enlisted_at, hand_over, has_both_ends, local_down, local_got, place_given, refused_by, told_abort, unless_decided};
 ghost use Rattle.dtx_model.specs.Half.{by_manager, decide, enlist_sent, veto};
-ghost use Rattle.local_half.specs.Half.{HasRoom, IsRoom, after};
+ghost use Rattle.half_parts.specs.Half.{HasRoom, IsRoom, after};
 ghost use Rattle.local_half.specs.Told.{aborted_for, told_by};
 
 use super::LocalHalf;
-use crate::waits;
 use dtx_model::Wanted;
 use dtx_values::{Ask, Conn, Dir, EnlNo, Entry, Message, Outbox, Outcome, Party, has_line};
+use half_parts::waits;
 use promotion::HandoverAct;
 use tm_proxy::ProxyNews;
 
-#[tactic(auto, using(crate::proofs::Writing::outgoing), unfolding(dtx_model::specs::Observed::track, dtx_model::specs::Half::heeds_all))]
+#[tactic(auto, using(half_parts::proofs::Writing::outgoing), unfolding(dtx_model::specs::Observed::track, dtx_model::specs::Half::heeds_all))]
 impl LocalHalf {
     /// After BEGUN: VOTER is sent, or an abort where the transaction was decided meanwhile.
     fn begun(&mut self, id: u128, out: &mut Outbox)

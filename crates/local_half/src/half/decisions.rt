@@ -6,17 +6,17 @@ ghost use Rattle.dtx_values.specs.Outgoing.{written};
 ghost use Rattle.dtx_values.specs.Table.{how_many};
 ghost use Rattle.dtx_model.specs.Half.{decide, ended, enlist_sent, given, to_up, veto, veto_if, veto_message};
 ghost use Rattle.dtx_model.specs.Waiting.{is_place};
-ghost use Rattle.local_half.specs.Half.{IsLeft, IsRoom, after};
-ghost use Rattle.local_half.specs.Linked.{is_held};
-ghost use Rattle.local_half.specs.Taken.{MaySend};
-ghost use Rattle.local_half.specs.Waits.{IsAt, StartsWith};
+ghost use Rattle.half_parts.specs.Half.{IsLeft, IsRoom, after};
+ghost use Rattle.half_parts.specs.Linked.{is_held};
+ghost use Rattle.half_parts.specs.Taken.{MaySend};
+ghost use Rattle.half_parts.specs.Waits.{IsAt, StartsWith};
 
 use super::LocalHalf;
-use crate::waits;
 use dtx_model::Wanted;
 use dtx_values::{Answer, Conn, Dir, EnlNo, Entry, Info, Message, Outbox, Outcome, RmNo};
+use half_parts::waits;
 
-#[tactic(auto, using(crate::proofs::Writing::outgoing), unfolding(dtx_model::specs::Observed::track, dtx_model::specs::Half::heeds_all, dtx_model::specs::Half::veto))]
+#[tactic(auto, using(half_parts::proofs::Writing::outgoing), unfolding(dtx_model::specs::Observed::track, dtx_model::specs::Half::heeds_all, dtx_model::specs::Half::veto))]
 impl LocalHalf {
     /// The line of the first call that waits.
     fn first_waiting(&self) -> Option<u32>

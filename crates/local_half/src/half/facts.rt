@@ -16,19 +16,19 @@ ghost use Rattle.dtx_model.specs.Observed.{is_branch, track};
 ghost use Rattle.dtx_model.specs.Steps.{Calls, after as world_after, entered};
 ghost use Rattle.dtx_model.specs.Words.{has};
 ghost use Rattle.dtx_model.specs.World.{World, gone_decides, open_ones, reenlist_facts};
-ghost use Rattle.local_half.specs.Half.{Follows, HasRoom, IsRoom, after, is_done, is_free, is_its_own, is_made_by_waiting, loss};
-ghost use Rattle.local_half.specs.Taken.{HasPlace, begin_sent, cause_for, is_place_awaited, place_sent, with_call, with_waiter};
+ghost use Rattle.half_parts.specs.Half.{Follows, HasRoom, IsRoom, after, is_done, is_free, is_its_own, is_made_by_waiting, loss};
+ghost use Rattle.half_parts.specs.Taken.{HasPlace, begin_sent, cause_for, is_place_awaited, place_sent, with_call, with_waiter};
 
 use super::LocalHalf;
-use crate::branches::branch_of;
-use crate::outgoing::put_out;
-use crate::time::{limit_of, reaches, ticked};
-use crate::votes::is_evident;
 use dtx_values::{
     ActorNo, Answer, Call, Cause, Class, Conn, Dir, EnlNo, EnlistOption, Entry, Info, Message,
     Outbox, Outcome, RmNo,
 };
 use durable_enlist::cause_of;
+use half_parts::branches::branch_of;
+use half_parts::outgoing::put_out;
+use half_parts::time::{limit_of, reaches, ticked};
+use half_parts::votes::is_evident;
 use light_committer::owner_lost;
 
 /// The class of a volatile enlistment.
@@ -41,10 +41,10 @@ fn class_of(option: EnlistOption) -> Class
     }
 }
 
-#[tactic(auto, using(crate::proofs::Writing::outgoing), unfolding(dtx_model::specs::Observed::track, dtx_model::specs::Half::heeds_all, dtx_model::specs::Half::veto))]
+#[tactic(auto, using(half_parts::proofs::Writing::outgoing), unfolding(dtx_model::specs::Observed::track, dtx_model::specs::Half::heeds_all, dtx_model::specs::Half::veto))]
 impl LocalHalf {
     /// Whether a rollback clone isn't complete.
-    #[tactic(auto, using(crate::proofs::Notes::some_left))]
+    #[tactic(auto, using(half_parts::proofs::Notes::some_left))]
     fn has_open_rollback(&self) -> bool
         ensures { result ≡ has is_open_rollback self.now.half.seen.clones }
     {

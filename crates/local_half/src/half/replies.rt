@@ -10,13 +10,13 @@ ghost use Rattle.dtx_model.specs.Words.{kth};
 ghost use Rattle.dtx_model.specs.World.{World};
 ghost use Rattle.dtx_values.specs.declared.row.Row.{Row};
 ghost use Rattle.enlist_table.specs.Waiting.{is_waiting};
-ghost use Rattle.local_half.specs.Half.{Follows, HasRoom, IsRoom, after, first_due, fits_due, lower, may_owe, owes_more};
+ghost use Rattle.half_parts.specs.Half.{Follows, HasRoom, IsRoom, after, first_due, fits_due, lower, may_owe, owes_more};
 
 use super::LocalHalf;
-use crate::branches::{branch_at, branch_of, owe_ack};
 use dtx_values::{
     Class, Conn, Dir, EnlNo, Entry, Message, Note, Outbox, Outcome, Reply, Request, Row, Vote,
 };
+use half_parts::branches::{branch_at, branch_of, owe_ack};
 
 /// The message of a durable or promotable enlistment's vote.
 fn vote_message(v: Vote) -> Message
@@ -66,7 +66,7 @@ fn lower(x: Option<(EnlNo, Note)>, y: Option<(EnlNo, Note)>) -> Option<(EnlNo, N
     }
 }
 
-#[tactic(auto, using(crate::proofs::Writing::outgoing), unfolding(dtx_model::specs::Observed::track, dtx_model::specs::Half::heeds_all))]
+#[tactic(auto, using(half_parts::proofs::Writing::outgoing), unfolding(dtx_model::specs::Observed::track, dtx_model::specs::Half::heeds_all))]
 impl LocalHalf {
     /// The connection of the last commit that the enlistment has to acknowledge.
     fn conn_due(&self, e: EnlNo) -> Option<Conn>

@@ -1,9 +1,9 @@
 use Rattle.dtx_model.specs.Caused.{IsCallOf}
 use Rattle.dtx_model.specs.World.{World}
-use Rattle.outcome_law.proofs.Appending.{abort_unlogged, append_ready}
-use Rattle.outcome_law.proofs.Barred.{abort_barred, ran_shut}
-use Rattle.outcome_law.proofs.Names.{script_once}
-use Rattle.outcome_law.proofs.Steady.{free_keeps}
+use Rattle.script_histories.proofs.Appending.{abort_unlogged, append_ready}
+use Rattle.settled_histories.proofs.Barred.{abort_barred, ran_shut}
+use Rattle.history_table.proofs.Names.{script_once}
+use Rattle.history_table.proofs.Steady.{free_keeps}
 use Rattle.outcome_law.proofs.appends.Goals as goal
 
 pub returns-clause-unlogged : goal.returns-clause-unlogged

@@ -1,5 +1,5 @@
 use Rattle.outcome_law.proofs.Completes.{settled_told}
-use Rattle.outcome_law.proofs.ReturnsAnswered.{answered_returns}
+use Rattle.settled_histories.proofs.ReturnsAnswered.{answered_returns}
 use Rattle.outcome_law.proofs.StopsDecide.{told_settled, waits_answered}
 use Rattle.outcome_law.proofs.completeness.Goals as goal
 

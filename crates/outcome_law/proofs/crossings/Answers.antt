@@ -1,8 +1,8 @@
 use Rattle.dtx_model.specs.Caused.{IsCallOf}
 use Rattle.dtx_model.proofs.Quiet.{wire_run_of}
-use Rattle.outcome_law.proofs.Names.{script_once}
-use Rattle.outcome_law.proofs.Steady.{free_keeps}
-use Rattle.outcome_law.proofs.PromotesRuns.{runs_promote}
+use Rattle.history_table.proofs.Names.{script_once}
+use Rattle.history_table.proofs.Steady.{free_keeps}
+use Rattle.script_histories.proofs.PromotesRuns.{runs_promote}
 use Rattle.outcome_law.proofs.crossings.Goals as goal
 
 pub returns-clause-promotes : goal.returns-clause-promotes

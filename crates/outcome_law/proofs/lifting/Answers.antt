@@ -1,6 +1,6 @@
 use Rattle.dtx_model.specs.Caused.{IsCallOf, IsIn}
 use Rattle.dtx_model.proofs.Lifting.{lift}
-use Rattle.outcome_law.proofs.Names.{script_once}
+use Rattle.history_table.proofs.Names.{script_once}
 use Rattle.outcome_law.proofs.lifting.Goals as goal
 
 pub returns-clause-lifted : goal.returns-clause-lifted

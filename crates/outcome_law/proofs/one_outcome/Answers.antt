@@ -1,7 +1,7 @@
 use Rattle.dtx_model.specs.Caused.{IsCallOf}
-use Rattle.outcome_law.proofs.Names.{script_once}
-use Rattle.outcome_law.proofs.OneOutcome.{all_agree, all_just, all_learned}
-use Rattle.outcome_law.proofs.Steady.{free_keeps}
+use Rattle.history_table.proofs.Names.{script_once}
+use Rattle.script_histories.proofs.OneOutcome.{all_agree, all_just, all_learned}
+use Rattle.history_table.proofs.Steady.{free_keeps}
 use Rattle.outcome_law.proofs.one_outcome.Goals as goal
 
 pub returns-clause-just : goal.returns-clause-just

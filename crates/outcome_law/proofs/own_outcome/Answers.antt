@@ -1,8 +1,8 @@
 use Rattle.dtx_model.specs.Caused.{IsIn}
-use Rattle.outcome_law.proofs.LocalTies.{unpromoted_tied}
-use Rattle.outcome_law.proofs.OneOutcome.{all_agree, all_just, all_learned}
-use Rattle.outcome_law.proofs.Runs.{own_free}
-use Rattle.outcome_law.proofs.Steady.{free_keeps}
+use Rattle.script_histories.proofs.LocalTies.{unpromoted_tied}
+use Rattle.script_histories.proofs.OneOutcome.{all_agree, all_just, all_learned}
+use Rattle.script_histories.proofs.Runs.{own_free}
+use Rattle.history_table.proofs.Steady.{free_keeps}
 use Rattle.outcome_law.proofs.own_outcome.Goals as goal
 
 pub returns-clause-just : goal.returns-clause-just

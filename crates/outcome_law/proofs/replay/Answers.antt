@@ -1,5 +1,5 @@
-use Rattle.outcome_law.proofs.Replays.{line_new, ran_new, replayed_called, replayed_caused, replayed_followed, replayed_noted}
-use Rattle.outcome_law.proofs.Determined.{history_same}
+use Rattle.script_histories.proofs.Replays.{line_new, ran_new, replayed_called, replayed_caused, replayed_followed, replayed_noted}
+use Rattle.script_histories.proofs.Determined.{history_same}
 use Rattle.outcome_law.proofs.replay.Goals as goal
 
 pub returns-clause-caused : goal.returns-clause-caused

@@ -1,8 +1,8 @@
 use Rattle.dtx_model.specs.Caused.{IsCallOf}
-use Rattle.outcome_law.proofs.Names.{script_once}
-use Rattle.outcome_law.proofs.Steady.{free_keeps}
-use Rattle.outcome_law.proofs.Unheard.{all_silent, never_evident}
-use Rattle.outcome_law.proofs.UnstoppedTies.{unrestarted_tied}
+use Rattle.history_table.proofs.Names.{script_once}
+use Rattle.history_table.proofs.Steady.{free_keeps}
+use Rattle.outcome_law.proofs.Withheld.{all_silent, never_evident}
+use Rattle.settled_histories.proofs.UnstoppedTies.{unrestarted_tied}
 use Rattle.outcome_law.proofs.stops.Goals as goal
 
 pub returns-clause-withheld : goal.returns-clause-withheld

@@ -1,14 +1,14 @@
 use Rattle.dtx_model.specs.Caused.{IsCallOf}
-use Rattle.outcome_law.proofs.Heard.{length-rows}
-use Rattle.outcome_law.proofs.TableRows.{each_rows, each_clones}
-use Rattle.outcome_law.proofs.Names.{script_once}
-use Rattle.outcome_law.proofs.Steady.{free_keeps, run_steady}
-use Rattle.outcome_law.proofs.HalfRows.{clone_seen}
-use Rattle.outcome_law.proofs.HalfWaves.{row_is_seen}
-use Rattle.outcome_law.proofs.HalfEvidence.{evidence_at_end}
-use Rattle.outcome_law.proofs.HalfHeard.{listener_heard}
+use Rattle.script_histories.proofs.Heard.{length-rows}
+use Rattle.history_table.proofs.TableRows.{each_rows}
+use Rattle.script_histories.proofs.RuledRows.{each_clones}
+use Rattle.history_table.proofs.Names.{script_once}
+use Rattle.history_table.proofs.Steady.{free_keeps, run_steady}
+use Rattle.script_histories.proofs.HalfWaves.{clone_seen, row_is_seen}
+use Rattle.script_histories.proofs.HalfEvidence.{evidence_at_end}
+use Rattle.script_histories.proofs.HalfHeard.{listener_heard}
 use Rattle.outcome_law.proofs.TellingRuns.{ran_heard}
-use Rattle.outcome_law.proofs.Timely.{run_timely}
+use Rattle.settled_histories.proofs.Timely.{run_timely}
 use Rattle.outcome_law.proofs.tables.Goals as goal
 
 pub returns-clause-enlisted : goal.returns-clause-enlisted

@@ -13,9 +13,9 @@ ghost use Rattle.tx_world.specs.Stepping.{is_to_promote, needs_log};
 ghost use Rattle.tx_world.specs.Prepared.{NamesPrepared};
 
 use super::TxWorld;
-use crate::pending::PendingStep;
 use crate::refusal::WorldError;
 use dtx_values::{ActorNo, Answer, Call, EnlNo, Note, Outbox, Reply};
+use world_parts::PendingStep;
 
 /// Whether a reply that fits this note, where it does, needs no log.
 fn may_reply_alone(fits: bool, due: Option<Note>) -> bool

@@ -18,10 +18,10 @@ ghost use Rattle.tx_world.specs.Prepared.{NamesPrepared};
 
 use super::{TxWorld, identifier};
 use crate::refusal::WorldError;
-use crate::writing::{has_begun, stop_if};
 use coordinator_log::Log;
 use dtx_values::{Differs, Outbox};
 use outside::Disk;
+use world_parts::{has_begun, stop_if};
 
 /// Whether an opening of the log in this life says something to who began in its own life.
 fn is_reached(begun: bool, own: u64, life: u64) -> bool

@@ -5,7 +5,7 @@ ghost use Rattle.dtx_model.specs.Facts.{has_facts};
 ghost use Rattle.dtx_model.specs.World.{answer_at};
 ghost use Rattle.dtx_model.specs.Steps.{Calls};
 ghost use Rattle.dtx_model.specs.Caused.{MayAnswer};
-ghost use Rattle.tx_world.specs.Entering.{is_near};
+ghost use Rattle.world_parts.specs.Entering.{is_near};
 ghost use Rattle.tx_world.specs.State.{is_linking, may_enter};
 ghost use Rattle.tx_world.specs.OwnCalls.{DoesAlone};
 ghost use Rattle.tx_world.specs.Stepping.{Does, DoesAt};
@@ -13,14 +13,13 @@ ghost use Rattle.tx_world.specs.Prepared.{NamesPrepared};
 
 use super::TxWorld;
 use super::entering::reserve_call;
-use crate::local_calls::await_answer;
-use crate::names::{is_entered, is_made};
 use crate::refusal::WorldError;
 use coordinator_log::Log;
 use dtx_model::EnteredCall;
 use dtx_values::{ActorNo, Answer, Call, Entry, Outbox};
 use local_half::LocalHalf;
 use outside::Disk;
+use world_parts::{await_answer, is_entered, is_made};
 
 /// Whether neither holds.
 fn is_neither(a: bool, b: bool) -> bool

@@ -6,9 +6,9 @@ ghost use Rattle.tx_world.specs.OwnCalls.{DoesAlone};
 ghost use Rattle.tx_world.specs.Prepared.{NamesPrepared};
 
 use super::TxWorld;
-use crate::hearing::hear;
 use crate::refusal::WorldError;
 use dtx_values::{Conn, Dir, Outbox};
+use world_parts::hear;
 
 impl TxWorld {
     /// Delivers what comes next in a direction of a connection; false exactly where nothing is left.

@@ -5,20 +5,18 @@ ghost use Rattle.dtx_values.specs.declared.entry.Answer.TheVariants.{Fine};
 ghost use Rattle.dtx_model.specs.Caused.{MayAnswer};
 ghost use Rattle.dtx_model.specs.Steps.{Calls};
 ghost use Rattle.dtx_model.specs.World.{answer_at};
-ghost use Rattle.tx_world.specs.Entering.{is_local, is_unlinked};
+ghost use Rattle.world_parts.specs.Entering.{is_local, is_unlinked};
 ghost use Rattle.tx_world.specs.OwnCalls.{DoesAlone};
-ghost use Rattle.tx_world.specs.Sending.{may_promote};
+ghost use Rattle.world_parts.specs.Sending.{may_promote};
 ghost use Rattle.tx_world.specs.State.{may_enter};
 ghost use Rattle.tx_world.specs.Stepping.{DoesAt};
 
 use super::TxWorld;
-use crate::local_calls::answer_call;
-use crate::managers::recovery_answer;
 use crate::refusal::WorldError;
-use crate::writing::{live, write_near};
 use dtx_model::EnteredCall;
 use dtx_values::{ActorNo, Answer, Call, Conn, Entry, Outbox, RmNo, TxNo};
 use std::alloc::AllocError;
+use world_parts::{answer_call, live, recovery_answer, write_near};
 
 /// The least room for calls that is made.
 const FEW_CALLS: usize = 8;

@@ -9,12 +9,11 @@ ghost use Rattle.tx_world.specs.State.{may_enter};
 
 use super::entering::reserve_call;
 use super::{TxWorld, identifier};
-use crate::local_calls::write_return;
-use crate::managers::{manager_of, returned};
 use crate::refusal::WorldError;
 use dtx_model::EnteredCall;
 use dtx_values::{ActorNo, Answer, Call, EnlNo, Info, Outbox, write_info};
 use reenlist_recovery::check;
+use world_parts::{manager_of, returned, write_return};
 
 impl TxWorld {
     /// What a `reenlist` is answered: the manager hands in the information that it has of its enlistment, and that is checked against the history.

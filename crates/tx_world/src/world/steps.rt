@@ -13,10 +13,10 @@ ghost use Rattle.tx_world.specs.Prepared.{NamesPrepared};
 
 use super::TxWorld;
 use crate::refusal::WorldError;
-use crate::writing::{live, write_near};
 use coordinator_log::Log;
 use dtx_values::{EnlNo, Outbox, Reply};
 use outside::Disk;
+use world_parts::{live, write_near};
 
 impl TxWorld {
     /// Does the reply of an enlistment; false exactly where none is due.

@@ -6,7 +6,7 @@ ghost use Rattle.tx_world.specs.Prepared.{NamesPrepared};
 
 use super::TxWorld;
 use crate::refusal::WorldError;
-use crate::writing::has_begun;
+use world_parts::has_begun;
 
 /// Whether a stop of a life of the log hits who began in its own life.
 fn is_hit(begun: bool, stopped: bool, own: u64, life: u64) -> bool

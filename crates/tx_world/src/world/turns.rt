@@ -5,17 +5,17 @@ ghost use Rattle.dtx_model.specs.Steps.{pending};
 ghost use Rattle.coordinator_log.specs.Slots.{open_records};
 ghost use Rattle.tx_world.specs.AtLog.{Fits};
 ghost use Rattle.tx_world.specs.OwnCalls.{DoesAlone};
-ghost use Rattle.tx_world.specs.Pending.{IsAt, IsDueAt, IsDueIn, is_alone_step, name_of, step_of};
+ghost use Rattle.world_parts.specs.Pending.{IsAt, IsDueAt, IsDueIn, is_alone_step, name_of, step_of};
 ghost use Rattle.tx_world.specs.Stepping.{DoesKth, needs_log, reply_in};
 ghost use Rattle.tx_world.specs.Leaves.{Leaves};
 ghost use Rattle.tx_world.specs.Prepared.{NamesPrepared};
 
 use super::TxWorld;
-use crate::pending::{At, PendingStep, act_at, core_at, deliveries_at, replies_at};
 use crate::refusal::WorldError;
 use coordinator_log::Log;
 use dtx_values::{EnlNo, Note, Outbox};
 use outside::Disk;
+use world_parts::{At, PendingStep, act_at, core_at, deliveries_at, replies_at};
 
 /// More steps than are ever pending: 48 replies, both acts, and two deliveries on each of 34 connections.
 const FEW: usize = 118;

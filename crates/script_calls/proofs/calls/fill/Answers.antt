@@ -4,7 +4,7 @@ use Rattle.dtx_values.specs.declared.call.Call.{Call}
 use Rattle.dtx_values.specs.declared.script.Line.{Line}
 use Rattle.dtx_model.specs.Words.{past_of}
 use Rattle.scope_context.specs.Standing.{Standing}
-use Rattle.script_text.proofs.Scripts.{length_script}
+use Rattle.line_reader.proofs.Scripts.{length_script}
 use Rattle.script_calls.specs.Rows.{no_calls, row_at}
 use Rattle.script_calls.specs.RowsOf.{rows_of}
 use Rattle.script_calls.specs.Scoped.{AreOpen, calls_given, nothing_open, rolled_at}

@@ -1,6 +1,6 @@
 use Rattle.std.proofs.Common.{◌+◌, ap, arith, sym, ◌∙◌}
 use Rattle.dtx_values.specs.declared.number.ActorNo.{ActorNo}
-use Rattle.script_text.proofs.Scripts.{length_script}
+use Rattle.line_reader.proofs.Scripts.{length_script}
 use Rattle.script_calls.specs.Due.{log_call}
 use Rattle.script_calls.specs.Rows.{row_at}
 use Rattle.script_calls.proofs.Filling.{log_calls_next, log_row_more, log_row_same}

@@ -2,7 +2,7 @@ use Rattle.std.proofs.Common.{◌≡◌, ◌∙◌, ℕ, inl, inr, map, refl, su
 use Rattle.std.specs.String.{string_bytes}
 use Rattle.program_words.specs.Commands.{Asks}
 use Rattle.script_maker.specs.Gen.{gen}
-use Rattle.script_runner.specs.declared.exit.Exit.TheVariants.{NotThreadable, Usage}
+use Rattle.program_io.specs.declared.exit.Exit.TheVariants.{NotThreadable, Usage}
 use Rattle.program_words.specs.declared.command.Command.TheVariants.{Replay, Make, Demo, Threads}
 use Rattle.program_words.specs.declared.command.Form.{Form}
 use Rattle.script_runner.proofs.Programs.{demo_same, form_same, made_same, threads_same}

@@ -1,7 +1,7 @@
 use Rattle.std.proofs.Common.{ℕ, ◌≤◌, inl, inr, subst, sym}
 use Rattle.std.specs.Prelude.{IsTrue, vec_len}
 use Rattle.thread_runs.specs.Run.{RanOnThreads}
-use Rattle.script_runner.specs.Ending.{AreOwnLogs}
+use Rattle.replay_runs.specs.Ending.{AreOwnLogs}
 use Rattle.script_runner.specs.Program.{IsThreadsOf}
 use Rattle.script_runner.proofs.OwnRecords.{ends_on_threads, own_logs_of}
 use Rattle.script_runner.proofs.Threading.{all_on_threads, of_ok}

@@ -1,6 +1,6 @@
 use Rattle.std.proofs.Common.{◌≡◌, ◌++◌, ◌∷◌, [], arith, rules, sym, subst}
 use Rattle.dtx_model.specs.Grammar.{IsScript}
-use Rattle.script_text.proofs.Scripts.{bytes_more, length_script}
+use Rattle.line_reader.proofs.Scripts.{bytes_more, length_script}
 use Rattle.script_text.proofs.reader.read_script.Goals as goal
 
 pub loop-rest-preserved : goal.loop-rest-preserved

@@ -1,7 +1,7 @@
 use Rattle.std.proofs.Common.{◌≡◌, ◌+◌, ◌<◌, List, ap, arith, drop, get_or, length, map, subst, sym, take, ◌∙◌}
 use Rattle.dtx_values.specs.declared.script.Line.{Line}
 use Rattle.dtx_model.specs.Words.{past_of}
-use Rattle.script_text.proofs.Scripts.{length_script}
+use Rattle.line_reader.proofs.Scripts.{length_script}
 use Rattle.script_calls.specs.Scoped.{AreOpen}
 use Rattle.script_calls.proofs.Filling.{number_after, split_here}
 use Rattle.script_calls.proofs.Openings.{past_next, unopened}

@@ -11,7 +11,8 @@ use Rattle.coordinator_log.specs.Slots.{open_records}
 use Rattle.call_order.specs.InOrder.{AreInActorOrder}
 use Rattle.script_calls.specs.Prefix.{lines_by}
 use Rattle.tx_cells.specs.LogAnswers.{is_no_log_answer}
-use Rattle.thread_runs.proofs.Ended.{ends_there, is_gathered, lines_there, put_together, rise_known, rise_of, rise_told, up_there}
+use Rattle.thread_runs.proofs.Ended.{ends_there, is_gathered, lines_there, put_together, up_there}
+use Rattle.turn_parts.proofs.Counting.{rise_known, rise_of, rise_told}
 use Rattle.thread_runs.proofs.Laying.{laid_all}
 use Rattle.thread_runs.proofs.Standing.{all_follow, caused_there, followed_there, settled_there, tied_there}
 use Rattle.thread_runs.proofs.gathering.gathered.Goals as goal

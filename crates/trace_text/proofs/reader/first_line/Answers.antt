@@ -2,9 +2,10 @@ use Rattle.std.proofs.Common.{◌≡◌, ◌≢◌, ◌∙◌, ◌++◌, ◌≤�
 use Rattle.dtx_model.specs.Traces.{Placed}
 use Rattle.dtx_model.specs.TraceText.{is_fit, trace_line}
 use Rattle.line_tail.specs.Cut.{front}
-use Rattle.trace_text.specs.Forms.{line_words}
-use Rattle.trace_text.proofs.ReadLines.{front_line, line_fits, line_taken}
-use Rattle.trace_text.proofs.ReadPieces.{if_none, same_some, some_apart}
+use Rattle.trace_lines.specs.Forms.{line_words}
+use Rattle.trace_lines.proofs.LineEnds.{front_line}
+use Rattle.trace_text.proofs.ReadLines.{line_fits, line_taken}
+use Rattle.entry_reader.proofs.ReadPieces.{if_none, same_some, some_apart}
 use Rattle.trace_text.proofs.reader.first_line.Goals as goal
 
 pub returns-in_err-x-clause-none : goal.returns-in_err-x-clause-none

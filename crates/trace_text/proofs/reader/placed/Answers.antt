@@ -2,7 +2,7 @@ use Rattle.std.proofs.Common.{◌≡◌, Some, true, subst, sym}
 use Rattle.dtx_values.specs.declared.trace.Place.{Place}
 use Rattle.dtx_model.specs.TraceText.{is_entry_fit}
 use Rattle.trace_text.proofs.ReadLines.{placed_cut}
-use Rattle.trace_text.proofs.ReadPieces.{same_some, some_apart}
+use Rattle.entry_reader.proofs.ReadPieces.{same_some, some_apart}
 use Rattle.trace_text.proofs.reader.placed.Goals as goal
 
 pub returns-in_err-at-clause-of : goal.returns-in_err-at-clause-of

@@ -1,6 +1,6 @@
 use Rattle.std.proofs.Common.{◌≡◌}
 use Rattle.tx_cells.proofs.EitherWay.{ok_over}
-use Rattle.tx_threads.proofs.Causes.{failed_over}
+use Rattle.lent_turns.proofs.Causes.{failed_over}
 use Rattle.tx_threads.proofs.calling.enter.Goals as goal
 
 pub returns-clause-entered : goal.returns-clause-entered

@@ -2,9 +2,9 @@ use Rattle.std.proofs.Common.{◌∷◌}
 use Rattle.dtx_model.specs.World.{World}
 use Rattle.dtx_model.specs.Words.{onto}
 use Rattle.dtx_model.specs.Caused.{IsCallOf}
-use Rattle.outcome_law.proofs.Names.{script_once}
-use Rattle.outcome_law.proofs.Handing.{keeps_within}
-use Rattle.outcome_law.proofs.Steady.{free_keeps}
+use Rattle.history_table.proofs.Names.{script_once}
+use Rattle.history_table.proofs.Handing.{keeps_within}
+use Rattle.history_table.proofs.Steady.{free_keeps}
 use Rattle.world_laws.proofs.Places.{in_one_place, right_moves, right_placed}
 use Rattle.world_laws.proofs.laws.rights.Goals as goal
 

@@ -1,7 +1,7 @@
 use Rattle.dtx_model.specs.World.{World}
 use Rattle.dtx_model.specs.Caused.{IsCallOf}
-use Rattle.outcome_law.proofs.Names.{script_once}
-use Rattle.outcome_law.proofs.Steady.{free_keeps}
+use Rattle.history_table.proofs.Names.{script_once}
+use Rattle.history_table.proofs.Steady.{free_keeps}
 use Rattle.world_laws.proofs.Sendable.{id_valid, ran_ends}
 use Rattle.world_laws.proofs.LateAborts.{abort_untried}
 use Rattle.world_laws.proofs.laws.untried.Goals as goal

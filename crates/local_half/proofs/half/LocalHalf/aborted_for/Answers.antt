@@ -3,8 +3,9 @@ use Rattle.dtx_values.specs.declared.entry.Entry.{Entry}
 use Rattle.dtx_values.specs.Outgoing.{Outgoing, written}
 use Rattle.dtx_model.specs.Arrivals.{aborted_by, told_abort}
 use Rattle.dtx_model.specs.Half.{Half}
-use Rattle.local_half.specs.Half.{Known, after}
-use Rattle.local_half.proofs.Deciding.{aborted_after, aborted_there, heeds_all-append}
+use Rattle.half_parts.specs.Half.{Known, after}
+use Rattle.half_parts.proofs.Deciding.{aborted_after, heeds_all-append}
+use Rattle.local_half.proofs.News.{aborted_there}
 use Rattle.local_half.proofs.half.LocalHalf.aborted_for.Goals as goal
 use Rattle.dtx_model.proofs.Writing.{written-written}
 

@@ -2,9 +2,9 @@ use Rattle.std.proofs.Common.{◌∙◌, [], List, ap, sym}
 use Rattle.dtx_values.specs.declared.entry.Entry.{Entry}
 use Rattle.dtx_model.specs.Half.{heeds_all}
 use Rattle.dtx_model.specs.Outcome.{is_empty}
-use Rattle.local_half.specs.Half.{Known}
+use Rattle.half_parts.specs.Half.{Known}
 use Rattle.local_half.proofs.Acting.{act_made}
-use Rattle.local_half.proofs.Following.{acted}
+use Rattle.half_parts.proofs.Following.{acted}
 use Rattle.local_half.proofs.half.LocalHalf.act.Goals as goal
 
 pub returns-in-Some-clause-runs : goal.returns-in-Some-clause-runs

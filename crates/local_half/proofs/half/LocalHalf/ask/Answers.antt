@@ -2,9 +2,9 @@ use Rattle.std.proofs.Common.{sym, ◌∙◌, is_some}
 use Rattle.std.proofs.lemmas.List.{length-map}
 use Rattle.dtx_values.specs.Row.{mark_in}
 use Rattle.dtx_values.specs.Table.{marks, with_mark}
-use Rattle.local_half.proofs.Links.{links-table}
-use Rattle.local_half.proofs.Rows.{lasts-mark, row-mark, rows-mark}
-use Rattle.local_half.proofs.Waiters.{other_table}
+use Rattle.half_parts.proofs.Links.{links-table}
+use Rattle.half_parts.proofs.Rows.{lasts-mark, row-mark, rows-mark}
+use Rattle.half_parts.proofs.Waiters.{other_table}
 use Rattle.local_half.proofs.half.LocalHalf.ask.Goals as goal
 
 pub invariant_of-self : goal.invariant_of-self

@@ -1,8 +1,8 @@
 use Rattle.std.proofs.Common.{◌≡◌, false, true, rules, ap, sym, ◌∙◌}
 use Rattle.dtx_values.specs.declared.entry.Answer.TheVariants.{Wait}
 use Rattle.dtx_model.specs.Answers.{local_answer}
-use Rattle.local_half.specs.Half.{Known, is_done, is_waiting_answer}
-use Rattle.local_half.proofs.Following.{called, done_known, undone_known, wait_known}
+use Rattle.half_parts.specs.Half.{Known, is_done, is_waiting_answer}
+use Rattle.half_parts.proofs.Following.{called, done_known, undone_known, wait_known}
 use Rattle.local_half.proofs.half.LocalHalf.call.Goals as goal
 
 pub returns-then-eq-clause-state : goal.returns-then-eq-clause-state

@@ -1,8 +1,8 @@
 use Rattle.std.proofs.Common.{arith, subst, sym}
 use Rattle.dtx_values.specs.Outgoing.{Outgoing}
 use Rattle.dtx_model.specs.Half.{ended, is_promoting}
-use Rattle.local_half.specs.Half.{IsLeft}
-use Rattle.local_half.proofs.Deciding.{ended_length, ended_unsent, fails_short, fails_unsent, left_of}
+use Rattle.half_parts.specs.Half.{IsLeft}
+use Rattle.half_parts.proofs.Deciding.{ended_length, ended_unsent, fails_short, fails_unsent, left_of}
 use Rattle.local_half.proofs.half.LocalHalf.decide.Goals as goal
 
 pub returns-clause-left : goal.returns-clause-left

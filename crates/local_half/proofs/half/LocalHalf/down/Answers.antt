@@ -2,7 +2,7 @@ use Rattle.std.proofs.Common.{[], ap, ◌∙◌}
 use Rattle.dtx_values.specs.Outgoing.{written}
 use Rattle.dtx_model.specs.Arrivals.{ended_by, local_down}
 use Rattle.dtx_model.specs.Half.{heeds_all}
-use Rattle.local_half.specs.Half.{Known, after}
+use Rattle.half_parts.specs.Half.{Known, after}
 use Rattle.local_half.proofs.half.LocalHalf.down.Goals as goal
 
 pub returns-clause-state : goal.returns-clause-state

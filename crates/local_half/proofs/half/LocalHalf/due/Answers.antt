@@ -2,8 +2,8 @@ use Rattle.std.proofs.Common.{◌≡◌, ◌-◌, ◌∙◌, List, Some, ap, ari
 use Rattle.dtx_values.specs.declared.row.Row.{Row}
 use Rattle.dtx_model.specs.declared.branch.Branch.{Branch}
 use Rattle.dtx_model.specs.Replies.{with_names}
-use Rattle.local_half.specs.Half.{Known, first_due, lower}
-use Rattle.local_half.proofs.Due.{first_more, first_of_all}
+use Rattle.half_parts.specs.Half.{Known, first_due, lower}
+use Rattle.half_parts.proofs.Due.{first_more, first_of_all}
 use Rattle.local_half.proofs.half.LocalHalf.due.Goals as goal
 
 pub loop-i-preserved : goal.loop-i-preserved

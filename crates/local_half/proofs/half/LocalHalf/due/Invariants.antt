@@ -1,7 +1,7 @@
 use Rattle.std.proofs.Common.{◌≡◌, ◌≤◌, map, drop, length}
 use Rattle.dtx_values.specs.declared.row.Row.{Row}
 use Rattle.dtx_model.specs.Replies.{with_names}
-use Rattle.local_half.specs.Half.{first_due}
+use Rattle.half_parts.specs.Half.{first_due}
 use Rattle.local_half.proofs.half.LocalHalf.due.Given as goal
 
 abbrev pub invariant-loop-i : goal.invariant-loop-i

@@ -1,7 +1,7 @@
 use Rattle.std.proofs.Common.{◌≡◌, ◌≤◌, [], length, true, is_some}
 use Rattle.dtx_values.specs.Outgoing.{written}
 use Rattle.dtx_model.specs.Half.{ended}
-use Rattle.local_half.specs.Half.{after}
+use Rattle.half_parts.specs.Half.{after}
 use Rattle.local_half.proofs.half.LocalHalf.end_waits.Given as goal
 
 abbrev pub invariant-loop-n : goal.invariant-loop-n

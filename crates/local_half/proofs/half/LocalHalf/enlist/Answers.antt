@@ -2,12 +2,12 @@ use Rattle.std.proofs.Common.{ap, arith, is_some, subst, sym}
 use Rattle.dtx_values.specs.Row.{fresh_row}
 use Rattle.dtx_values.specs.Table.{marks}
 use Rattle.dtx_model.specs.declared.listener.Listener.{Listener}
-use Rattle.local_half.specs.Half.{Known}
-use Rattle.local_half.specs.Taken.{HasPlace}
-use Rattle.local_half.proofs.Lost.{lost-more, one_each}
-use Rattle.local_half.proofs.Links.{links-row}
-use Rattle.local_half.proofs.Rows.{rows-more}
-use Rattle.local_half.proofs.Waiters.{row_beside}
+use Rattle.half_parts.specs.Half.{Known}
+use Rattle.half_parts.specs.Taken.{HasPlace}
+use Rattle.half_parts.proofs.Lost.{lost-more, one_each}
+use Rattle.half_parts.proofs.Links.{links-row}
+use Rattle.half_parts.proofs.Rows.{rows-more}
+use Rattle.half_parts.proofs.Waiters.{row_beside}
 use Rattle.local_half.proofs.half.LocalHalf.enlist.Goals as goal
 
 pub invariant_of-self : goal.invariant_of-self

@@ -7,10 +7,10 @@ use Rattle.dtx_values.specs.Table.{how_many}
 use Rattle.dtx_model.specs.Answers.{class_of, has_promotion, local_answer}
 use Rattle.dtx_model.specs.Half.{heeds_all}
 use Rattle.dtx_model.specs.Waiting.{Waiter, is_place}
-use Rattle.local_half.specs.Half.{Known, after}
-use Rattle.local_half.specs.Taken.{HasPlace, with_call}
-use Rattle.local_half.proofs.Notes.{idle, may_clone, may_join, may_last, may_promote, unstarted_there}
-use Rattle.local_half.proofs.Waiting.{never_started}
+use Rattle.half_parts.specs.Half.{Known, after}
+use Rattle.half_parts.specs.Taken.{HasPlace, with_call}
+use Rattle.half_parts.proofs.Notes.{idle, may_clone, may_join, may_last, may_promote, unstarted_there}
+use Rattle.half_parts.proofs.Waiting.{never_started}
 use Rattle.local_half.proofs.half.LocalHalf.facts.Goals as goal
 use Rattle.dtx_model.proofs.Classes.{volatile_class}
 use Rattle.dtx_model.proofs.Writing.{written-none}

@@ -2,10 +2,10 @@ use Rattle.std.proofs.Common.{◌≡◌, ◌∙◌, [], List, false, true, is_so
 use Rattle.dtx_values.specs.declared.entry.Entry.{Entry}
 use Rattle.dtx_values.specs.Outgoing.{written}
 use Rattle.dtx_model.specs.Answers.{has_promotion}
-use Rattle.local_half.specs.Half.{Known, after}
-use Rattle.local_half.specs.Taken.{is_place_awaited, place_sent, with_waiter}
-use Rattle.local_half.proofs.Notes.{waits_for}
-use Rattle.local_half.proofs.Waiting.{place_awaited, started_facts}
+use Rattle.half_parts.specs.Half.{Known, after}
+use Rattle.half_parts.specs.Taken.{is_place_awaited, place_sent, with_waiter}
+use Rattle.half_parts.proofs.Notes.{waits_for}
+use Rattle.half_parts.proofs.Waiting.{place_awaited, started_facts}
 use Rattle.local_half.proofs.half.LocalHalf.facts_of_waiting.Goals as goal
 
 pub send_place-requires-clause-undecided : goal.send_place-requires-clause-undecided

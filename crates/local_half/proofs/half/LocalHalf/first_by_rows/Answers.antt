@@ -1,8 +1,8 @@
 use Rattle.std.proofs.Common.{arith, ◌≡◌, true, subst}
 use Rattle.std.proofs.lemmas.Grind.{common_steps}
 use Rattle.dtx_values.specs.Table.{rises_above}
-use Rattle.local_half.specs.Half.{Known}
-use Rattle.local_half.proofs.Due.{due_rows}
+use Rattle.half_parts.specs.Half.{Known}
+use Rattle.half_parts.proofs.Due.{due_rows}
 use Rattle.local_half.proofs.half.LocalHalf.first_by_rows.Goals as goal
 
 pub returns-in-Some : goal.returns-in-Some

@@ -1,8 +1,8 @@
 use Rattle.std.proofs.Common.{◌≡◌, ◌∙◌, List, Some, None, [], ap, slice_get, subst, sym}
 use Rattle.dtx_model.specs.Waiting.{Waiter}
-use Rattle.local_half.specs.Half.{Known}
-use Rattle.local_half.specs.Waits.{IsFirst}
-use Rattle.local_half.proofs.Waiters.{starts, starts_none}
+use Rattle.half_parts.specs.Half.{Known}
+use Rattle.half_parts.specs.Waits.{IsFirst}
+use Rattle.half_parts.proofs.Waiters.{starts, starts_none}
 use Rattle.local_half.proofs.half.LocalHalf.first_waiting.Goals as goal
 
 pub returns-in-Some : goal.returns-in-Some

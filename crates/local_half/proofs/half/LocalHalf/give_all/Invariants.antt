@@ -4,7 +4,7 @@ use Rattle.dtx_values.specs.Outgoing.{written}
 use Rattle.dtx_values.specs.Table.{how_many}
 use Rattle.dtx_model.specs.Half.{given}
 use Rattle.dtx_model.specs.Waiting.{is_place}
-use Rattle.local_half.specs.Half.{after}
+use Rattle.half_parts.specs.Half.{after}
 use Rattle.local_half.proofs.half.LocalHalf.give_all.Given as goal
 
 abbrev pub invariant-loop-n : goal.invariant-loop-n

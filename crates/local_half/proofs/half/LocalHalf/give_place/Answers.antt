@@ -4,12 +4,12 @@ use Rattle.dtx_values.specs.Table.{marks}
 use Rattle.dtx_model.specs.declared.listener.Listener.{Listener}
 use Rattle.dtx_model.specs.declared.waiting.Wanted.TheVariants.{Place}
 use Rattle.dtx_model.specs.Waiting.{is_place_of}
-use Rattle.local_half.specs.Half.{Known}
-use Rattle.local_half.specs.Waits.{without}
-use Rattle.local_half.proofs.Lost.{lost-more, one_each}
-use Rattle.local_half.proofs.Links.{links-placed}
-use Rattle.local_half.proofs.Rows.{rows-placed, taken}
-use Rattle.local_half.proofs.Waiters.{drop_waiter, place_found, row_beside, without_nothing}
+use Rattle.half_parts.specs.Half.{Known}
+use Rattle.half_parts.specs.Waits.{without}
+use Rattle.half_parts.proofs.Lost.{lost-more, one_each}
+use Rattle.half_parts.proofs.Links.{links-placed}
+use Rattle.half_parts.proofs.Rows.{rows-placed, taken}
+use Rattle.half_parts.proofs.Waiters.{drop_waiter, place_found, row_beside, without_nothing}
 use Rattle.local_half.proofs.half.LocalHalf.give_place.Goals as goal
 
 pub unreachable-requires : goal.unreachable-requires

@@ -3,9 +3,9 @@ use Rattle.dtx_values.specs.declared.entry.Answer.TheVariants.{Fine}
 use Rattle.dtx_model.specs.Answers.{gone_answer}
 use Rattle.dtx_model.specs.Half.{heeds_all, is_gone, stands}
 use Rattle.dtx_model.specs.World.{gone_decides}
-use Rattle.local_half.specs.Half.{Known, after, loss}
-use Rattle.local_half.proofs.Following.{lost}
-use Rattle.local_half.proofs.Notes.{standing_begun}
+use Rattle.half_parts.specs.Half.{Known, after, loss}
+use Rattle.half_parts.proofs.Following.{lost}
+use Rattle.half_parts.proofs.Notes.{standing_begun}
 use Rattle.local_half.proofs.half.LocalHalf.gone.Goals as goal
 
 pub returns-then-not-linked-clause-runs : goal.returns-then-not-linked-clause-runs

@@ -6,7 +6,7 @@ use Rattle.dtx_values.specs.Outgoing.{written}
 use Rattle.dtx_model.specs.Arrivals.{local_got}
 use Rattle.dtx_model.specs.Half.{heeds_all, sees}
 use Rattle.tm_proxy.specs.declared.news.ProxyNews.{ProxyNews}
-use Rattle.local_half.specs.Half.{Known, after}
+use Rattle.half_parts.specs.Half.{Known, after}
 use Rattle.local_half.specs.Told.{told_by}
 use Rattle.local_half.proofs.News.{arrived-news}
 use Rattle.local_half.proofs.half.LocalHalf.got.Goals as goal

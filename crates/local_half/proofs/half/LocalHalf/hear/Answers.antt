@@ -1,5 +1,5 @@
 use Rattle.std.proofs.Common.{is_some}
-use Rattle.local_half.proofs.Links.{links-got}
+use Rattle.half_parts.proofs.Links.{links-got}
 use Rattle.local_half.proofs.half.LocalHalf.hear.Goals as goal
 
 pub invariant_of-self : goal.invariant_of-self

@@ -1,5 +1,5 @@
 use Rattle.std.proofs.Common.{is_some}
-use Rattle.local_half.proofs.Links.{links-ended}
+use Rattle.half_parts.proofs.Links.{links-ended}
 use Rattle.local_half.proofs.half.LocalHalf.hear_end.Goals as goal
 
 pub invariant_of-self : goal.invariant_of-self

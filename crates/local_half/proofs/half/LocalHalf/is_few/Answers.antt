@@ -1,6 +1,6 @@
 use Rattle.std.proofs.Common.{◌≤◌, length, subst}
-use Rattle.local_half.specs.Half.{Known}
-use Rattle.local_half.proofs.Links.{ends_few}
+use Rattle.half_parts.specs.Half.{Known}
+use Rattle.half_parts.proofs.Links.{ends_few}
 use Rattle.local_half.proofs.half.LocalHalf.is_few.Goals as goal
 
 pub returns-clause-ends : goal.returns-clause-ends

@@ -1,7 +1,7 @@
 use Rattle.std.proofs.Common.{◌∙◌, ap, sym}
 use Rattle.dtx_model.specs.Half.{is_gone}
-use Rattle.local_half.specs.Half.{Known}
-use Rattle.local_half.proofs.Lost.{none_lost}
+use Rattle.half_parts.specs.Half.{Known}
+use Rattle.half_parts.proofs.Lost.{none_lost}
 use Rattle.local_half.proofs.half.LocalHalf.is_gone.Goals as goal
 
 pub returns-else-self : goal.returns-else-self

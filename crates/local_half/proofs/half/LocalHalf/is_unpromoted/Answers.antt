@@ -1,7 +1,7 @@
 use Rattle.std.proofs.Common.{◌≡◌, ◌∙◌, Bool, true, false, not, is_some, Option, ap, refl}
 use Rattle.dtx_values.specs.declared.words.Cause.{Cause}
-use Rattle.local_half.specs.Half.{Known}
-use Rattle.local_half.proofs.Following.{unpromoted}
+use Rattle.half_parts.specs.Half.{Known}
+use Rattle.half_parts.proofs.Following.{unpromoted}
 use Rattle.local_half.proofs.half.LocalHalf.is_unpromoted.Goals as goal
 
 flipped : (a b : Bool) → a ≡ not b → b ≡ not a

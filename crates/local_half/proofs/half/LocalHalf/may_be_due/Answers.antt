@@ -1,5 +1,5 @@
 use Rattle.std.proofs.Common.{◌∙◌, sym}
-use Rattle.local_half.proofs.Due.{none_due}
+use Rattle.half_parts.proofs.Due.{none_due}
 use Rattle.local_half.proofs.half.LocalHalf.may_be_due.Goals as goal
 
 pub returns-clause-none : goal.returns-clause-none

@@ -1,5 +1,5 @@
 use Rattle.std.proofs.Common.{◌∙◌, sym}
-use Rattle.local_half.proofs.Due.{quiet_row}
+use Rattle.half_parts.proofs.Due.{quiet_row}
 use Rattle.local_half.proofs.half.LocalHalf.may_owe_more.Goals as goal
 
 pub returns-clause-votes : goal.returns-clause-votes

@@ -6,8 +6,8 @@ use Rattle.dtx_model.specs.Acts.{lasts}
 use Rattle.dtx_model.specs.Words.{has}
 use Rattle.dtx_model.specs.Observed.{track}
 use Rattle.dtx_model.specs.Half.{heeds_all}
-use Rattle.local_half.specs.Half.{Known}
-use Rattle.local_half.proofs.Rows.{lasts-new, no_manager, rows-managed}
+use Rattle.half_parts.specs.Half.{Known}
+use Rattle.half_parts.proofs.Rows.{lasts-new, no_manager, rows-managed}
 use Rattle.local_half.proofs.half.LocalHalf.own.Goals as goal
 
 alone : (v l : Bool) → v ≡ false → (v || not l) ≡ true → l ≡ false

@@ -4,8 +4,8 @@ use Rattle.dtx_model.specs.Arrivals.{place_given}
 use Rattle.dtx_model.specs.Waiting.{Waiter, is_place_of}
 use Rattle.dtx_model.specs.declared.waiting.Wanted.{Wanted}
 use Rattle.dtx_model.specs.declared.waiting.Wanted.TheVariants.{Place}
-use Rattle.local_half.specs.Half.{Known, after}
-use Rattle.local_half.proofs.Waiters.{found_number}
+use Rattle.half_parts.specs.Half.{Known, after}
+use Rattle.half_parts.proofs.Waiters.{found_number}
 use Rattle.local_half.proofs.half.LocalHalf.place.Goals as goal
 use Rattle.local_half.proofs.half.LocalHalf.place.Goals.{In-Some-default-Place}
 

@@ -4,8 +4,8 @@ use Rattle.dtx_model.specs.Observed.{branch_due, is_branch, track}
 use Rattle.dtx_model.specs.Half.{heeds_all}
 use Rattle.dtx_model.specs.Words.{has}
 use Rattle.dtx_model.proofs.Passing.{has-map}
-use Rattle.local_half.specs.Half.{Known}
-use Rattle.local_half.proofs.Links.{found_branch}
+use Rattle.half_parts.specs.Half.{Known}
+use Rattle.half_parts.proofs.Links.{found_branch}
 use Rattle.local_half.proofs.half.LocalHalf.reenlist.Goals as goal
 
 pub write-requires-in-Some-clause-taken : goal.write-requires-in-Some-clause-taken

@@ -1,9 +1,9 @@
 use Rattle.std.proofs.Common.{None, is_some, ◌∙◌}
 use Rattle.std.proofs.lemmas.List.{length-map}
 use Rattle.dtx_model.specs.Observed.{come_back}
-use Rattle.local_half.specs.declared.branches.BranchChange.TheVariants.{Due}
-use Rattle.local_half.proofs.Links.{links-changed}
-use Rattle.local_half.proofs.Lost.{lost-come_back}
+use Rattle.half_parts.specs.declared.branches.BranchChange.TheVariants.{Due}
+use Rattle.half_parts.proofs.Links.{links-changed}
+use Rattle.half_parts.proofs.Lost.{lost-come_back}
 use Rattle.local_half.proofs.half.LocalHalf.regain.Goals as goal
 
 pub invariant_of-self : goal.invariant_of-self

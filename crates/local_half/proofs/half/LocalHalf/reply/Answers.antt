@@ -1,6 +1,6 @@
 use Rattle.std.proofs.Common.{◌∙◌, ap, sym}
-use Rattle.local_half.specs.Half.{fits_due}
-use Rattle.local_half.proofs.Following.{replied}
+use Rattle.half_parts.specs.Half.{fits_due}
+use Rattle.half_parts.proofs.Following.{replied}
 use Rattle.local_half.proofs.half.LocalHalf.reply.Goals as goal
 
 pub returns-in-Some-clause-runs : goal.returns-in-Some-clause-runs

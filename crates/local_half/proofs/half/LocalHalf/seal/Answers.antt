@@ -7,7 +7,7 @@ use Rattle.dtx_values.specs.Outgoing.{Outgoing, written}
 use Rattle.dtx_model.specs.Acts.{commit_sent}
 use Rattle.dtx_model.specs.Half.{heeds_all, to_up}
 use Rattle.dtx_model.specs.Observed.{track}
-use Rattle.local_half.specs.Half.{Known, after}
+use Rattle.half_parts.specs.Half.{Known, after}
 use Rattle.local_half.proofs.half.LocalHalf.seal.Goals as goal
 use Rattle.dtx_model.proofs.Writing.{written-written}
 

@@ -8,10 +8,10 @@ use Rattle.dtx_values.specs.Row.{is_lasting}
 use Rattle.dtx_values.specs.Table.{how_many}
 use Rattle.dtx_model.specs.Observed.{branches_after}
 use Rattle.dtx_model.specs.Waiting.{is_place}
-use Rattle.local_half.specs.Half.{Known}
-use Rattle.local_half.specs.Linked.{AreLinked}
-use Rattle.local_half.specs.Taken.{MaySend}
-use Rattle.local_half.proofs.Links.{ends_few, links-sent}
+use Rattle.half_parts.specs.Half.{Known}
+use Rattle.half_parts.specs.Linked.{AreLinked}
+use Rattle.half_parts.specs.Taken.{MaySend}
+use Rattle.half_parts.proofs.Links.{ends_few, links-sent}
 use Rattle.local_half.proofs.half.LocalHalf.send.Goals as goal
 
 -- what stands of the connections once the message is sent, as what is inside has it

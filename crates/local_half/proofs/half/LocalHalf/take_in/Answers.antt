@@ -2,11 +2,11 @@ use Rattle.std.proofs.Common.{◌≡◌, ◌∙◌, true, is_some, subst, sym}
 use Rattle.std.proofs.lemmas.List.{length-map}
 use Rattle.dtx_values.specs.Row.{vote_in}
 use Rattle.dtx_values.specs.Table.{was_asked, with_vote}
-use Rattle.local_half.specs.Half.{Known}
-use Rattle.local_half.specs.declared.branches.BranchChange.TheVariants.{Acked}
-use Rattle.local_half.proofs.Links.{links-changed, links-table}
-use Rattle.local_half.proofs.Rows.{lasts-vote, row-vote, rows-vote}
-use Rattle.local_half.proofs.Waiters.{other_table}
+use Rattle.half_parts.specs.Half.{Known}
+use Rattle.half_parts.specs.declared.branches.BranchChange.TheVariants.{Acked}
+use Rattle.half_parts.proofs.Links.{links-changed, links-table}
+use Rattle.half_parts.proofs.Rows.{lasts-vote, row-vote, rows-vote}
+use Rattle.half_parts.proofs.Waiters.{other_table}
 use Rattle.local_half.proofs.half.LocalHalf.take_in.Goals as goal
 
 pub invariant_of-self-in-Voted-1 : goal.invariant_of-self-in-Voted-1

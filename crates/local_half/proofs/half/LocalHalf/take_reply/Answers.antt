@@ -1,4 +1,4 @@
-use Rattle.local_half.proofs.Due.{voter_asked}
+use Rattle.half_parts.proofs.Due.{voter_asked}
 use Rattle.local_half.proofs.half.LocalHalf.take_reply.Goals as goal
 
 pub vote-requires-clause-asked : goal.vote-requires-clause-asked

@@ -1,9 +1,9 @@
 use Rattle.std.proofs.Common.{is_some, ◌∙◌}
 use Rattle.std.proofs.lemmas.List.{length-map}
 use Rattle.dtx_model.specs.Observed.{hear}
-use Rattle.local_half.specs.declared.branches.BranchChange.TheVariants.{Aborted}
-use Rattle.local_half.proofs.Links.{links-changed}
-use Rattle.local_half.proofs.Lost.{lost-hear}
+use Rattle.half_parts.specs.declared.branches.BranchChange.TheVariants.{Aborted}
+use Rattle.half_parts.proofs.Links.{links-changed}
+use Rattle.half_parts.proofs.Lost.{lost-hear}
 use Rattle.local_half.proofs.half.LocalHalf.tell.Goals as goal
 
 pub invariant_of-self-then-eq : goal.invariant_of-self-then-eq

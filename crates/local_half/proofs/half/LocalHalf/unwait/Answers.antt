@@ -1,13 +1,13 @@
 use Rattle.std.proofs.Common.{◌==◌, is_some, not, subst, sym}
 use Rattle.dtx_values.specs.declared.entry.Entry.TheVariants.{Answered}
 use Rattle.dtx_model.specs.Waiting.{is_place}
-use Rattle.local_half.specs.Half.{Known}
-use Rattle.local_half.specs.Taken.{MayTakeIn}
-use Rattle.local_half.specs.Waits.{without}
-use Rattle.local_half.proofs.Links.{links-answered}
-use Rattle.local_half.proofs.Lists.{how_many-filter-le}
-use Rattle.local_half.proofs.Rows.{rows-waits}
-use Rattle.local_half.proofs.Waiters.{drop_waiter, without_fewer, without_nothing}
+use Rattle.half_parts.specs.Half.{Known}
+use Rattle.half_parts.specs.Taken.{MayTakeIn}
+use Rattle.half_parts.specs.Waits.{without}
+use Rattle.half_parts.proofs.Links.{links-answered}
+use Rattle.half_parts.proofs.Lists.{how_many-filter-le}
+use Rattle.half_parts.proofs.Rows.{rows-waits}
+use Rattle.half_parts.proofs.Waiters.{drop_waiter, without_fewer, without_nothing}
 use Rattle.local_half.proofs.half.LocalHalf.unwait.Goals as goal
 
 pub invariant_of-self : goal.invariant_of-self

@@ -3,8 +3,8 @@ use Rattle.dtx_values.specs.declared.entry.Entry.{Entry}
 use Rattle.dtx_values.specs.declared.words.Outcome.TheVariants.{Aborted}
 use Rattle.dtx_values.specs.Outgoing.{Outgoing, written}
 use Rattle.dtx_model.specs.Half.{Half, decide, veto, veto_message}
-use Rattle.local_half.specs.Half.{Known, after}
-use Rattle.local_half.proofs.Deciding.{ends_decided, heeds_all-append, message_by}
+use Rattle.half_parts.specs.Half.{Known, after}
+use Rattle.half_parts.proofs.Deciding.{ends_decided, heeds_all-append, message_by}
 use Rattle.local_half.proofs.half.LocalHalf.veto.Goals as goal
 use Rattle.dtx_model.proofs.Writing.{written-written}
 

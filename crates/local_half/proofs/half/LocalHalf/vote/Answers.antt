@@ -3,7 +3,7 @@ use Rattle.dtx_values.specs.declared.entry.Entry.TheVariants.{Voted}
 use Rattle.dtx_values.specs.Outgoing.{Outgoing, written}
 use Rattle.dtx_model.specs.Half.{heeds_all, sees}
 use Rattle.dtx_model.specs.Replies.{reply_entries, voted_by}
-use Rattle.local_half.specs.Half.{Known, after}
+use Rattle.half_parts.specs.Half.{Known, after}
 use Rattle.local_half.proofs.half.LocalHalf.vote.Goals as goal
 use Rattle.dtx_model.proofs.Writing.{written-written}
 

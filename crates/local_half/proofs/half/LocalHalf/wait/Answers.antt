@@ -1,7 +1,7 @@
 use Rattle.std.proofs.Common.{◌≡◌, true, arith, is_some, subst, sym}
 use Rattle.dtx_model.specs.Answers.{has_promotion}
-use Rattle.local_half.specs.Half.{Known}
-use Rattle.local_half.proofs.Waiting.{waits_seen, started_cause}
+use Rattle.half_parts.specs.Half.{Known}
+use Rattle.half_parts.proofs.Waiting.{waits_seen, started_cause}
 use Rattle.local_half.proofs.half.LocalHalf.wait.Goals as goal
 
 pub invariant_of-self : goal.invariant_of-self

@@ -3,9 +3,9 @@ use Rattle.dtx_model.specs.Answers.{has_promotion}
 use Rattle.dtx_values.specs.Table.{insert_by}
 use Rattle.dtx_model.specs.Waiting.{waiter_line, wanted_by}
 use Rattle.dtx_model.proofs.Bools.{or_first}
-use Rattle.local_half.specs.Half.{Known}
-use Rattle.local_half.specs.Linked.{AreRows}
-use Rattle.local_half.proofs.Waiting.{waits_seen}
+use Rattle.half_parts.specs.Half.{Known}
+use Rattle.half_parts.specs.Linked.{AreRows}
+use Rattle.half_parts.proofs.Waiting.{waits_seen}
 use Rattle.local_half.proofs.half.LocalHalf.wait_first.Goals as goal
 
 pub invariant_of-self : goal.invariant_of-self

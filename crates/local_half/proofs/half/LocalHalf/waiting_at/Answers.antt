@@ -1,8 +1,8 @@
 use Rattle.std.proofs.Common.{◌∙◌, List, ap, slice_get, subst}
 use Rattle.dtx_model.specs.Waiting.{Waiter}
-use Rattle.local_half.specs.Half.{Known}
-use Rattle.local_half.specs.Waits.{IsAt}
-use Rattle.local_half.proofs.Waiters.{at}
+use Rattle.half_parts.specs.Half.{Known}
+use Rattle.half_parts.specs.Waits.{IsAt}
+use Rattle.half_parts.proofs.Waiters.{at}
 use Rattle.local_half.proofs.half.LocalHalf.waiting_at.Goals as goal
 
 pub returns-clause-at : goal.returns-clause-at

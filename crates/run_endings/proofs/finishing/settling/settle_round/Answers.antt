@@ -4,7 +4,8 @@ use Rattle.dtx_model.specs.Outcome.{is_empty}
 use Rattle.dtx_model.specs.Steps.{pending}
 use Rattle.dtx_model.specs.Words.{each}
 use Rattle.tx_cells.specs.Cell.{Cell}
-use Rattle.run_endings.proofs.Settling.{each_more_set, up_between}
+use Rattle.run_endings.proofs.Settling.{each_more_set}
+use Rattle.turn_parts.proofs.Settling.{up_between}
 use Rattle.run_endings.proofs.Untied.{untied_at}
 use Rattle.run_endings.proofs.finishing.settling.settle_round.Goals as goal
 

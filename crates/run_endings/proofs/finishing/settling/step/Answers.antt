@@ -5,7 +5,8 @@ use Rattle.dtx_model.specs.Words.{kth}
 use Rattle.tx_world.specs.Stepping.{reply_in}
 use Rattle.tx_cells.specs.declared.error.TurnError.{TurnError}
 use Rattle.tx_cells.specs.Turns.{is_due}
-use Rattle.run_endings.proofs.Settling.{is_due_first, none_first}
+use Rattle.run_endings.proofs.Settling.{is_due_first}
+use Rattle.turn_parts.proofs.Settling.{none_first}
 use Rattle.run_endings.proofs.finishing.settling.step.Goals as goal
 
 pub returns-in_default-clause-none : goal.returns-in_default-clause-none

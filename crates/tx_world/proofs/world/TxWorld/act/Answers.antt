@@ -3,7 +3,7 @@ use Rattle.dtx_model.specs.Steps.{Acts}
 use Rattle.tx_world.proofs.Silent.{act_silent}
 use Rattle.tx_world.proofs.Silently.{ready_written, written_done, written_named, written_whole}
 use Rattle.tx_world.proofs.Written.{Ready, act_ready, world_of}
-use Rattle.tx_world.specs.Sending.{MayWrite, is_sent}
+use Rattle.world_parts.specs.Sending.{MayWrite, is_sent}
 use Rattle.dtx_model.specs.Words.{has}
 use Rattle.tx_world.proofs.Sending.{act_calm, may_write_near, unsent_there}
 use Rattle.tx_world.proofs.Few.{few_there}

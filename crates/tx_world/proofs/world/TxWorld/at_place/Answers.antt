@@ -7,8 +7,8 @@ use Rattle.dtx_model.specs.Plans.{plan_of}
 use Rattle.dtx_model.specs.World.{World}
 use Rattle.dtx_model.specs.Steps.{deliveries_on, pending, replies_due}
 use Rattle.tx_world.specs.State.{TxState}
-use Rattle.tx_world.specs.declared.pending.At.TheVariants.{Step as StepHere, Beyond}
-use Rattle.tx_world.specs.Pending.{IsAt, IsDueAt, IsDueIn, IsPlannedAt}
+use Rattle.world_parts.specs.declared.pending.At.TheVariants.{Step as StepHere, Beyond}
+use Rattle.world_parts.specs.Pending.{IsAt, IsDueAt, IsDueIn, IsPlannedAt}
 use Rattle.tx_world.proofs.Listing.{act_due, at_act, at_core, at_delivery, at_reply, core_due, delivery_due, reply_due}
 use Rattle.tx_world.proofs.world.TxWorld.at_place.Goals as goal
 

@@ -12,7 +12,7 @@ use Rattle.tx_world.specs.AtLog.{Kept as LogKept, Tie, id_of}
 use Rattle.tx_world.specs.Kept.{Whole, stop_if, stopped_if}
 use Rattle.tx_world.specs.State.{TxState, is_reached_by}
 use Rattle.tx_world.proofs.AtTheLog.{restart_tied, told, told_stopped}
-use Rattle.tx_world.proofs.Records.{had_found}
+use Rattle.world_parts.proofs.Records.{had_found}
 use Rattle.tx_world.proofs.Written.{world_of}
 use Rattle.tx_world.proofs.Naming.{named_told}
 use Rattle.tx_world.proofs.world.TxWorld.coordinator_restarted.Given.{Over}

@@ -7,7 +7,7 @@ use Rattle.dtx_model.specs.Outcome.{is_empty}
 use Rattle.dtx_model.specs.Words.{onto, past_of}
 use Rattle.dtx_model.specs.Steps.{Calls, entered}
 use Rattle.dtx_model.specs.World.{answer_at, open_ones}
-use Rattle.tx_world.specs.Entering.{links_cut}
+use Rattle.world_parts.specs.Entering.{links_cut}
 use Rattle.tx_world.specs.State.{TxState, may_enter}
 use Rattle.tx_world.proofs.Calling.{with_call}
 use Rattle.tx_world.proofs.Leaving.{gone_stands, left, left_few, left_past, left_sendable, rows_promotable}

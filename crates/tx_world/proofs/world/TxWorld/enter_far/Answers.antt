@@ -3,7 +3,7 @@ use Rattle.std.specs.Prelude.{OnOk}
 use Rattle.dtx_values.specs.declared.call.Call.{Call}
 use Rattle.dtx_values.specs.declared.call.Call.TheVariants.{Lose, Gone, Reenlist, Recovered}
 use Rattle.dtx_model.specs.Steps.{Calls}
-use Rattle.tx_world.specs.Entering.{is_near}
+use Rattle.world_parts.specs.Entering.{is_near}
 use Rattle.tx_world.specs.OwnCalls.{DoesAlone}
 use Rattle.tx_world.proofs.Far.{fine_there}
 use Rattle.tx_world.proofs.world.TxWorld.enter_far.Goals as goal

@@ -3,14 +3,14 @@ use Rattle.dtx_model.specs.Caused.{MayAnswer}
 use Rattle.dtx_model.specs.Steps.{Calls, entered}
 use Rattle.dtx_model.specs.Words.{past_of}
 use Rattle.dtx_model.specs.World.{answer_at}
-use Rattle.tx_world.specs.Entering.{is_unlinked}
+use Rattle.world_parts.specs.Entering.{is_unlinked}
 use Rattle.tx_world.specs.State.{TxState, may_enter}
 use Rattle.tx_world.proofs.Calling.{answer_there, call_ready, free_there, with_call}
 use Rattle.tx_world.proofs.Living.{near_done, near_whole}
 use Rattle.tx_world.proofs.Written.{Ready, world_of}
-use Rattle.tx_world.specs.Sending.{is_sent}
+use Rattle.world_parts.specs.Sending.{is_sent}
 use Rattle.dtx_model.specs.Words.{has}
-use Rattle.tx_world.specs.Sending.{may_promote}
+use Rattle.world_parts.specs.Sending.{may_promote}
 use Rattle.dtx_model.proofs.Bools.{or_first, or_second}
 use Rattle.tx_world.proofs.Sending.{call_calm, may_write_near, unsent_there}
 use Rattle.tx_world.proofs.Few.{few_there}

@@ -9,7 +9,7 @@ use Rattle.tx_world.proofs.Living.{near_done, near_whole}
 use Rattle.tx_world.proofs.Onward.{half_is}
 use Rattle.tx_world.proofs.Written.{Ready, reply_ready, world_of}
 use Rattle.tx_world.proofs.Naming.{named_near}
-use Rattle.tx_world.specs.Sending.{is_sent}
+use Rattle.world_parts.specs.Sending.{is_sent}
 use Rattle.dtx_model.specs.Words.{has}
 use Rattle.tx_world.proofs.Sending.{may_write_near, reply_calm, unsent_there}
 use Rattle.tx_world.proofs.Few.{few_there}

@@ -1,0 +1,2 @@
+pub mod ReadInfo
+pub mod ReadPieces

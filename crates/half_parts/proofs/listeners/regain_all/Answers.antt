@@ -1,0 +1,10 @@
+use Rattle.std.proofs.Common.{◌∙◌, ap, sym}
+use Rattle.std.proofs.lemmas.List.Edits.{map_over_more}
+use Rattle.dtx_model.specs.declared.listener.Listener.{Listener}
+use Rattle.dtx_model.specs.Observed.{come_back}
+use Rattle.half_parts.proofs.listeners.regain_all.Goals as goal
+
+pub loop-l-preserved : goal.loop-l-preserved
+loop-l-preserved c =
+    let f : Listener → Listener = come_back c.args.e.value in
+    rw (c.regain_one.ensures ∙ ap f (sym c.l-item.is)) (map_over_more f c.args.listeners.now c.loop-l.listeners c.loop-l.l-index c.l-item.result c.loop-l-test.true c.loop-l.invariant c.l-item.is)

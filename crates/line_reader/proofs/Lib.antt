@@ -1,0 +1,9 @@
+pub mod Forms
+pub mod Keys
+pub mod Tables
+pub mod WordFaults
+pub mod Figures
+pub mod CleanWords
+pub mod LineTexts
+pub mod Fronts
+pub mod Scripts

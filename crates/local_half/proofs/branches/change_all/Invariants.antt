@@ -1,6 +1,0 @@
-use Rattle.std.proofs.Common.{◌≡◌, ◌++◌, map, take, drop}
-use Rattle.local_half.specs.Branches.{changed}
-use Rattle.local_half.proofs.branches.change_all.Given as goal
-
-abbrev pub invariant-loop-b : goal.invariant-loop-b
-invariant-loop-b l = l.branches ≡ map (changed l.e.value l.x) (take l.b-index l.initial.branches) ++ drop l.b-index l.initial.branches

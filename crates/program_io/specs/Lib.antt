@@ -1,0 +1,4 @@
+pub mod FormText
+pub mod Judged
+pub mod Refusal
+pub mod Transfer

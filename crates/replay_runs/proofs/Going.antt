@@ -1,0 +1,75 @@
+-- How the parts of a run follow each other: what two parts in a row keep, they keep together.
+use Rattle.std.proofs.Common.{◌≡◌, ◌≤◌, ◌∙◌, ℕ, Bool, true, false, List, sym, subst, refl, arith, inl, inr}
+use Rattle.std.specs.Prelude.{nat_lt}
+use Rattle.outside.proofs.Rising.{rose_earlier, rose_later}
+use Rattle.dtx_model.specs.declared.waiting.EnteredCall.{EnteredCall}
+use Rattle.dtx_model.specs.Words.{each}
+use Rattle.coordinator_log.specs.State.{LogState}
+use Rattle.tx_world.specs.State.{TxState}
+use Rattle.replay_runs.specs.LogRun.{LogGoes, LogStays}
+use Rattle.replay_runs.specs.RunState.{AreBelow, HaveSameCalls, Holds, RunState, RunsOn, StepsGo}
+
+-- a log that nothing touched
+pub goes_same : {D : Type 0} (faults : D → ℕ) (honest : Bool) (image : D → List ℕ → Type 0) (log : LogState D) → LogGoes faults honest image log log
+goes_same faults honest image log = record { grows = omega arith; logs = λ h are. are; foreign = λ h before kept. kept }
+
+pub stays_same : {D : Type 0} (faults : D → ℕ) (log : LogState D) → LogStays faults log log
+stays_same faults log = record { stays = λ up none. inl up; still = λ up. up; unarmed = λ none. none; life = refl }
+
+-- two parts of a run in a row, at the log
+pub goes_then : {D : Type 0} (faults : D → ℕ) (honest : Bool) (image : D → List ℕ → Type 0) (a b c : LogState D) → LogGoes faults honest image a b → LogGoes faults honest image b c
+    → LogGoes faults honest image a c
+goes_then faults honest image a b c p q =
+    record { grows = omega (arith, p.grows, q.grows); logs = λ h are. q.logs h (p.logs h are); foreign = λ h before kept. q.foreign h before (p.foreign h before kept) }
+
+pub stays_then : {D : Type 0} (faults : D → ℕ) (a b c : LogState D) → faults a.disk ≤ faults b.disk → faults b.disk ≤ faults c.disk → LogStays faults a b → LogStays faults b c → LogStays faults a c
+stays_then faults a b c first second p q =
+    record {
+      stays = λ up none.
+          elim (p.stays up none) [
+            | inl here ↦ elim (q.stays here (p.unarmed none)) [
+              | inl there ↦ inl there
+              | inr rose ↦ inr (rose_earlier (faults a.disk) (faults b.disk) (faults c.disk) first rose)
+            ]
+            | inr rose ↦ inr (rose_later (faults a.disk) (faults b.disk) (faults c.disk) rose second)
+          ];
+      still = λ up. p.still (q.still up);
+      unarmed = λ none. q.unarmed (p.unarmed none);
+      life = q.life ∙ p.life;
+    }
+
+-- and of the run
+pub runs_same : {D : Type 0} (faults : D → ℕ) (honest : Bool) (image : D → List ℕ → Type 0) (log : LogState D) (r : RunState) → Holds honest image log r → RunsOn faults honest image log log r r
+runs_same faults honest image log r h = record { script = refl; objects = refl; holds = h; tells = λ start told. told }
+
+pub runs_then : {D : Type 0} (faults : D → ℕ) (honest : Bool) (image : D → List ℕ → Type 0) (a b c : LogState D) (p q r : RunState) → RunsOn faults honest image a b p q → RunsOn faults honest image b c q r → RunsOn faults honest image a c p r
+runs_then faults honest image a b c p q r first second =
+    record { script = second.script ∙ first.script; objects = second.objects ∙ first.objects; holds = second.holds; tells = λ start told. second.tells start (first.tells start told) }
+
+-- no part entered a call
+pub calls_then : (a b c : List TxState) → HaveSameCalls a b → HaveSameCalls b c → HaveSameCalls a c
+calls_then a b c p q = λ t. q t ∙ p t
+
+-- steps that were none, and steps of two parts in a row
+pub steps_same : {D : Type 0} (faults : D → ℕ) (honest : Bool) (image : D → List ℕ → Type 0) (log : LogState D) (r : RunState) → StepsGo faults honest image log log r r
+steps_same faults honest image log r = record { contexts = refl; calls = λ t. refl; log = goes_same faults honest image log; stays = stays_same faults log }
+
+pub steps_then : {D : Type 0} (faults : D → ℕ) (honest : Bool) (image : D → List ℕ → Type 0) (a b c : LogState D) (p q r : RunState) → StepsGo faults honest image a b p q → StepsGo faults honest image b c q r
+    → StepsGo faults honest image a c p r
+steps_then faults honest image a b c p q r first second =
+    record {
+      contexts = second.contexts ∙ first.contexts;
+      calls = calls_then p.worlds q.worlds r.worlds first.calls second.calls;
+      log = goes_then faults honest image a b c first.log second.log;
+      stays = stays_then faults a b c first.log.grows second.log.grows first.stays second.stays;
+    }
+
+-- where no call was entered, the calls are still those of the lines before
+pub below_same : (n : ℕ) (old new : List TxState) → HaveSameCalls old new → AreBelow n old → AreBelow n new
+below_same n old new same below = λ t. subst (λ (ks : List EnteredCall). each (λ k. nat_lt k.line n) ks ≡ true) (sym (same t)) (below t)
+
+-- A log that is stopped before a part is so after it.
+pub down_still : (a b : Bool) → (b ≡ true → a ≡ true) → a ≡ false → b ≡ a
+down_still true b still e = absurd cc
+down_still false true still e = absurd (let k = still refl in cc)
+down_still false false still e = refl

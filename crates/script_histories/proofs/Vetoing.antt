@@ -1,0 +1,187 @@
+-- Where the coordinator aborts, or the local side decided an abort, a veto came first.
+use Rattle.std.proofs.Common.{◌≡◌, true, List, ◌∷◌, false, Bool, ◌&&◌, subst, refl, [], ◌==◌, Some, ◌||◌, ◌⊎◌, inl, inr}
+use Rattle.std.specs.Prelude.{not}
+use Rattle.std.proofs.lemmas.Bool.{or_left}
+use Rattle.dtx_values.specs.declared.entry.Entry.{Entry}
+use Rattle.dtx_values.specs.declared.entry.Entry.TheVariants.{Sent, Got, Voted, Requested, PromotionFailed, Decided, Down as End, LogFull, Restarted}
+use Rattle.dtx_values.specs.declared.entry.Request.TheVariants.{Abort}
+use Rattle.dtx_values.specs.declared.message.Conn.{Conn}
+use Rattle.dtx_values.specs.declared.message.Conn.TheVariants.{Begin, Voter, Enl}
+use Rattle.dtx_values.specs.declared.message.Dir.{Dir}
+use Rattle.dtx_values.specs.declared.message.Dir.TheVariants.{Up, Down}
+use Rattle.dtx_values.specs.declared.message.Message.{Message}
+use Rattle.dtx_values.specs.declared.message.Message.TheVariants.{BeginAbort, EnlistNo, VoterNo}
+use Rattle.dtx_values.specs.declared.number.EnlNo.{EnlNo}
+use Rattle.dtx_values.specs.declared.words.Outcome.TheVariants.{Aborted, Committed, InDoubt}
+use Rattle.dtx_values.specs.declared.words.Vote.{Vote}
+use Rattle.dtx_values.specs.declared.words.Vote.TheVariants.{No, Yes, Done}
+use Rattle.dtx_values.specs.Ends.{same_connection, same_direction}
+use Rattle.dtx_values.specs.Lines.{has_line}
+use Rattle.dtx_model.specs.Words.{ever, has, latest}
+use Rattle.dtx_model.specs.Entries.{is_asked, is_decision, is_promoted, is_record, is_vote, is_lost, is_sealed, decision_of, is_yes}
+use Rattle.dtx_model.specs.Outcome.{is_first_veto, vetoed, evidence, is_veto}
+use Rattle.dtx_model.specs.Learned.{is_abort, coordinator_aborted, is_first_abort}
+use Rattle.dtx_model.specs.Promotes.{ends_told, is_refusal, is_promoting}
+use Rattle.dtx_model.proofs.Bools.{or_right, and_both, not_false, and_left, and_right, not_both, not_true, or_case, or_second}
+use Rattle.dtx_model.proofs.Connections.{same_is, same_way_is}
+use Rattle.history_table.proofs.Crossed.{is_sent_on, got_sent}
+use Rattle.history_table.proofs.Tests.{second_of_five, third_of_five, second_of_four, fourth_of_four}
+use Rattle.history_table.proofs.EntryTests.{is_enlisted, is_no_vote}
+use Rattle.history_table.proofs.Table.{stands_volatile, is_cast, ends_with, is_abort_request, stands_promotable, calls_off, is_lost_there, but_failed, ends_called_off, is_abort_decided, message_row, is_there}
+use Rattle.history_table.proofs.Keeping.{Keeps, keeps_before, newest}
+use Rattle.history_table.proofs.Recording.{promoting_if_promoted, refusal_aborted, told_aborted, got_calm, abort_promoting}
+use Rattle.history_table.proofs.Evident.{unrecorded_open}
+use Rattle.history_table.proofs.Sendings.{aborted_more, end_promoting, got_line}
+use Rattle.history_table.proofs.Scans.{has_more}
+use Rattle.script_histories.proofs.EvidentOwners.{asked_volatile, unvoted_open}
+use Rattle.script_histories.proofs.Rules.{decided_same}
+
+-- a veto stays, and a first one is one
+pub veto_more : (x : Entry) (h : List Entry) → vetoed h ≡ true → vetoed (x ∷ h) ≡ true
+unfolding vetoed
+veto_more x h t = or_right (is_first_veto h x) (ever is_first_veto h) t
+
+pub veto_new : (x : Entry) (h : List Entry) → is_first_veto h x ≡ true → vetoed (x ∷ h) ≡ true
+unfolding vetoed
+veto_new x h t = or_left (is_first_veto h x) (ever is_first_veto h) t
+
+first_now : (x : Entry) (h : List Entry) → is_veto h x ≡ true → evidence h ≡ false → vetoed (x ∷ h) ≡ true
+first_now x h v e = veto_new x h (and_both (is_veto h x) (not (evidence h)) v (not_false (evidence h) e))
+
+-- the message carries a veto to the coordinator
+abbrev pub is_veto_message : Conn → Message → Bool
+is_veto_message Begin BeginAbort = true
+is_veto_message Voter VoterNo = true
+is_veto_message (Enl e) EnlistNo = true
+is_veto_message c m = false
+
+abbrev pub is_veto_sent : Entry → Bool
+is_veto_sent (Sent c Up m) = is_veto_message c m
+is_veto_sent _ = false
+
+sent_veto : (c : Conn) (x : Entry) → is_sent_on c Up (is_veto_message c) x ≡ true → is_veto_sent x ≡ true
+sent_veto c (Sent e r m) t =
+    let both = and_left (same_connection c e && same_direction Up r) (is_veto_message c m) t in
+    let conn : c ≡ e = same_is c e (and_left (same_connection c e) (same_direction Up r) both) in
+    let way : Up ≡ r = same_way_is Up r (and_right (same_connection c e) (same_direction Up r) both) in
+    let P : Conn → Type 0 = λ y. is_veto_message y m ≡ true in
+    let Q : Dir → Type 0 = λ y. is_veto_sent (Sent e y m) ≡ true in
+    subst Q way (subst P conn (and_right (same_connection c e && same_direction Up r) (is_veto_message c m) t))
+sent_veto c _ t = absurd cc
+
+-- the abort that it makes of such a message: where the message has a line there
+abort_message : (c : Conn) (m : Message) (h : List Entry) → is_abort h (Got c Up m) ≡ true → has_line c Up m ≡ true → is_veto_message c m ≡ true
+abort_message Begin BeginAbort h t l = refl
+abort_message Voter VoterNo h t l = refl
+abort_message (Enl e) EnlistNo h t l = refl
+abort_message c m h t l = absurd cc
+
+-- a vote comes where there is no evidence yet, unless there is a record
+early : (e : EnlNo) (v : Vote) (h : List Entry) → Keeps (Voted e v ∷ h) → has is_record h ≡ false → evidence h ≡ false
+early e v h k s = step (has is_promoted h) refl
+  where
+    past : Keeps h
+    past = keeps_before (Voted e v) h k
+
+    step : (b : Bool) → has is_promoted h ≡ b → evidence h ≡ false
+    step true p = unrecorded_open h past (promoting_if_promoted h past p) s
+    step false p =
+        let asked = second_of_five (has (is_enlisted e.value) h) (has (is_asked e.value) h) (not (has (is_vote e.value) h)) (not (has (is_lost e.value) h)) (not (stands_volatile e.value h && has is_decision h)) (newest (Voted e v) h k) in
+        let unvoted = third_of_five (has (is_enlisted e.value) h) (has (is_asked e.value) h) (not (has (is_vote e.value) h)) (not (has (is_lost e.value) h)) (not (stands_volatile e.value h && has is_decision h)) (newest (Voted e v) h k) in
+        let volatile = or_case (stands_volatile e.value h) (has is_promoted h) (λ t. t) (λ t. absurd (not_both (has is_promoted h) t p)) (asked_volatile e.value h past asked) in
+        unvoted_open e.value h volatile (not_true (has (is_vote e.value) h) unvoted) p
+
+-- a vote no is a veto, unless there is a record
+no_vetoed : (h : List Entry) → Keeps h → has is_record h ≡ false → has is_no_vote h ≡ true → vetoed h ≡ true
+no_vetoed [] k s t = absurd cc
+no_vetoed (Voted e No ∷ h) k s t = first_now (Voted e No) h refl (early e No h k s)
+no_vetoed (x ∷ h) k s t = veto_more x h (no_vetoed h (keeps_before x h k) (or_second (is_record x) (has is_record h) s) t)
+
+cast_no : (e : EnlNo) (x : Entry) → is_cast (Enl e) No x ≡ true → is_no_vote x ≡ true
+cast_no e (Voted f No) t = refl
+cast_no e (Voted f Yes) t = let never = and_right (e.value == f.value) false t in absurd cc
+cast_no e (Voted f Done) t = let never = and_right (e.value == f.value) false t in absurd cc
+cast_no e _ t = absurd cc
+
+-- the request of an abort is a veto, unless there is a record
+request_vetoed : (h : List Entry) → Keeps h → has is_record h ≡ false → ends_with is_abort_request h ≡ true → vetoed h ≡ true
+request_vetoed (Requested e Abort ∷ h) k s t =
+    let past = keeps_before (Requested e Abort) h k in
+    let promoted = second_of_four (not (has is_decision h)) (has is_promoted h) (has is_sealed h) (stands_promotable e.value h) (newest (Requested e Abort) h k) in
+    first_now (Requested e Abort) h refl (unrecorded_open h past (promoting_if_promoted h past promoted) s)
+request_vetoed _ k s t = absurd cc
+
+-- the three that show a veto: an abort that was decided, one of the coordinator, and a veto's message, unless there is a record
+pub record IsVetoed (h : List Entry) : Type 0 where
+  pub decided : latest decision_of h ≡ Some Aborted → vetoed h ≡ true
+  pub aborted : coordinator_aborted h ≡ true → vetoed h ≡ true
+  pub sent : has is_record h ≡ false → has is_veto_sent h ≡ true → vetoed h ≡ true
+
+-- what the local side aborts after shows a veto, or the coordinator's abort
+off_either : (x : Entry) (h : List Entry) → Keeps (x ∷ h) → calls_off h x ≡ true → (vetoed (x ∷ h) ≡ true) ⊎ (coordinator_aborted (x ∷ h) ≡ true)
+off_either x h k t =
+    or_case (is_first_veto h x && (not (has is_yes h) || is_lost_there h x)) (is_refusal x || ends_told h x)
+    (λ v. inl (veto_new x h (and_left (is_first_veto h x) (not (has is_yes h) || is_lost_there h x) v)))
+    (λ a. inr (aborted_more x h (or_case (is_refusal x) (ends_told h x) (refusal_aborted x h k) (told_aborted x h (keeps_before x h k)) a))) t
+
+abort_vetoed : (h : List Entry) → Keeps h → (coordinator_aborted h ≡ true → vetoed h ≡ true) → ends_called_off (but_failed h) ≡ true → vetoed h ≡ true
+abort_vetoed [] k f t = absurd cc
+abort_vetoed (PromotionFailed ∷ []) k f t = absurd cc
+abort_vetoed (PromotionFailed ∷ x ∷ h) k f t = elim (off_either x h (keeps_before PromotionFailed (x ∷ h) k) t) [
+  | inl v ↦ veto_more PromotionFailed (x ∷ h) v
+  | inr a ↦ f (aborted_more PromotionFailed (x ∷ h) a)
+]
+abort_vetoed (x ∷ h) k f t = elim (off_either x h k t) [
+  | inl v ↦ v
+  | inr a ↦ f a
+]
+
+decided_step : (x : Entry) (h : List Entry) → Keeps (x ∷ h) → IsVetoed h → latest decision_of (x ∷ h) ≡ Some Aborted → vetoed (x ∷ h) ≡ true
+decided_step (Decided Aborted) h k w d =
+    veto_more (Decided Aborted) h
+    (abort_vetoed h (keeps_before (Decided Aborted) h k) w.aborted (and_right (not (has is_decision h)) (ends_called_off (but_failed h)) (newest (Decided Aborted) h k)))
+decided_step (Decided Committed) h k w d = absurd cc
+decided_step (Decided InDoubt) h k w d = absurd cc
+decided_step x h k w d = veto_more x h (w.decided d)
+
+cause_step : (x : Entry) (h : List Entry) → Keeps (x ∷ h) → IsVetoed h → is_abort h x ≡ true → has is_record h ≡ false → vetoed (x ∷ h) ≡ true
+cause_step (Got c Up m) h k w t s =
+    let message = abort_message c m h t (got_line c Up m h k) in
+    veto_more (Got c Up m) h (w.sent s (has_more (is_sent_on c Up (is_veto_message c)) is_veto_sent (sent_veto c) h (got_sent c Up m (is_veto_message c) h k.wires.0 message)))
+cause_step (Got c Down m) h k w t s = absurd (not_both (is_abort h (Got c Down m)) t (got_calm c m h))
+cause_step (End c Up) h k w t s = first_now (End c Up) h t (unrecorded_open h (keeps_before (End c Up) h k) (end_promoting c Up h k) s)
+cause_step LogFull h k w t s = first_now LogFull h refl (unrecorded_open h (keeps_before LogFull h k) (abort_promoting LogFull h k t) s)
+cause_step (Restarted b) h k w t s = first_now (Restarted b) h t (unrecorded_open h (keeps_before (Restarted b) h k) (abort_promoting (Restarted b) h k t) s)
+cause_step _ h k w t s = absurd cc
+
+aborted_step : (x : Entry) (h : List Entry) → Keeps (x ∷ h) → IsVetoed h → coordinator_aborted (x ∷ h) ≡ true → vetoed (x ∷ h) ≡ true
+unfolding coordinator_aborted
+aborted_step x h k w t =
+    or_case (is_first_abort h x) (ever is_first_abort h)
+    (λ a. cause_step x h k w (and_left (is_abort h x) (not (has is_record h)) a) (not_true (has is_record h) (and_right (is_abort h x) (not (has is_record h)) a)))
+    (λ a. veto_more x h (w.aborted a)) t
+
+message_vetoed : (h : List Entry) → Keeps h → IsVetoed h → has is_record h ≡ false → (c : Conn) (m : Message) → is_veto_message c m ≡ true → message_row h c m ≡ true → vetoed h ≡ true
+message_vetoed h k w s Begin BeginAbort t r =
+    or_case (is_abort_decided h) (ends_with is_abort_request h) (λ d. w.decided (decided_same Aborted (latest decision_of h) d)) (λ q. request_vetoed h k s q) r
+message_vetoed h k w s Voter VoterNo t r = w.decided (decided_same Aborted (latest decision_of h) r)
+message_vetoed h k w s (Enl e) EnlistNo t r = no_vetoed h k s (has_more (is_cast (Enl e) No) is_no_vote (cast_no e) h r)
+message_vetoed h k w s c m t r = absurd cc
+
+sent_step : (x : Entry) (h : List Entry) → Keeps (x ∷ h) → IsVetoed h → has is_record h ≡ false → is_veto_sent x ≡ true → vetoed h ≡ true
+sent_step (Sent c Up m) h k w s t =
+    message_vetoed h (keeps_before (Sent c Up m) h k) w s c m t (fourth_of_four (has_line c Up m) (has is_promoting h) (is_there h c Up m) (message_row h c m) (newest (Sent c Up m) h k))
+sent_step _ h k w s t = absurd cc
+
+pub vetoes : (h : List Entry) → Keeps h → IsVetoed h
+unfolding coordinator_aborted
+vetoes [] k = record { decided = λ d. absurd cc; aborted = λ t. absurd cc; sent = λ s t. absurd cc }
+vetoes (x ∷ h) k =
+    let w = vetoes h (keeps_before x h k) in
+    record {
+      decided = λ d. decided_step x h k w d;
+      aborted = λ t. aborted_step x h k w t;
+      sent = λ s t.
+          veto_more x h
+          (or_case (is_veto_sent x) (has is_veto_sent h) (λ u. sent_step x h k w (or_second (is_record x) (has is_record h) s) u) (λ u. w.sent (or_second (is_record x) (has is_record h) s) u) t);
+    }

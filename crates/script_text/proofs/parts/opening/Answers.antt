@@ -1,8 +1,0 @@
-use Rattle.std.proofs.Common.{rules, ap, ◌∙◌}
-use Rattle.dtx_model.specs.Faults.{word_fault}
-use Rattle.script_text.specs.Reader.{opening_forms}
-use Rattle.script_text.proofs.Keys.{unknown_opening}
-use Rattle.script_text.proofs.parts.opening.Goals as goal
-
-pub returns : goal.returns
-returns c = ap (word_fault opening_forms) c.in-Some.ensures.some ∙ unknown_opening c.in-Some.word.now c.next.new.self (search rules)

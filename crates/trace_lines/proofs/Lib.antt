@@ -1,0 +1,14 @@
+pub mod Arrays
+pub mod CutWords
+pub mod Framed
+pub mod LineEnds
+pub mod Lines
+pub mod OneTrace
+pub mod Plain
+pub mod Printing
+pub mod Summaries
+pub mod TellAnswers
+pub mod TellEntries
+pub mod TellMessages
+pub mod TellPieces
+pub mod TellWords

@@ -1,0 +1,17 @@
+//! What a text tells of its trace.
+ghost use Rattle.std.specs.Prelude.{◌≡◌, ℕ, List, map, true};
+ghost use Rattle.dtx_values.specs.declared.message.Info.{Info};
+ghost use Rattle.dtx_model.specs.Traces.{Placed};
+ghost use Rattle.dtx_model.specs.TraceText.{trace_text};
+ghost use Rattle.dtx_model.specs.Words.{each};
+ghost use Rattle.trace_lines.specs.OneTrace.{is_carried_at, is_typed_at, named_at, told_at};
+
+/// A text has one trace, up to what a message's line leaves out: two traces of one text are the same trace once any one identifier and any
+/// one recovery information stand in all their messages. That is so where each message is one that its connection carries (`one`); a line
+/// doesn't tell another from those of its name (`names`). A law: the body is empty, and who calls this has the law in its proof.
+pub fn one_trace()
+    ensures one { (S T : List Placed) (u : ℕ) (i : Info) → each is_typed_at S ≡ true → each is_typed_at T ≡ true
+        → each is_carried_at S ≡ true → each is_carried_at T ≡ true → trace_text S ≡ trace_text T → map (told_at u i) S ≡ map (told_at u i) T }
+    ensures names { (S T : List Placed) (u : ℕ) (i : Info) → each is_typed_at S ≡ true → each is_typed_at T ≡ true
+        → trace_text S ≡ trace_text T → map (named_at u i) S ≡ map (named_at u i) T }
+{}

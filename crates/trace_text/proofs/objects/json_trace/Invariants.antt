@@ -1,6 +1,0 @@
-use Rattle.std.proofs.Common.{◌≡◌, take}
-use Rattle.trace_text.proofs.Arrays.{array_so_far}
-use Rattle.trace_text.proofs.objects.json_trace.Given as goal
-
-abbrev pub invariant-loop-index : goal.invariant-loop-index
-invariant-loop-index l = l.text.items ≡ array_so_far (take l.index l.t)

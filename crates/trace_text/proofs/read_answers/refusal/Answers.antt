@@ -1,9 +1,0 @@
-use Rattle.std.proofs.Common.{◌≡◌, ◌∙◌, codes, sym, rules}
-use Rattle.line_tail.proofs.SameBytes.{same_text}
-use Rattle.trace_text.proofs.ReadPieces.{late_found}
-use Rattle.trace_text.proofs.read_answers.refusal.Goals as goal
-
-pub returns-then-eq-2-clause-some : goal.returns-then-eq-2-clause-some
-returns-then-eq-2-clause-some c = λ x k.
-    let named : c.args.key.now ≡ codes "toolate" = search rules in
-    late_found x (sym named ∙ k) (same_text _ _ (sym named ∙ k))

@@ -1,6 +1,0 @@
-use Rattle.std.proofs.Common.{◌≡◌, take}
-use Rattle.trace_text.specs.Summary.{all_seen}
-use Rattle.trace_text.proofs.tally.seen_in.Given as goal
-
-abbrev pub invariant-loop-index : goal.invariant-loop-index
-invariant-loop-index l = l.seen ≡ all_seen (take l.index l.t)

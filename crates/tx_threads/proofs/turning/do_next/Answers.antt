@@ -1,6 +1,0 @@
-use Rattle.std.proofs.Common.{sym}
-use Rattle.tx_threads.proofs.Standing.{step_stands}
-use Rattle.tx_threads.proofs.turning.do_next.Goals as goal
-
-pub returns-in-Step-clause-nothing : goal.returns-in-Step-clause-nothing
-returns-in-Step-clause-nothing g c e = absurd (step_stands c.args.state.now c.in-Step.k (sym c.in-Step.ensures) (c.do_turn.ensures.none e).0)

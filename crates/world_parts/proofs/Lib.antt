@@ -1,0 +1,11 @@
+pub mod ActLeaves
+pub mod Answering
+pub mod ByRow
+pub mod Fitting
+pub mod Freeing
+pub mod Keeping
+pub mod LocalCalls
+pub mod Named
+pub mod OfManager
+pub mod Places
+pub mod Records

@@ -1,0 +1,9 @@
+pub mod AtLog
+pub mod Entering
+pub mod Leaves
+pub mod Managers
+pub mod Names
+pub mod Pending
+pub mod Prepared
+pub mod Sending
+pub mod Stopping
