@@ -1,15 +1,13 @@
-//! Tests of what is read and written, through public calls alone: scripts, traces, frames, the log and recovery information. They
-//! stand apart from the crates that they test, since a crate with tests is proved twice.
+//! Tests of what is read and written, through public calls alone: sources, sinks and disks, scripts, traces, frames, the log and
+//! recovery information. They stand apart from the crates that they test, since a crate with tests is proved twice.
 #![tactic(auto)]
 
 #[cfg(test)]
-mod forms;
+mod disks;
 #[cfg(test)]
 mod frames;
 #[cfg(test)]
 mod log;
-#[cfg(test)]
-mod made_scripts;
 #[cfg(test)]
 mod records;
 #[cfg(test)]
@@ -18,5 +16,7 @@ mod recovery;
 mod scripts;
 #[cfg(test)]
 mod sessions;
+#[cfg(test)]
+mod streams;
 #[cfg(test)]
 mod traces;

@@ -1,5 +1,5 @@
 //! The log over disks in memory, by tables of cases.
-ghost use Rattle.std.specs.Prelude.{◌≡◌, ◌⊎◌, ◌≤◌, ◌<◌, ◌+◌, ◌^◌, [], length, true, IfOk, IsTrue};
+ghost use Rattle.std.specs.Prelude.{◌≡◌, ◌⊎◌, ◌≤◌, ◌+◌, ◌^◌, [], length, true, IfOk, IsTrue};
 ghost use Rattle.dtx_values.specs.RecoveryInfo.{is_id};
 ghost use Rattle.coordinator_log.specs.Crash.{with_record};
 ghost use Rattle.coordinator_log.specs.Slots.{open_records};
@@ -49,21 +49,36 @@ pub fn empty_log(rt: &impl Abort, alloc: Global) -> Result<Log<MemDisk>, AllocEr
     }
 }
 
+/// A record is found after an append and not after a free; a log that stopped takes neither, and has another life once it is opened again.
+fn holds(rt: &impl Abort, log: &mut Log<MemDisk>) {
+    let wanted = record(rt, 1);
+    assert!(rt; log.append(0, &wanted) == Ok(0));
+    assert!(rt; log.lookup(id(1)).copied() == Some(wanted));
+    log.halt();
+    assert!(rt; !log.is_up());
+    assert!(rt; log.append(0, &wanted) == Err(LogRefusal::Stopped));
+    assert!(rt; found(log) == Some(1));
+}
+
+/// Its record is freed in its second life.
+fn is_freed(rt: &impl Abort, log: &mut Log<MemDisk>) {
+    let cases = [
+        (0, 1, Err(LogRefusal::Stopped)),
+        (1, 2, Err(LogRefusal::NoSuch(id(2)))),
+        (1, 1, Ok(())),
+    ];
+    assert!(rt; log.life() == 1);
+    for (life, number, wanted) in cases {
+        assert!(rt; log.free(life, id(number)) == wanted);
+    }
+    assert!(rt; log.lookup(id(1)).is_none());
+}
+
 #[test]
 fn a_record_is_there_until_it_is_freed(rt: HostRuntime) -> Result<(), Fail> {
     let mut log = empty_log(&rt, rt.alloc())?;
-    let wanted = record(&rt, 1);
-    assert_eq!(rt; log.append(0, &wanted), Ok(0));
-    assert_eq!(rt; log.lookup(id(1)).copied(), Some(wanted));
-    log.halt();
-    assert!(rt; !log.is_up());
-    assert_eq!(rt; log.append(0, &wanted), Err(LogRefusal::Stopped));
-    assert_eq!(rt; log.reopen(), Ok(1));
-    assert_eq!(rt; log.life(), 1);
-    assert_eq!(rt; log.free(0, id(1)), Err(LogRefusal::Stopped));
-    assert_eq!(rt; log.free(1, id(2)), Err(LogRefusal::NoSuch(id(2))));
-    assert_eq!(rt; log.free(1, id(1)), Ok(()));
-    assert_eq!(rt; log.lookup(id(1)).copied(), None);
+    holds(&rt, &mut log);
+    is_freed(&rt, &mut log);
     Ok(())
 }
 
@@ -73,17 +88,31 @@ const FRONT: [u8; 40] = [
     0, 0, 0, 1, 1, 0, 0, 0,
 ];
 
-#[test]
-fn a_record_has_its_bytes(rt: HostRuntime) -> Result<(), Fail> {
-    let mut log = empty_log(&rt, rt.alloc())?;
-    assert_eq!(rt; log.append(0, &record(&rt, 1)), Ok(0));
-    let mut disk = log.into_disk();
-    assert_eq!(rt; disk.len(), 524_800);
+/// Slot 0 of a log to which the record was appended.
+fn has_bytes(rt: &impl Abort, disk: &mut MemDisk) {
+    assert!(rt; disk.len() == 524_800);
     let mut slot = [7; 512];
     assert!(rt; disk.read(512, &mut slot).is_ok());
     assert!(rt; slot.starts_with(&FRONT));
     assert!(rt; slot.iter().skip(FRONT.len()).all(|b| *b == 0));
+}
+
+#[test]
+fn a_record_has_its_bytes(rt: HostRuntime) -> Result<(), Fail> {
+    let mut log = empty_log(&rt, rt.alloc())?;
+    assert!(rt; log.append(0, &record(&rt, 1)) == Ok(0));
+    let mut disk = log.into_disk();
+    has_bytes(&rt, &mut disk);
     Ok(())
+}
+
+/// Writes bytes that fit to a disk.
+pub fn overwrite(rt: &impl Abort, disk: &mut MemDisk, at: u64, bytes: &[u8]) {
+    let n = bytes.len() as u64;
+    if disk.len() != LOG_BYTES || n > LOG_BYTES || at > LOG_BYTES - n {
+        panic!(rt; "no such place");
+    }
+    assert!(rt; disk.write_at(at, bytes).is_ok());
 }
 
 /// Why no log is taken from a formatted disk on which these bytes were written at this place; `None` where one is.
@@ -92,33 +121,33 @@ fn refused_with(
     alloc: Global,
     at: u64,
     bytes: &[u8],
-) -> Result<Option<LogRefusal>, AllocError>
-    requires { at + length bytes.now ≤ LOG_BYTES }
-{
+) -> Result<Option<LogRefusal>, AllocError> {
     let mut disk = empty_log(rt, alloc)?.into_disk();
-    assert!(rt; disk.len() == LOG_BYTES);
-    assert!(rt; disk.write_at(at, bytes).is_ok());
+    overwrite(rt, &mut disk, at, bytes);
+    if disk.len() < LOG_BYTES {
+        return Ok(None);
+    }
     match Log::from_disk(alloc, disk) {
         Ok(_log) => Ok(None),
         Err((refusal, _disk)) => Ok(Some(refusal)),
     }
 }
 
+/// A place, the bytes that are written there, and why that is no log.
+const FORMS: [(u64, &[u8], Option<LogRefusal>); 6] = [
+    (512, &[0], None),
+    (1024, &[1], Some(LogRefusal::NotALog(1025))),
+    (7, b"1", Some(LogRefusal::NotALog(7))),
+    (511, &[1], Some(LogRefusal::NotALog(511))),
+    (1024, &[2, 1, 17], None),
+    (524_288, &[1, 1, 17, 0], Some(LogRefusal::NotALog(524_290))),
+];
+
 #[test]
 fn bytes_of_another_form_are_refused_at_their_place(rt: HostRuntime) -> Result<(), Fail> {
-    let cases: [(u64, &[u8], Option<LogRefusal>); 6] = [
-        (512, &[0], None),
-        (1024, &[1], Some(LogRefusal::NotALog(1025))),
-        (7, b"1", Some(LogRefusal::NotALog(7))),
-        (511, &[1], Some(LogRefusal::NotALog(511))),
-        (1024, &[2, 1, 17], None),
-        (524_288, &[1, 1, 17, 0], Some(LogRefusal::NotALog(524_290))),
-    ];
-    for (at, bytes, wanted) in cases {
-        if at + bytes.len() as u64 <= LOG_BYTES {
-            let refusal = refused_with(&rt, rt.alloc(), at, bytes)?;
-            assert_eq!(rt; refusal, wanted, "at {at}");
-        }
+    for (at, bytes, wanted) in FORMS {
+        let refusal = refused_with(&rt, rt.alloc(), at, bytes)?;
+        assert!(rt; refusal == wanted, "at {at}");
     }
     Ok(())
 }
@@ -133,45 +162,70 @@ enum Step {
 }
 
 /// How many records are found when a log is opened again; `None` where it isn't opened.
-fn found(log: &mut Log<MemDisk>) -> Option<u16>
-    requires { log.old.life < 9 }
+fn found(log: &mut Log<MemDisk>) -> Option<u16> {
+    if log.life() < 9 {
+        log.reopen().ok()
+    } else {
+        None
+    }
+}
+
+/// How many records are found when a log is taken from a disk and opened again; `None` where it isn't.
+fn found_on(alloc: Global, disk: MemDisk) -> Option<u16>
+    requires { LOG_BYTES ≤ length disk.images.kept }
 {
-    log.reopen().ok()
+    match Log::from_disk(alloc, disk) {
+        Ok(mut log) => found(&mut log),
+        Err(_) => None,
+    }
+}
+
+/// Does a step on a log of the first life.
+fn goes(rt: &impl Abort, log: &mut Log<MemDisk>, step: Step) -> Result<(), LogRefusal> {
+    match step {
+        Step::Append => log.append(0, &record(rt, 1)).map(|_| ()),
+        Step::Free => log.free(0, id(1)),
+        Step::Reopen if log.life() == 0 => log.reopen().map(|_| ()),
+        _ => Ok(()),
+    }
+}
+
+/// The steps after the log was formatted, and how each is broken off.
+const STEPS: [(Step, LogRefusal); 3] = [
+    (Step::Append, LogRefusal::StoppedNow),
+    (Step::Free, LogRefusal::StoppedNow),
+    (Step::Reopen, LogRefusal::Fault),
+];
+
+/// Does these steps, and gives the one that was broken off.
+fn broken_off(rt: &impl Abort, log: &mut Log<MemDisk>) -> Option<Step> {
+    for (step, wanted) in STEPS {
+        if let Err(refusal) = goes(rt, log, step) {
+            assert!(rt; refusal == wanted, "{step:?}");
+            assert!(rt; !log.is_up());
+            return Some(step);
+        }
+    }
+    None
 }
 
 /// Formats a log, appends a record, frees it and opens the log again, over a disk whose n-th call fails. It gives the step that was broken off, and how many records are found
 /// when the log is opened then.
 fn run(rt: &impl Abort, alloc: Global, n: u64) -> Result<(Option<Step>, Option<u16>), AllocError> {
-    let mut log = match Log::format(alloc, disk(alloc, &[n])?) {
-        Ok(log) => log,
-        Err((refusal, disk)) => {
-            assert_eq!(rt; refusal, LogRefusal::Fault);
-            return match Log::from_disk(alloc, disk) {
-                Ok(mut log) => Ok((Some(Step::Format), found(&mut log))),
-                Err(_) => Ok((Some(Step::Format), None)),
-            };
+    match Log::format(alloc, disk(alloc, &[n])?) {
+        Ok(mut log) => {
+            let step = broken_off(rt, &mut log);
+            Ok((step, found(&mut log)))
         }
-    };
-    if let Err(refusal) = log.append(0, &record(rt, 1)) {
-        assert_eq!(rt; refusal, LogRefusal::StoppedNow);
-        return Ok((Some(Step::Append), found(&mut log)));
-    }
-    if let Err(refusal) = log.free(0, id(1)) {
-        assert_eq!(rt; refusal, LogRefusal::StoppedNow);
-        return Ok((Some(Step::Free), found(&mut log)));
-    }
-    match log.reopen() {
-        Ok(count) => Ok((None, Some(count))),
-        Err(refusal) => {
-            assert_eq!(rt; refusal, LogRefusal::Fault);
-            assert!(rt; !log.is_up());
-            Ok((Some(Step::Reopen), found(&mut log)))
+        Err((refusal, disk)) => {
+            assert!(rt; refusal == LogRefusal::Fault);
+            Ok((Some(Step::Format), found_on(alloc, disk)))
         }
     }
 }
 
 /// What a run comes to whose n-th call of the disk fails: four calls format the log, four append, two free, and a sync and a read of the head and of each of 1,024 slots
-/// open it again.
+/// open it again. Call 1,037 is the first of whoever opens it once more.
 fn wanted(n: u64) -> (Option<Step>, Option<u16>) {
     match n {
         1..=3 => (Some(Step::Format), None),
@@ -181,62 +235,61 @@ fn wanted(n: u64) -> (Option<Step>, Option<u16>) {
         9 => (Some(Step::Free), Some(1)),
         10 => (Some(Step::Free), Some(0)),
         11..=1036 => (Some(Step::Reopen), Some(0)),
+        1037 => (None, None),
         _ => (None, Some(0)),
     }
 }
 
 #[test]
 fn each_call_of_the_disk_fails_in_turn(rt: HostRuntime) -> Result<(), Fail> {
-    for n in 1..1038 {
-        if n <= 14 || n >= 1035 {
-            assert_eq!(rt; run(&rt, rt.alloc(), n)?, wanted(n), "at call {n}");
+    for n in 1..=1_037 {
+        if n <= 14 || n >= 1_034 {
+            let came = run(&rt, rt.alloc(), n)?;
+            assert!(rt; came == wanted(n), "at call {n}");
         }
     }
+    let came = run(&rt, rt.alloc(), 1_000_000)?;
+    assert!(rt; came == wanted(1_000_000));
     Ok(())
 }
 
 /// Whether a record is found after an append, or a free, that stops at this call and leaves this image.
-fn is_found(
-    rt: &impl Abort,
-    alloc: Global,
-    step: Step,
-    call: u8,
-    image: Image,
-) -> Result<bool, AllocError>
+fn is_found(rt: &impl Abort, log: &mut Log<MemDisk>, step: Step, call: u8, image: Image) -> bool
     requires { 1 ≤ call }
 {
-    let mut log = empty_log(rt, alloc)?;
-    let wanted = record(rt, 1);
     if step == Step::Free {
-        assert_eq!(rt; log.append(0, &wanted), Ok(0));
-        log.arm(call, image);
-        assert_eq!(rt; log.free(0, id(1)), Err(LogRefusal::StoppedNow));
-    } else {
-        log.arm(call, image);
-        assert_eq!(rt; log.append(0, &wanted), Err(LogRefusal::StoppedNow));
+        assert!(rt; goes(rt, log, Step::Append) == Ok(()));
     }
-    assert!(rt; log.life() == 0);
-    let count = found(&mut log);
-    let found = log.lookup(id(1)).is_some();
-    assert_eq!(rt; count, Some(u16::from(found)));
-    Ok(found)
+    log.arm(call, image);
+    assert!(rt; goes(rt, log, step) == Err(LogRefusal::StoppedNow));
+    let count = found(log);
+    let is_found = log.lookup(id(1)).is_some();
+    assert!(rt; count == Some(u16::from(is_found)));
+    is_found
 }
+
+/// The step, the call at which it stops, and whether the record is found with lose, keep and torn.
+const STOPS: [(Step, u8, [bool; 3]); 6] = [
+    (Step::Append, 1, [false, false, false]),
+    (Step::Append, 2, [false, false, false]),
+    (Step::Append, 3, [false, true, false]),
+    (Step::Append, 4, [false, true, false]),
+    (Step::Free, 1, [true, false, false]),
+    (Step::Free, 2, [true, false, false]),
+];
 
 #[test]
 fn a_stop_leaves_what_the_format_says(rt: HostRuntime) -> Result<(), Fail> {
-    // the call at which the step stops, and whether the record is found with lose, keep and torn
-    let cases = [
-        (Step::Append, 1, [false, false, false]),
-        (Step::Append, 2, [false, false, false]),
-        (Step::Append, 3, [false, true, false]),
-        (Step::Append, 4, [false, true, false]),
-        (Step::Free, 1, [true, false, false]),
-        (Step::Free, 2, [true, false, false]),
-    ];
-    for (step, call, wanted) in cases {
-        for (i, image) in [Image::Lose, Image::Keep, Image::Torn].iter().enumerate() {
-            let found = is_found(&rt, rt.alloc(), step, call, *image)?;
-            assert_eq!(rt; found, wanted[i], "{step:?} at call {call} with {image:?}");
+    for (step, call, wanted) in STOPS {
+        for (image, want) in [Image::Lose, Image::Keep, Image::Torn]
+            .into_iter()
+            .zip(wanted)
+        {
+            let mut log = empty_log(&rt, rt.alloc())?;
+            if call >= 1 {
+                let found = is_found(&rt, &mut log, step, call, image);
+                assert!(rt; found == want, "{step:?} at call {call} with {image:?}");
+            }
         }
     }
     Ok(())
@@ -261,16 +314,23 @@ fn crashed<D: Disk + Drop>(
     Log::from_disk(alloc, disk)
 }
 
+/// Whether a record outlives an append that stops at this call with keep, and a crash with lose after that.
+fn outlives(rt: &impl Abort, alloc: Global, call: u8) -> Result<bool, AllocError>
+    requires { 1 ≤ call }
+{
+    let mut log = empty_log(rt, alloc)?;
+    log.arm(call, Image::Keep);
+    match crashed(alloc, log, &record(rt, 1), Image::Lose) {
+        Ok(log) => Ok(log.lookup(id(1)).is_some()),
+        Err((refusal, _disk)) => panic!(rt; "{refusal:?}"),
+    }
+}
+
 #[test]
 fn a_crash_after_an_append_leaves_whole_records(rt: HostRuntime) -> Result<(), Fail> {
-    // the call at which the append stops with keep, and whether its record outlives a crash with lose after that
-    for (call, wanted) in [(3, false), (4, true)] {
-        let mut log = empty_log(&rt, rt.alloc())?;
-        log.arm(call, Image::Keep);
-        match crashed(rt.alloc(), log, &record(&rt, 1), Image::Lose) {
-            Ok(log) => assert_eq!(rt; log.lookup(id(1)).is_some(), wanted, "at call {call}"),
-            Err((refusal, _disk)) => panic!(rt; "{refusal:?}"),
-        }
-    }
+    let third = outlives(&rt, rt.alloc(), 3)?;
+    assert!(rt; !third);
+    let fourth = outlives(&rt, rt.alloc(), 4)?;
+    assert!(rt; fourth);
     Ok(())
 }

@@ -1,7 +1,7 @@
 //! Records spelled by hand, in the first slot of a log: read where the log is opened, written by an append.
 ghost use Rattle.std.specs.Prelude.{◌≤◌, length};
 
-use crate::log::empty_log;
+use crate::log::{empty_log, overwrite};
 use coordinator_log::{LOG_BYTES, Log, LogRefusal, is_identifier};
 use dtx_values::{EnlNo, LogRecord, RmNo};
 use outside::Disk;
@@ -40,10 +40,10 @@ fn read(
     slot: &[u8; 512],
 ) -> Result<Result<Option<LogRecord>, LogRefusal>, AllocError> {
     let mut disk = empty_log(rt, alloc)?.into_disk();
-    if disk.len() != LOG_BYTES {
-        panic!(rt; "the disk has another length");
+    overwrite(rt, &mut disk, 512, slot);
+    if disk.len() < LOG_BYTES {
+        return Err(AllocError);
     }
-    assert!(rt; disk.write_at(512, slot).is_ok());
     match Log::from_disk(alloc, disk) {
         Ok(log) => Ok(Ok(log.lookup(ID).copied())),
         Err((refusal, _disk)) => Ok(Err(refusal)),
@@ -74,43 +74,51 @@ fn record_with(enlistments: &[(u32, u32)]) -> Option<LogRecord> {
     Some(r)
 }
 
+/// A place in that slot, another byte there, and the place of the field that is bad then.
+const CHANGES: [(usize, u8, u64); 14] = [
+    (1, 2, 1),
+    (2, 17, 2),
+    (3, 1, 2),
+    (11, 0, 4),
+    (19, 0, 12),
+    (20, 1, 20),
+    (35, 0, 20),
+    (35, 17, 20),
+    (36, 0, 36),
+    (37, 0x27, 36),
+    (55, 17, 40),
+    (57, 0x27, 56),
+    (60, 1, 60),
+    (511, 255, 511),
+];
+
+/// That slot with another byte.
+fn changed(at: usize, byte: u8) -> [u8; 512] {
+    let mut slot = slot_of(&TWO);
+    if at < 512 {
+        slot[at] = byte;
+    }
+    slot
+}
+
 #[test]
 fn names_the_first_bad_place(rt: HostRuntime) -> Result<(), Fail> {
     let r = record_with(&[(1, 16), (2, 16)]).ok_or("out of range")?;
-    assert_eq!(rt; read(&rt, rt.alloc(), &slot_of(&TWO))?, Ok(Some(r)));
-    let changes: [(usize, u8, u64); 14] = [
-        (1, 2, 1),
-        (2, 17, 2),
-        (3, 1, 2),
-        (11, 0, 4),
-        (19, 0, 12),
-        (20, 1, 20),
-        (35, 0, 20),
-        (35, 17, 20),
-        (36, 0, 36),
-        (37, 0x27, 36),
-        (55, 17, 40),
-        (57, 0x27, 56),
-        (60, 1, 60),
-        (511, 255, 511),
-    ];
-    for (at, byte, want) in changes {
-        let mut changed = slot_of(&TWO);
-        if at < 512 && want < 512 {
-            changed[at] = byte;
-            let refused = Err(LogRefusal::NotALog(512 + want));
-            assert_eq!(rt;
-                read(&rt, rt.alloc(), &changed)?,
-                refused,
-                "byte {byte} at {at}"
-            );
-        }
+    let whole = read(&rt, rt.alloc(), &slot_of(&TWO))?;
+    assert!(rt; whole == Ok(Some(r)));
+    for (at, byte, want) in CHANGES {
+        let came = read(&rt, rt.alloc(), &changed(at, byte))?;
+        let place = want.saturating_add(512);
+        assert!(rt;
+            came == Err(LogRefusal::NotALog(place)),
+            "byte {byte} at {at}"
+        );
     }
     Ok(())
 }
 
-#[test]
-fn sixteen_enlistments_both_ways(rt: HostRuntime) -> Result<(), Fail> {
+/// The slot of sixteen enlistments, and what they are.
+fn sixteen() -> ([u8; 512], [(u32, u32); 16]) {
     let mut slot = slot_of(&ONE);
     let mut enlistments = [(1, 9984); 16];
     slot[2] = 16;
@@ -120,9 +128,17 @@ fn sixteen_enlistments_both_ways(rt: HostRuntime) -> Result<(), Fail> {
         slot[36 + 20 * i] = i as u8;
         slot[37 + 20 * i] = 0x27;
     }
+    (slot, enlistments)
+}
+
+#[test]
+fn sixteen_enlistments_both_ways(rt: HostRuntime) -> Result<(), Fail> {
+    let (slot, enlistments) = sixteen();
     let r = record_with(&enlistments).ok_or("out of range")?;
-    assert_eq!(rt; r.count, 16);
-    assert!(rt; written(&rt, rt.alloc(), &r)? == slot);
-    assert_eq!(rt; read(&rt, rt.alloc(), &slot)?, Ok(Some(r)));
+    assert!(rt; r.count == 16);
+    let bytes = written(&rt, rt.alloc(), &r)?;
+    assert!(rt; bytes == slot);
+    let came = read(&rt, rt.alloc(), &slot)?;
+    assert!(rt; came == Ok(Some(r)));
     Ok(())
 }

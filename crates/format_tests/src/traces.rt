@@ -1,363 +1,128 @@
-//! Texts of traces: each entry, each answer and each message, read and printed.
+//! Texts of traces: each entry, each answer and each message, printed and read again.
 use dtx_values::{
     ActorNo, Answer, Ask, Cause, Class, CloneKind, CloneNo, Conn, Dir, EnlNo, Entry, Image, Info,
     Iso, LogNote, Message, Outcome, Party, Request, RmNo, ScopeNo, ScopeNote, TxNo, Vote,
 };
 use std::alloc::{AllocError, Global};
+use std::process::Abort;
 use std::test::Fail;
 use trace_text::{Place, PlacedEntries, Trace, TraceError, print_trace, read_trace};
 
-/// Whether the text is that of this entry alone.
-fn reads(alloc: Global, text: &str, place: Place, want: Entry) -> bool {
+/// A text, and how many entries it has, or its first bad line.
+const TEXTS: [(&str, Result<usize, TraceError>); 18] = [
+    ("", Ok(0)),
+    ("1 t1 sealed\n", Ok(1)),
+    ("1 t1 sealed\n2 a16 late\n3 log logged\n", Ok(3)),
+    ("2 t1 sealed\n", Err(TraceError::BadLine(1))),
+    ("01 t1 sealed\n", Err(TraceError::BadLine(1))),
+    ("1 t1 sealed", Err(TraceError::BadLine(1))),
+    ("1 t1 sealed\n2 t1 late", Err(TraceError::BadLine(2))),
+    ("1 t1 sealed\n\n", Err(TraceError::BadLine(2))),
+    ("1 t1 sealed \n", Err(TraceError::BadLine(1))),
+    ("1  t1 sealed\n", Err(TraceError::BadLine(1))),
+    ("1 t257 sealed\n", Err(TraceError::BadLine(1))),
+    ("1 t0 sealed\n", Err(TraceError::BadLine(1))),
+    ("1 t01 sealed\n", Err(TraceError::BadLine(1))),
+    ("1 t1 sent b up yes\n", Err(TraceError::BadLine(1))),
+    ("1 t1 began 4294967295\n", Ok(1)),
+    ("1 t1 began 4294967296\n", Err(TraceError::BadLine(1))),
+    (
+        "1 t1 promoted 00000000-0000-0001-0000-00000000000a two\n",
+        Ok(1),
+    ),
+    (
+        "1 t1 promoted 00000000-0000-0001-0000-00000000000A two\n",
+        Err(TraceError::BadLine(1)),
+    ),
+];
+
+/// How many entries a text has, or its first bad line.
+fn found(alloc: Global, text: &str) -> Result<usize, TraceError> {
     match read_trace(alloc, text.as_bytes()) {
-        Ok(trace) => trace.len() == 1 && trace.at(0) == (place, want),
+        Ok(trace) => Ok(trace.len()),
+        Err(e) => Err(e),
+    }
+}
+
+#[test]
+fn finds_bad_lines(rt: HostRuntime) {
+    for (text, want) in TEXTS {
+        assert!(rt; found(rt.alloc(), text) == want, "at {text}");
+    }
+}
+
+/// Whether the text is printed for this trace.
+fn is_printed(alloc: Global, trace: &Trace, text: &str) -> Result<bool, AllocError> {
+    let printed = print_trace(alloc, trace, false)?;
+    Ok(printed.as_slice() == text.as_bytes())
+}
+
+/// Whether two traces are the same.
+fn are_same(one: &Trace, other: &Trace) -> bool {
+    if one.len() != other.len() {
+        return false;
+    }
+    for i in 0..one.len() {
+        if one.at(i) != other.at(i) {
+            return false;
+        }
+    }
+    true
+}
+
+/// Whether this trace is read from the text.
+fn is_read(alloc: Global, trace: &Trace, text: &str) -> bool {
+    match read_trace(alloc, text.as_bytes()) {
+        Ok(read) => are_same(trace, &read),
         Err(_) => false,
     }
 }
 
-#[test]
-fn finds_bad_lines(rt: HostRuntime) -> Result<(), Fail> {
-    let cases: [(&str, Result<usize, TraceError>); 18] = [
-        ("", Ok(0)),
-        ("1 t1 sealed\n", Ok(1)),
-        ("1 t1 sealed\n2 a16 late\n3 log logged\n", Ok(3)),
-        ("2 t1 sealed\n", Err(TraceError::BadLine(1))),
-        ("01 t1 sealed\n", Err(TraceError::BadLine(1))),
-        ("1 t1 sealed", Err(TraceError::BadLine(1))),
-        ("1 t1 sealed\n2 t1 late", Err(TraceError::BadLine(2))),
-        ("1 t1 sealed\n\n", Err(TraceError::BadLine(2))),
-        ("1 t1 sealed \n", Err(TraceError::BadLine(1))),
-        ("1  t1 sealed\n", Err(TraceError::BadLine(1))),
-        ("1 t257 sealed\n", Err(TraceError::BadLine(1))),
-        ("1 t0 sealed\n", Err(TraceError::BadLine(1))),
-        ("1 t01 sealed\n", Err(TraceError::BadLine(1))),
-        ("1 t1 sent b up yes\n", Err(TraceError::BadLine(1))),
-        ("1 t1 began 4294967295\n", Ok(1)),
-        ("1 t1 began 4294967296\n", Err(TraceError::BadLine(1))),
-        (
-            "1 t1 promoted 00000000-0000-0001-0000-00000000000a two\n",
-            Ok(1),
-        ),
-        (
-            "1 t1 promoted 00000000-0000-0001-0000-00000000000A two\n",
-            Err(TraceError::BadLine(1)),
-        ),
-    ];
-    for (text, want) in cases {
-        let found = match read_trace(rt.alloc(), text.as_bytes()) {
-            Ok(trace) => Ok(trace.len()),
-            Err(e) => Err(e),
-        };
-        assert!(rt; found == want, "at {text}");
+/// The trace of these entries.
+fn trace_of(alloc: Global, entries: &[(Place, Entry)]) -> Result<Trace, AllocError> {
+    let mut list = PlacedEntries::new(alloc);
+    for x in entries {
+        list.push(*x)?;
     }
+    Ok(Trace::new(list))
+}
+
+/// The trace of these entries of one place.
+fn trace_at(alloc: Global, place: Place, entries: &[Entry]) -> Result<Trace, AllocError> {
+    let mut list = PlacedEntries::new(alloc);
+    for x in entries {
+        list.push((place, *x))?;
+    }
+    Ok(Trace::new(list))
+}
+
+/// The text is printed for the trace, and the trace read from it.
+fn goes_both_ways(
+    rt: &impl Abort,
+    alloc: Global,
+    trace: &Trace,
+    text: &str,
+) -> Result<(), AllocError> {
+    let printed = is_printed(alloc, trace, text)?;
+    assert!(rt; printed, "another text is printed");
+    assert!(rt; is_read(alloc, trace, text), "another trace is read");
     Ok(())
 }
 
-#[test]
-fn reads_each_entry(rt: HostRuntime) -> Result<(), Fail> {
-    let e7 = EnlNo::new(7).unwrap();
-    let c9 = CloneNo::new(9999).unwrap();
-    let s2 = ScopeNo::new(2).unwrap();
-    let t5 = TxNo::new(5).unwrap();
-    let r1 = RmNo::new(1).unwrap();
-    let a3 = ActorNo::new(3).unwrap();
-    let identifier = 18_446_744_073_709_551_621;
-    let cases = [
-        ("call 4 a3 ok", Entry::Called(4, a3, Answer::Fine)),
-        ("answer 4 true", Entry::Answered(4, Answer::True)),
-        ("began 0", Entry::Began(0)),
-        ("cloned c9999 block", Entry::Cloned(c9, CloneKind::Block)),
-        ("completed c9999", Entry::Completed(c9)),
-        (
-            "enlisted e7 promotable",
-            Entry::Enlisted(e7, Class::Promotable),
-        ),
-        ("init e7", Entry::Init(e7)),
-        ("commit", Entry::CommitAsked),
-        ("rollback", Entry::RollbackAsked),
-        ("clock 18446744073709551615", Entry::Clock(u64::MAX)),
-        ("timedout", Entry::TimedOut),
-        ("late", Entry::Late),
-        ("ask e7 single", Entry::Asked(e7, Ask::Single)),
-        ("vote e7 done", Entry::Voted(e7, Vote::Done)),
-        ("promote e7 fail", Entry::PromoteReply(e7, false)),
-        ("promote e7 ok", Entry::PromoteReply(e7, true)),
-        ("request e7 abort", Entry::Requested(e7, Request::Abort)),
-        ("sealed", Entry::Sealed),
-        ("hand e7", Entry::Handed(e7)),
-        (
-            "owner e7 indoubt",
-            Entry::OwnerAnswered(e7, Outcome::InDoubt),
-        ),
-        ("yes", Entry::LocalYes),
-        ("decided aborted", Entry::Decided(Outcome::Aborted)),
-        (
-            "told client committed",
-            Entry::Told(Party::Client, Outcome::Committed),
-        ),
-        (
-            "told e7 committed",
-            Entry::Told(Party::Enl(e7), Outcome::Committed),
-        ),
-        ("promoting marshal", Entry::Promoting(Cause::Marshal)),
-        (
-            "promoted 00000000-0000-0001-0000-000000000005 beside",
-            Entry::Promoted(identifier, Cause::Beside),
-        ),
-        ("promotionfailed", Entry::PromotionFailed),
-        (
-            "sent b up begin",
-            Entry::Sent(Conn::Begin, Dir::Up, Message::BeginBegin),
-        ),
-        (
-            "got v down ask",
-            Entry::Got(Conn::Voter, Dir::Down, Message::VoterAsk),
-        ),
-        (
-            "cut x7 0 4294967295",
-            Entry::Cut(Conn::Again(e7), 0, u32::MAX),
-        ),
-        ("down e7 up", Entry::Down(Conn::Enl(e7), Dir::Up)),
-        ("lost e7", Entry::Lost(e7)),
-        ("logged", Entry::Logged),
-        ("logfull", Entry::LogFull),
-        ("freed", Entry::Freed),
-        ("stopped", Entry::Stopped),
-        ("restarted found", Entry::Restarted(true)),
-        ("restarted none", Entry::Restarted(false)),
-        ("reenlisted e7", Entry::Reenlisted(e7)),
-        ("recovered r1", Entry::Recovered(r1)),
-        ("acked e7", Entry::Acked(e7)),
-        (
-            "opened s2 t5",
-            Entry::Scope(ScopeNote::Opened(s2, Some(t5))),
-        ),
-        ("opened s2 none", Entry::Scope(ScopeNote::Opened(s2, None))),
-        ("finished s2", Entry::Scope(ScopeNote::Finished(s2))),
-        ("closed s2", Entry::Scope(ScopeNote::Closed(s2))),
-        (
-            "armed 255 torn",
-            Entry::LogWord(LogNote::Armed(255, Image::Torn)),
-        ),
-        ("opened 65535", Entry::LogWord(LogNote::Opened(65535))),
-    ];
-    for (words, want) in cases {
-        let text = format!(in rt.alloc(); "1 t5 {words}\n")?;
-        assert!(rt;
-            reads(rt.alloc(), text.as_str(), Place::Transaction(t5), want),
-            "at {text}"
-        );
-    }
-    Ok(())
-}
+/// A context, transactions and the log, on ten lines.
+const PLACES: &str = "1 t1 commit\n2 a3 sealed\n3 log freed\n4 t256 late\n5 t1 late\n6 t1 late\n\
+    7 t1 late\n8 t1 late\n9 t1 late\n10 t1 clock 0\n";
 
 #[test]
-fn reads_each_answer(rt: HostRuntime) -> Result<(), Fail> {
-    let log = Place::Log;
-    let cases = [
-        ("ok", Answer::Fine),
-        ("true", Answer::True),
-        ("false", Answer::False),
-        ("wait", Answer::Wait),
-        ("id 00000000-0000-0000-0000-0000000000ff", Answer::Id(255)),
-        ("active", Answer::StillActive),
-        ("committed", Answer::OutcomeIs(Outcome::Committed)),
-        ("aborted", Answer::OutcomeIs(Outcome::Aborted)),
-        ("indoubt", Answer::OutcomeIs(Outcome::InDoubt)),
-        ("open", Answer::StillOpen),
-        ("did 65535", Answer::Did(65535)),
-        ("notbegun", Answer::NotBegun),
-        ("ended aborted", Answer::Ended(Outcome::Aborted)),
-        ("toolate", Answer::TooLate),
-        ("many 32", Answer::Many(32)),
-        ("nosuch", Answer::NoSuch),
-        ("already", Answer::Already),
-        ("finished", Answer::Finished),
-        ("over r16", Answer::Over(RmNo::new(16).unwrap())),
-        ("connected e1", Answer::Connected(EnlNo::new(1).unwrap())),
-        ("stopped", Answer::Stopped),
-        ("deep", Answer::Deep),
-        (
-            "isolation chaos snapshot",
-            Answer::Isolation(Iso::Chaos, Iso::Snapshot),
-        ),
-        ("noscope", Answer::NoScope),
-        ("nested s3", Answer::Nested(ScopeNo::new(3).unwrap())),
-        ("none", Answer::Ambient(None)),
-        ("t256", Answer::Ambient(Some(TxNo::new(256).unwrap()))),
-        ("fault", Answer::Fault),
-        ("notalog 512", Answer::NotALog(512)),
-    ];
-    for (words, want) in cases {
-        let text = format!(in rt.alloc(); "1 log answer 7 {words}\n")?;
-        assert!(rt;
-            reads(rt.alloc(), text.as_str(), log, Entry::Answered(7, want)),
-            "at {text}"
-        );
-    }
-    Ok(())
-}
-
-#[test]
-fn reads_each_message(rt: HostRuntime) -> Result<(), Fail> {
-    let e7 = EnlNo::new(7).unwrap();
-    let id = 18_446_744_073_709_551_621;
-    let info = Info {
-        id,
-        rm: RmNo::new(1).unwrap(),
-        enl: e7,
-    };
-    let cases = [
-        ("b up begin", Conn::Begin, Dir::Up, Message::BeginBegin),
-        ("b up commit", Conn::Begin, Dir::Up, Message::BeginCommit),
-        ("b up abort", Conn::Begin, Dir::Up, Message::BeginAbort),
-        (
-            "b down begun",
-            Conn::Begin,
-            Dir::Down,
-            Message::BeginBegun(id),
-        ),
-        (
-            "b down committed",
-            Conn::Begin,
-            Dir::Down,
-            Message::BeginCommitted,
-        ),
-        (
-            "b down aborted",
-            Conn::Begin,
-            Dir::Down,
-            Message::BeginAborted,
-        ),
-        ("v up voter", Conn::Voter, Dir::Up, Message::VoterVoter(id)),
-        ("v up yes", Conn::Voter, Dir::Up, Message::VoterYes),
-        ("v up no", Conn::Voter, Dir::Up, Message::VoterNo),
-        (
-            "v down created",
-            Conn::Voter,
-            Dir::Down,
-            Message::VoterCreated,
-        ),
-        (
-            "v down refused 2",
-            Conn::Voter,
-            Dir::Down,
-            Message::VoterRefused(2),
-        ),
-        ("v down ask", Conn::Voter, Dir::Down, Message::VoterAsk),
-        (
-            "v down commit",
-            Conn::Voter,
-            Dir::Down,
-            Message::VoterCommit,
-        ),
-        ("v down abort", Conn::Voter, Dir::Down, Message::VoterAbort),
-        (
-            "e7 up enlist",
-            Conn::Enl(e7),
-            Dir::Up,
-            Message::EnlistEnlist(info),
-        ),
-        (
-            "e7 up prepared",
-            Conn::Enl(e7),
-            Dir::Up,
-            Message::EnlistPrepared,
-        ),
-        ("e7 up no", Conn::Enl(e7), Dir::Up, Message::EnlistNo),
-        (
-            "e7 up readonly",
-            Conn::Enl(e7),
-            Dir::Up,
-            Message::EnlistReadonly,
-        ),
-        ("e7 up ack", Conn::Enl(e7), Dir::Up, Message::EnlistAck),
-        (
-            "e7 down enlisted",
-            Conn::Enl(e7),
-            Dir::Down,
-            Message::EnlistEnlisted,
-        ),
-        (
-            "e7 down refused 1",
-            Conn::Enl(e7),
-            Dir::Down,
-            Message::EnlistRefused(1),
-        ),
-        (
-            "e7 down prepare",
-            Conn::Enl(e7),
-            Dir::Down,
-            Message::EnlistPrepare,
-        ),
-        (
-            "e7 down commit",
-            Conn::Enl(e7),
-            Dir::Down,
-            Message::EnlistCommit,
-        ),
-        (
-            "e7 down abort",
-            Conn::Enl(e7),
-            Dir::Down,
-            Message::EnlistAbort,
-        ),
-        (
-            "x7 up reenlist",
-            Conn::Again(e7),
-            Dir::Up,
-            Message::ReenlistReenlist(info),
-        ),
-        ("x7 up ack", Conn::Again(e7), Dir::Up, Message::ReenlistAck),
-        (
-            "x7 down committed",
-            Conn::Again(e7),
-            Dir::Down,
-            Message::ReenlistCommitted,
-        ),
-        (
-            "x7 down aborted",
-            Conn::Again(e7),
-            Dir::Down,
-            Message::ReenlistAborted,
-        ),
-    ];
-    let t5 = Place::Transaction(TxNo::new(5).unwrap());
-    for (words, conn, d, m) in cases {
-        let text = format!(in rt.alloc(); "1 t5 sent {words}\n")?;
-        assert!(rt;
-            reads(rt.alloc(), text.as_str(), t5, Entry::Sent(conn, d, m)),
-            "at {text}"
-        );
-    }
-    Ok(())
-}
-
-/// The text of a trace of this entry alone, in the log.
-fn printed(alloc: Global, x: Entry) -> Result<Vec<u8>, AllocError> {
-    let mut entries = PlacedEntries::new(alloc);
-    entries.push((Place::Log, x))?;
-    print_trace(alloc, &Trace::new(entries), false)
-}
-
-/// What is wanted of it: these words, and others before them.
-fn wanted(alloc: Global, before: &str, words: &str) -> Result<Vec<u8>, AllocError> {
-    let mut text = Vec::with_capacity(alloc, 128)?;
-    for part in ["1 log ", before, words, "\n"] {
-        text.extend_from_slice(part.as_bytes())?;
-    }
-    Ok(text)
-}
-
-#[test]
-fn numbers_lines(rt: HostRuntime) -> Result<(), Fail> {
+fn places_and_numbers_go_both_ways(rt: HostRuntime) -> Result<(), Fail> {
     let t1 = Place::Transaction(TxNo::new(1).unwrap());
+    let t256 = Place::Transaction(TxNo::new(256).unwrap());
     let a3 = Place::Context(ActorNo::new(3).unwrap());
     let entries = [
         (t1, Entry::CommitAsked),
         (a3, Entry::Sealed),
         (Place::Log, Entry::Freed),
-        (t1, Entry::Late),
+        (t256, Entry::Late),
         (t1, Entry::Late),
         (t1, Entry::Late),
         (t1, Entry::Late),
@@ -365,241 +130,245 @@ fn numbers_lines(rt: HostRuntime) -> Result<(), Fail> {
         (t1, Entry::Late),
         (t1, Entry::Clock(0)),
     ];
-    let mut list = PlacedEntries::new(rt.alloc());
-    for x in entries {
-        list.push(x)?;
-    }
-    let text = print_trace(rt.alloc(), &Trace::new(list), false)?;
-    let expected = "1 t1 commit\n2 a3 sealed\n3 log freed\n4 t1 late\n5 t1 late\n6 t1 late\n\
-        7 t1 late\n8 t1 late\n9 t1 late\n10 t1 clock 0\n";
-    assert_eq!(rt; text.as_slice(), expected.as_bytes());
+    let trace = trace_of(rt.alloc(), &entries)?;
+    goes_both_ways(&rt, rt.alloc(), &trace, PLACES)?;
     Ok(())
 }
 
+/// Each form of an entry.
+const ENTRIES: &str =
+    "1 log call 4294967295 a16 ok\n2 log answer 40 open\n3 log began 600000\n4 log cloned c7 block\n\
+    5 log cloned c7 rollback\n6 log completed c7\n7 log enlisted e1 zero\n8 log enlisted e1 one\n\
+    9 log enlisted e1 two\n10 log enlisted e1 single\n11 log enlisted e1 promotable\n\
+    12 log init e1\n13 log commit\n14 log rollback\n15 log clock 18446744073709551615\n\
+    16 log timedout\n17 log late\n18 log ask e1 prepare\n19 log ask e1 promote\n\
+    20 log ask e1 single\n21 log vote e1 yes\n22 log vote e1 no\n23 log vote e1 done\n\
+    24 log promote e1 ok\n25 log promote e1 fail\n26 log request e1 commit\n\
+    27 log request e1 abort\n28 log sealed\n29 log hand e1\n30 log owner e1 indoubt\n31 log yes\n\
+    32 log decided committed\n33 log told e1 aborted\n34 log told client indoubt\n\
+    35 log promoting two\n36 log promoting second\n37 log promoting beside\n\
+    38 log promoting marshal\n39 log promoted 00000000-0000-0001-0000-000000000001 two\n\
+    40 log promotionfailed\n41 log sent b up begin\n42 log got v down ask\n43 log cut x9999 999 0\n\
+    44 log down e1 down\n45 log lost e9999\n46 log logged\n47 log logfull\n48 log freed\n\
+    49 log stopped\n50 log restarted found\n51 log restarted none\n52 log reenlisted e1\n\
+    53 log recovered r2\n54 log acked e1\n55 log opened s3 t256\n56 log opened s3 none\n\
+    57 log finished s3\n58 log closed s3\n59 log armed 99 lose\n60 log armed 1 keep\n\
+    61 log armed 1 torn\n62 log opened 1024\n63 log call 4 a16 ok\n64 log answer 4 true\n\
+    65 log began 0\n66 log completed c9999\n67 log decided aborted\n68 log told client committed\n\
+    69 log told e1 committed\n70 log cut x1 0 4294967295\n71 log down e1 up\n72 log armed 255 torn\n\
+    73 log opened 65535\n";
+
 #[test]
-fn prints_entries(rt: HostRuntime) -> Result<(), Fail> {
+fn entries_go_both_ways(rt: HostRuntime) -> Result<(), Fail> {
     let a16 = ActorNo::new(16).unwrap();
-    let c7 = CloneNo::new(7).unwrap();
-    let [e1, e9] = [1, 9999].map(|n| EnlNo::new(n).expect(&rt, "no such number"));
+    let (c7, c9) = (CloneNo::new(7).unwrap(), CloneNo::new(9999).unwrap());
+    let (e1, e9) = (EnlNo::new(1).unwrap(), EnlNo::new(9999).unwrap());
     let r2 = RmNo::new(2).unwrap();
     let s3 = ScopeNo::new(3).unwrap();
     let t256 = TxNo::new(256).unwrap();
-    let rows: [(Entry, &str); 62] = [
-        (
-            Entry::Called(u32::MAX, a16, Answer::Fine),
-            "call 4294967295 a16 ok",
-        ),
-        (Entry::Answered(40, Answer::StillOpen), "answer 40 open"),
-        (Entry::Began(600_000), "began 600000"),
-        (Entry::Cloned(c7, CloneKind::Block), "cloned c7 block"),
-        (Entry::Cloned(c7, CloneKind::Rollback), "cloned c7 rollback"),
-        (Entry::Completed(c7), "completed c7"),
-        (Entry::Enlisted(e1, Class::Zero), "enlisted e1 zero"),
-        (Entry::Enlisted(e1, Class::One), "enlisted e1 one"),
-        (Entry::Enlisted(e1, Class::DurableTwo), "enlisted e1 two"),
-        (
-            Entry::Enlisted(e1, Class::DurableSingle),
-            "enlisted e1 single",
-        ),
-        (
-            Entry::Enlisted(e1, Class::Promotable),
-            "enlisted e1 promotable",
-        ),
-        (Entry::Init(e1), "init e1"),
-        (Entry::CommitAsked, "commit"),
-        (Entry::RollbackAsked, "rollback"),
-        (Entry::Clock(u64::MAX), "clock 18446744073709551615"),
-        (Entry::TimedOut, "timedout"),
-        (Entry::Late, "late"),
-        (Entry::Asked(e1, Ask::Prepare), "ask e1 prepare"),
-        (Entry::Asked(e1, Ask::Promote), "ask e1 promote"),
-        (Entry::Asked(e1, Ask::Single), "ask e1 single"),
-        (Entry::Voted(e1, Vote::Yes), "vote e1 yes"),
-        (Entry::Voted(e1, Vote::No), "vote e1 no"),
-        (Entry::Voted(e1, Vote::Done), "vote e1 done"),
-        (Entry::PromoteReply(e1, true), "promote e1 ok"),
-        (Entry::PromoteReply(e1, false), "promote e1 fail"),
-        (Entry::Requested(e1, Request::Commit), "request e1 commit"),
-        (Entry::Requested(e1, Request::Abort), "request e1 abort"),
-        (Entry::Sealed, "sealed"),
-        (Entry::Handed(e1), "hand e1"),
-        (
-            Entry::OwnerAnswered(e1, Outcome::InDoubt),
-            "owner e1 indoubt",
-        ),
-        (Entry::LocalYes, "yes"),
-        (Entry::Decided(Outcome::Committed), "decided committed"),
-        (
-            Entry::Told(Party::Enl(e1), Outcome::Aborted),
-            "told e1 aborted",
-        ),
-        (
-            Entry::Told(Party::Client, Outcome::InDoubt),
-            "told client indoubt",
-        ),
-        (Entry::Promoting(Cause::Two), "promoting two"),
-        (Entry::Promoting(Cause::Second), "promoting second"),
-        (Entry::Promoting(Cause::Beside), "promoting beside"),
-        (Entry::Promoting(Cause::Marshal), "promoting marshal"),
-        (
-            Entry::Promoted((1 << 64) + 1, Cause::Two),
-            "promoted 00000000-0000-0001-0000-000000000001 two",
-        ),
-        (Entry::PromotionFailed, "promotionfailed"),
-        (
-            Entry::Sent(Conn::Begin, Dir::Up, Message::BeginBegin),
-            "sent b up begin",
-        ),
-        (
-            Entry::Got(Conn::Voter, Dir::Down, Message::VoterAsk),
-            "got v down ask",
-        ),
-        (Entry::Cut(Conn::Again(e9), 999, 0), "cut x9999 999 0"),
-        (Entry::Down(Conn::Enl(e1), Dir::Down), "down e1 down"),
-        (Entry::Lost(e9), "lost e9999"),
-        (Entry::Logged, "logged"),
-        (Entry::LogFull, "logfull"),
-        (Entry::Freed, "freed"),
-        (Entry::Stopped, "stopped"),
-        (Entry::Restarted(true), "restarted found"),
-        (Entry::Restarted(false), "restarted none"),
-        (Entry::Reenlisted(e1), "reenlisted e1"),
-        (Entry::Recovered(r2), "recovered r2"),
-        (Entry::Acked(e1), "acked e1"),
-        (
-            Entry::Scope(ScopeNote::Opened(s3, Some(t256))),
-            "opened s3 t256",
-        ),
-        (Entry::Scope(ScopeNote::Opened(s3, None)), "opened s3 none"),
-        (Entry::Scope(ScopeNote::Finished(s3)), "finished s3"),
-        (Entry::Scope(ScopeNote::Closed(s3)), "closed s3"),
-        (
-            Entry::LogWord(LogNote::Armed(99, Image::Lose)),
-            "armed 99 lose",
-        ),
-        (
-            Entry::LogWord(LogNote::Armed(1, Image::Keep)),
-            "armed 1 keep",
-        ),
-        (
-            Entry::LogWord(LogNote::Armed(1, Image::Torn)),
-            "armed 1 torn",
-        ),
-        (Entry::LogWord(LogNote::Opened(1024)), "opened 1024"),
+    let entries = [
+        Entry::Called(u32::MAX, a16, Answer::Fine),
+        Entry::Answered(40, Answer::StillOpen),
+        Entry::Began(600_000),
+        Entry::Cloned(c7, CloneKind::Block),
+        Entry::Cloned(c7, CloneKind::Rollback),
+        Entry::Completed(c7),
+        Entry::Enlisted(e1, Class::Zero),
+        Entry::Enlisted(e1, Class::One),
+        Entry::Enlisted(e1, Class::DurableTwo),
+        Entry::Enlisted(e1, Class::DurableSingle),
+        Entry::Enlisted(e1, Class::Promotable),
+        Entry::Init(e1),
+        Entry::CommitAsked,
+        Entry::RollbackAsked,
+        Entry::Clock(u64::MAX),
+        Entry::TimedOut,
+        Entry::Late,
+        Entry::Asked(e1, Ask::Prepare),
+        Entry::Asked(e1, Ask::Promote),
+        Entry::Asked(e1, Ask::Single),
+        Entry::Voted(e1, Vote::Yes),
+        Entry::Voted(e1, Vote::No),
+        Entry::Voted(e1, Vote::Done),
+        Entry::PromoteReply(e1, true),
+        Entry::PromoteReply(e1, false),
+        Entry::Requested(e1, Request::Commit),
+        Entry::Requested(e1, Request::Abort),
+        Entry::Sealed,
+        Entry::Handed(e1),
+        Entry::OwnerAnswered(e1, Outcome::InDoubt),
+        Entry::LocalYes,
+        Entry::Decided(Outcome::Committed),
+        Entry::Told(Party::Enl(e1), Outcome::Aborted),
+        Entry::Told(Party::Client, Outcome::InDoubt),
+        Entry::Promoting(Cause::Two),
+        Entry::Promoting(Cause::Second),
+        Entry::Promoting(Cause::Beside),
+        Entry::Promoting(Cause::Marshal),
+        Entry::Promoted((1 << 64) + 1, Cause::Two),
+        Entry::PromotionFailed,
+        Entry::Sent(Conn::Begin, Dir::Up, Message::BeginBegin),
+        Entry::Got(Conn::Voter, Dir::Down, Message::VoterAsk),
+        Entry::Cut(Conn::Again(e9), 999, 0),
+        Entry::Down(Conn::Enl(e1), Dir::Down),
+        Entry::Lost(e9),
+        Entry::Logged,
+        Entry::LogFull,
+        Entry::Freed,
+        Entry::Stopped,
+        Entry::Restarted(true),
+        Entry::Restarted(false),
+        Entry::Reenlisted(e1),
+        Entry::Recovered(r2),
+        Entry::Acked(e1),
+        Entry::Scope(ScopeNote::Opened(s3, Some(t256))),
+        Entry::Scope(ScopeNote::Opened(s3, None)),
+        Entry::Scope(ScopeNote::Finished(s3)),
+        Entry::Scope(ScopeNote::Closed(s3)),
+        Entry::LogWord(LogNote::Armed(99, Image::Lose)),
+        Entry::LogWord(LogNote::Armed(1, Image::Keep)),
+        Entry::LogWord(LogNote::Armed(1, Image::Torn)),
+        Entry::LogWord(LogNote::Opened(1024)),
+        Entry::Called(4, a16, Answer::Fine),
+        Entry::Answered(4, Answer::True),
+        Entry::Began(0),
+        Entry::Completed(c9),
+        Entry::Decided(Outcome::Aborted),
+        Entry::Told(Party::Client, Outcome::Committed),
+        Entry::Told(Party::Enl(e1), Outcome::Committed),
+        Entry::Cut(Conn::Again(e1), 0, u32::MAX),
+        Entry::Down(Conn::Enl(e1), Dir::Up),
+        Entry::LogWord(LogNote::Armed(255, Image::Torn)),
+        Entry::LogWord(LogNote::Opened(65535)),
     ];
-    for (x, words) in rows {
-        assert_eq!(rt;
-            printed(rt.alloc(), x)?,
-            wanted(rt.alloc(), "", words)?,
-            "at {words}"
-        );
-    }
+    let trace = trace_at(rt.alloc(), Place::Log, &entries)?;
+    goes_both_ways(&rt, rt.alloc(), &trace, ENTRIES)?;
     Ok(())
 }
 
+/// Each form of an answer.
+const ANSWERS: &str =
+    "1 log answer 7 ok\n2 log answer 7 true\n3 log answer 7 false\n4 log answer 7 wait\n\
+    5 log answer 7 id 01234567-89ab-cdef-0000-0000000000ff\n6 log answer 7 active\n\
+    7 log answer 7 committed\n8 log answer 7 open\n9 log answer 7 did 999\n\
+    10 log answer 7 notbegun\n11 log answer 7 ended aborted\n12 log answer 7 toolate\n\
+    13 log answer 7 many 32\n14 log answer 7 nosuch\n15 log answer 7 already\n\
+    16 log answer 7 finished\n17 log answer 7 over r2\n18 log answer 7 connected e9999\n\
+    19 log answer 7 stopped\n20 log answer 7 deep\n\
+    21 log answer 7 isolation serializable repeatableread\n\
+    22 log answer 7 isolation readcommitted readuncommitted\n\
+    23 log answer 7 isolation snapshot chaos\n24 log answer 7 isolation unspecified chaos\n\
+    25 log answer 7 noscope\n26 log answer 7 nested s3\n27 log answer 7 t256\n28 log answer 7 none\n\
+    29 log answer 7 fault\n30 log answer 7 notalog 512\n\
+    31 log answer 7 id 00000000-0000-0000-0000-0000000000ff\n32 log answer 7 aborted\n\
+    33 log answer 7 indoubt\n34 log answer 7 did 65535\n35 log answer 7 over r16\n\
+    36 log answer 7 connected e1\n37 log answer 7 isolation chaos snapshot\n";
+
+/// The entry of this answer.
+fn answered(answer: Answer) -> Entry {
+    Entry::Answered(7, answer)
+}
+
 #[test]
-fn prints_answers(rt: HostRuntime) -> Result<(), Fail> {
+fn answers_go_both_ways(rt: HostRuntime) -> Result<(), Fail> {
     let e9 = EnlNo::new(9999).unwrap();
     let r2 = RmNo::new(2).unwrap();
     let s3 = ScopeNo::new(3).unwrap();
     let t256 = TxNo::new(256).unwrap();
-    let rows: [(Answer, &str); 30] = [
-        (Answer::Fine, "ok"),
-        (Answer::True, "true"),
-        (Answer::False, "false"),
-        (Answer::Wait, "wait"),
-        (
-            Answer::Id(0x0123_4567_89ab_cdef_0000_0000_0000_00ff),
-            "id 01234567-89ab-cdef-0000-0000000000ff",
-        ),
-        (Answer::StillActive, "active"),
-        (Answer::OutcomeIs(Outcome::Committed), "committed"),
-        (Answer::StillOpen, "open"),
-        (Answer::Did(999), "did 999"),
-        (Answer::NotBegun, "notbegun"),
-        (Answer::Ended(Outcome::Aborted), "ended aborted"),
-        (Answer::TooLate, "toolate"),
-        (Answer::Many(32), "many 32"),
-        (Answer::NoSuch, "nosuch"),
-        (Answer::Already, "already"),
-        (Answer::Finished, "finished"),
-        (Answer::Over(r2), "over r2"),
-        (Answer::Connected(e9), "connected e9999"),
-        (Answer::Stopped, "stopped"),
-        (Answer::Deep, "deep"),
-        (
-            Answer::Isolation(Iso::Serializable, Iso::RepeatableRead),
-            "isolation serializable repeatableread",
-        ),
-        (
-            Answer::Isolation(Iso::ReadCommitted, Iso::ReadUncommitted),
-            "isolation readcommitted readuncommitted",
-        ),
-        (
-            Answer::Isolation(Iso::Snapshot, Iso::Chaos),
-            "isolation snapshot chaos",
-        ),
-        (
-            Answer::Isolation(Iso::Unspecified, Iso::Chaos),
-            "isolation unspecified chaos",
-        ),
-        (Answer::NoScope, "noscope"),
-        (Answer::Nested(s3), "nested s3"),
-        (Answer::Ambient(Some(t256)), "t256"),
-        (Answer::Ambient(None), "none"),
-        (Answer::Fault, "fault"),
-        (Answer::NotALog(512), "notalog 512"),
+    let entries = [
+        answered(Answer::Fine),
+        answered(Answer::True),
+        answered(Answer::False),
+        answered(Answer::Wait),
+        answered(Answer::Id(0x0123_4567_89ab_cdef_0000_0000_0000_00ff)),
+        answered(Answer::StillActive),
+        answered(Answer::OutcomeIs(Outcome::Committed)),
+        answered(Answer::StillOpen),
+        answered(Answer::Did(999)),
+        answered(Answer::NotBegun),
+        answered(Answer::Ended(Outcome::Aborted)),
+        answered(Answer::TooLate),
+        answered(Answer::Many(32)),
+        answered(Answer::NoSuch),
+        answered(Answer::Already),
+        answered(Answer::Finished),
+        answered(Answer::Over(r2)),
+        answered(Answer::Connected(e9)),
+        answered(Answer::Stopped),
+        answered(Answer::Deep),
+        answered(Answer::Isolation(Iso::Serializable, Iso::RepeatableRead)),
+        answered(Answer::Isolation(Iso::ReadCommitted, Iso::ReadUncommitted)),
+        answered(Answer::Isolation(Iso::Snapshot, Iso::Chaos)),
+        answered(Answer::Isolation(Iso::Unspecified, Iso::Chaos)),
+        answered(Answer::NoScope),
+        answered(Answer::Nested(s3)),
+        answered(Answer::Ambient(Some(t256))),
+        answered(Answer::Ambient(None)),
+        answered(Answer::Fault),
+        answered(Answer::NotALog(512)),
+        answered(Answer::Id(255)),
+        answered(Answer::OutcomeIs(Outcome::Aborted)),
+        answered(Answer::OutcomeIs(Outcome::InDoubt)),
+        answered(Answer::Did(65535)),
+        answered(Answer::Over(RmNo::new(16).unwrap())),
+        answered(Answer::Connected(EnlNo::new(1).unwrap())),
+        answered(Answer::Isolation(Iso::Chaos, Iso::Snapshot)),
     ];
-    for (answer, words) in rows {
-        let text = printed(rt.alloc(), Entry::Answered(7, answer))?;
-        assert_eq!(rt; text, wanted(rt.alloc(), "answer 7 ", words)?, "at {words}");
-    }
+    let trace = trace_at(rt.alloc(), Place::Log, &entries)?;
+    goes_both_ways(&rt, rt.alloc(), &trace, ANSWERS)?;
     Ok(())
 }
 
+/// Each message on its connection. The identifier in it is that of the transaction.
+const MESSAGES: &str =
+    "1 t5 sent b up begin\n2 t5 sent b up commit\n3 t5 sent b up abort\n4 t5 sent b down begun\n\
+    5 t5 sent b down committed\n6 t5 sent b down aborted\n7 t5 sent v up voter\n\
+    8 t5 sent v up yes\n9 t5 sent v up no\n10 t5 sent v down created\n\
+    11 t5 sent v down refused 2\n12 t5 sent v down ask\n13 t5 sent v down commit\n\
+    14 t5 sent v down abort\n15 t5 sent e1 up enlist\n16 t5 sent e1 up prepared\n\
+    17 t5 sent e1 up no\n18 t5 sent e1 up readonly\n19 t5 sent e1 up ack\n\
+    20 t5 sent e1 down enlisted\n21 t5 sent e1 down refused 1\n22 t5 sent e1 down prepare\n\
+    23 t5 sent e1 down commit\n24 t5 sent e1 down abort\n25 t5 sent x1 up reenlist\n\
+    26 t5 sent x1 up ack\n27 t5 sent x1 down committed\n28 t5 sent x1 down aborted\n";
+
 #[test]
-fn prints_messages(rt: HostRuntime) -> Result<(), Fail> {
-    let id = (1 << 64) + 1;
+fn messages_go_both_ways(rt: HostRuntime) -> Result<(), Fail> {
     let e1 = EnlNo::new(1).unwrap();
+    let id = (1 << 64) + 5;
     let rm = RmNo::new(1).unwrap();
     let info = Info { id, rm, enl: e1 };
-    let rows: [(Message, &str); 28] = [
-        (Message::BeginBegin, "begin"),
-        (Message::BeginCommit, "commit"),
-        (Message::BeginAbort, "abort"),
-        (Message::BeginBegun(id), "begun"),
-        (Message::BeginCommitted, "committed"),
-        (Message::BeginAborted, "aborted"),
-        (Message::VoterVoter(id), "voter"),
-        (Message::VoterYes, "yes"),
-        (Message::VoterNo, "no"),
-        (Message::VoterCreated, "created"),
-        (Message::VoterRefused(2), "refused 2"),
-        (Message::VoterAsk, "ask"),
-        (Message::VoterCommit, "commit"),
-        (Message::VoterAbort, "abort"),
-        (Message::EnlistEnlist(info), "enlist"),
-        (Message::EnlistPrepared, "prepared"),
-        (Message::EnlistNo, "no"),
-        (Message::EnlistReadonly, "readonly"),
-        (Message::EnlistAck, "ack"),
-        (Message::EnlistEnlisted, "enlisted"),
-        (Message::EnlistRefused(1), "refused 1"),
-        (Message::EnlistPrepare, "prepare"),
-        (Message::EnlistCommit, "commit"),
-        (Message::EnlistAbort, "abort"),
-        (Message::ReenlistReenlist(info), "reenlist"),
-        (Message::ReenlistAck, "ack"),
-        (Message::ReenlistCommitted, "committed"),
-        (Message::ReenlistAborted, "aborted"),
+    let entries = [
+        Entry::Sent(Conn::Begin, Dir::Up, Message::BeginBegin),
+        Entry::Sent(Conn::Begin, Dir::Up, Message::BeginCommit),
+        Entry::Sent(Conn::Begin, Dir::Up, Message::BeginAbort),
+        Entry::Sent(Conn::Begin, Dir::Down, Message::BeginBegun(id)),
+        Entry::Sent(Conn::Begin, Dir::Down, Message::BeginCommitted),
+        Entry::Sent(Conn::Begin, Dir::Down, Message::BeginAborted),
+        Entry::Sent(Conn::Voter, Dir::Up, Message::VoterVoter(id)),
+        Entry::Sent(Conn::Voter, Dir::Up, Message::VoterYes),
+        Entry::Sent(Conn::Voter, Dir::Up, Message::VoterNo),
+        Entry::Sent(Conn::Voter, Dir::Down, Message::VoterCreated),
+        Entry::Sent(Conn::Voter, Dir::Down, Message::VoterRefused(2)),
+        Entry::Sent(Conn::Voter, Dir::Down, Message::VoterAsk),
+        Entry::Sent(Conn::Voter, Dir::Down, Message::VoterCommit),
+        Entry::Sent(Conn::Voter, Dir::Down, Message::VoterAbort),
+        Entry::Sent(Conn::Enl(e1), Dir::Up, Message::EnlistEnlist(info)),
+        Entry::Sent(Conn::Enl(e1), Dir::Up, Message::EnlistPrepared),
+        Entry::Sent(Conn::Enl(e1), Dir::Up, Message::EnlistNo),
+        Entry::Sent(Conn::Enl(e1), Dir::Up, Message::EnlistReadonly),
+        Entry::Sent(Conn::Enl(e1), Dir::Up, Message::EnlistAck),
+        Entry::Sent(Conn::Enl(e1), Dir::Down, Message::EnlistEnlisted),
+        Entry::Sent(Conn::Enl(e1), Dir::Down, Message::EnlistRefused(1)),
+        Entry::Sent(Conn::Enl(e1), Dir::Down, Message::EnlistPrepare),
+        Entry::Sent(Conn::Enl(e1), Dir::Down, Message::EnlistCommit),
+        Entry::Sent(Conn::Enl(e1), Dir::Down, Message::EnlistAbort),
+        Entry::Sent(Conn::Again(e1), Dir::Up, Message::ReenlistReenlist(info)),
+        Entry::Sent(Conn::Again(e1), Dir::Up, Message::ReenlistAck),
+        Entry::Sent(Conn::Again(e1), Dir::Down, Message::ReenlistCommitted),
+        Entry::Sent(Conn::Again(e1), Dir::Down, Message::ReenlistAborted),
     ];
-    for (m, words) in rows {
-        let text = printed(rt.alloc(), Entry::Sent(Conn::Begin, Dir::Up, m))?;
-        assert_eq!(rt;
-            text,
-            wanted(rt.alloc(), "sent b up ", words)?,
-            "at {words}"
-        );
-    }
+    let t5 = Place::Transaction(TxNo::new(5).unwrap());
+    let trace = trace_at(rt.alloc(), t5, &entries)?;
+    goes_both_ways(&rt, rt.alloc(), &trace, MESSAGES)?;
     Ok(())
 }

@@ -198,12 +198,8 @@ fn folder_of(path: &str) -> &str {
     }
 }
 
-// Reads all of `into` from place `at` on. Zeros stand for the bytes that the file doesn't have.
-pub(crate) fn read_range<F: Read + Seek>(
-    file: &mut F,
-    at: u64,
-    into: &mut [u8],
-) -> Result<(), Failed> {
+/// Reads all of `into` from place `at` on, as a [`FileDisk`] does. Zeros stand for the bytes that the file doesn't have.
+pub fn read_range<F: Read + Seek>(file: &mut F, at: u64, into: &mut [u8]) -> Result<(), Failed> {
     if file.seek(SeekFrom::Start(at)).is_err() {
         return Err(Failed);
     }
@@ -225,12 +221,8 @@ pub(crate) fn read_range<F: Read + Seek>(
     Err(Failed)
 }
 
-// Writes all of `from` from place `at` on.
-pub(crate) fn write_range<F: Write + Seek>(
-    file: &mut F,
-    at: u64,
-    from: &[u8],
-) -> Result<(), Failed> {
+/// Writes all of `from` from place `at` on, as a [`FileDisk`] does.
+pub fn write_range<F: Write + Seek>(file: &mut F, at: u64, from: &[u8]) -> Result<(), Failed> {
     if file.seek(SeekFrom::Start(at)).is_err() {
         return Err(Failed);
     }

@@ -40,13 +40,11 @@ mod standard;
 mod sure;
 mod sure_disk;
 mod tape;
-#[cfg(test)]
-mod tests;
 
 pub use disk::Disk;
 pub use dtx_values::Image;
 pub use failure::{Failed, WriteError};
-pub use file_disk::FileDisk;
+pub use file_disk::{FileDisk, read_range, write_range};
 pub use gate::{Gate, OpenGate};
 pub use mem_disk::MemDisk;
 pub use memory::{MemSink, MemSource};

@@ -10,77 +10,117 @@ fn clone_no(rt: &impl Abort, n: u32) -> CloneNo {
 
 /// A call: a clone is made, blocking or not, before commit was asked or after, or one is completed.
 #[derive(Clone, Copy)]
-enum Call {
+enum Made {
     Make(bool, bool),
     Complete,
 }
 
+/// How a call is answered.
+#[derive(Clone, Copy)]
+enum Said {
+    Fine,
+    NoSuch,
+    Twice,
+    Already,
+    TooLate,
+    Many,
+}
+
 /// The calls in turn, each with its clone, its answer, and how many blocking and rollback clones are open after it.
-fn calls(rt: &impl Abort) -> [(u32, Call, Result<(), CloneRefusal>, u8, u8); 11] {
-    let [c1, c2, c9] = [1, 2, 9].map(|n| clone_no(rt, n));
-    [
-        (9, Call::Complete, Err(CloneRefusal::NoSuch(c9)), 0, 0),
-        (1, Call::Make(true, false), Ok(()), 1, 0),
-        (
-            1,
-            Call::Make(false, false),
-            Err(CloneRefusal::Twice(c1)),
-            1,
-            0,
-        ),
-        (3, Call::Make(true, false), Ok(()), 2, 0),
-        (2, Call::Make(false, false), Ok(()), 2, 1),
-        (1, Call::Complete, Ok(()), 1, 1),
-        (1, Call::Complete, Err(CloneRefusal::Already(c1)), 1, 1),
-        (9, Call::Make(true, true), Err(CloneRefusal::TooLate), 1, 1),
-        (2, Call::Make(true, true), Err(CloneRefusal::TooLate), 1, 1),
-        (2, Call::Complete, Ok(()), 1, 0),
-        (2, Call::Complete, Err(CloneRefusal::Already(c2)), 1, 0),
-    ]
+const CALLS: [(u32, Made, Said, u8, u8); 11] = [
+    (9, Made::Complete, Said::NoSuch, 0, 0),
+    (1, Made::Make(true, false), Said::Fine, 1, 0),
+    (1, Made::Make(false, false), Said::Twice, 1, 0),
+    (3, Made::Make(true, false), Said::Fine, 2, 0),
+    (2, Made::Make(false, false), Said::Fine, 2, 1),
+    (1, Made::Complete, Said::Fine, 1, 1),
+    (1, Made::Complete, Said::Already, 1, 1),
+    (9, Made::Make(true, true), Said::TooLate, 1, 1),
+    (2, Made::Make(true, true), Said::TooLate, 1, 1),
+    (2, Made::Complete, Said::Fine, 1, 0),
+    (2, Made::Complete, Said::Already, 1, 0),
+];
+
+/// Whether a call of a clone is answered so.
+fn is_said(clones: &mut Clones, c: CloneNo, call: Made, said: Said) -> bool {
+    let answer = match call {
+        Made::Make(block, commit_asked) => clones.clone_of(c, block, commit_asked),
+        Made::Complete => clones.complete(c),
+    };
+    let want = match said {
+        Said::Fine => Ok(()),
+        Said::NoSuch => Err(CloneRefusal::NoSuch(c)),
+        Said::Twice => Err(CloneRefusal::Twice(c)),
+        Said::Already => Err(CloneRefusal::Already(c)),
+        Said::TooLate => Err(CloneRefusal::TooLate),
+        Said::Many => Err(CloneRefusal::Many(32)),
+    };
+    answer == want
+}
+
+/// Does the calls.
+fn all_go(rt: &impl Abort, clones: &mut Clones) {
+    assert!(rt; clones.is_empty());
+    for (at, (n, call, said, blocking, rollback)) in CALLS.iter().enumerate() {
+        assert!(rt;
+            is_said(clones, clone_no(rt, *n), *call, *said),
+            "at call {at}"
+        );
+        assert!(rt; clones.blocking_left() == *blocking, "at call {at}");
+        assert!(rt; clones.rollback_left() == *rollback, "at call {at}");
+    }
+    assert!(rt; clones.len() == 3);
+}
+
+/// Clones, whether they stand then, and whether they are complete.
+const STAND: [(u32, bool, bool); 4] = [
+    (1, true, true),
+    (2, true, true),
+    (3, true, false),
+    (9, false, false),
+];
+
+/// Compares which clones stand.
+fn stand(rt: &impl Abort, clones: &Clones) {
+    for (n, stands, complete) in STAND {
+        let c = clone_no(rt, n);
+        assert!(rt; clones.stands(c) == stands, "at {n}");
+        assert!(rt; clones.is_complete(c) == complete, "at {n}");
+    }
 }
 
 #[test]
 fn clones_are_made_and_completed(rt: HostRuntime) -> Result<(), Fail> {
     let mut clones = Clones::new(rt.alloc())?;
-    assert!(rt; clones.is_empty());
-    for (n, call, want, blocking, rollback) in calls(&rt) {
-        let c = clone_no(&rt, n);
-        let answer = match call {
-            Call::Make(block, commit_asked) => clones.clone_of(c, block, commit_asked),
-            Call::Complete => clones.complete(c),
-        };
-        assert_eq!(rt; answer, want, "at {n}");
-        assert_eq!(rt; clones.blocking_left(), blocking, "at {n}");
-        assert_eq!(rt; clones.rollback_left(), rollback, "at {n}");
-    }
-    assert_eq!(rt; clones.len(), 3);
-    for (n, stands, complete) in [
-        (1, true, true),
-        (2, true, true),
-        (3, true, false),
-        (9, false, false),
-    ] {
-        assert_eq!(rt; clones.stands(clone_no(&rt, n)), stands, "at {n}");
-        assert_eq!(rt; clones.is_complete(clone_no(&rt, n)), complete, "at {n}");
-    }
+    all_go(&rt, &mut clones);
+    stand(&rt, &clones);
     Ok(())
+}
+
+/// Makes 32 clones, and no more.
+fn fill(rt: &impl Abort, clones: &mut Clones) {
+    let block = Made::Make(true, false);
+    for n in 1..33 {
+        assert!(rt;
+            is_said(clones, clone_no(rt, n), block, Said::Fine),
+            "at {n}"
+        );
+    }
+    assert!(rt;
+        is_said(
+            clones,
+            clone_no(rt, 33),
+            Made::Make(false, false),
+            Said::Many
+        )
+    );
+    assert!(rt; clones.len() == 32);
+    assert!(rt; clones.blocking_left() == 32);
 }
 
 #[test]
 fn a_thirty_third_clone_is_refused(rt: HostRuntime) -> Result<(), Fail> {
     let mut clones = Clones::new(rt.alloc())?;
-    for n in 1..33 {
-        assert_eq!(rt;
-            clones.clone_of(clone_no(&rt, n), true, false),
-            Ok(()),
-            "at {n}"
-        );
-    }
-    assert_eq!(rt;
-        clones.clone_of(clone_no(&rt, 33), false, false),
-        Err(CloneRefusal::Many(32))
-    );
-    assert_eq!(rt; clones.len(), 32);
-    assert_eq!(rt; clones.blocking_left(), 32);
+    fill(&rt, &mut clones);
     Ok(())
 }

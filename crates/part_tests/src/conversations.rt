@@ -30,9 +30,9 @@ fn info(rt: &impl Abort) -> Info {
 
 /// Compares what is sent.
 fn compare(rt: &impl Abort, out: &Outbox, want: &[(Conn, Message)]) {
-    assert_eq!(rt; out.sends().len(), want.len());
+    assert!(rt; out.sends().len() == want.len());
     for (sent, (c, m)) in out.sends().iter().zip(want.iter()) {
-        assert_eq!(rt; *sent, (*c, Dir::Down, *m));
+        assert!(rt; *sent == (*c, Dir::Down, *m));
     }
 }
 
@@ -49,7 +49,7 @@ fn converse(rt: &impl Abort, core: &mut Core, out: &mut Outbox, exchanges: &[Exc
 /// A transaction that its client has begun.
 fn begun(rt: &impl Abort, out: &mut Outbox) -> Core {
     let mut core = Core::new(TxNo::new(1).expect(rt, "no such number"));
-    assert_eq!(rt; core.act(), None);
+    assert!(rt; core.act() == None);
     let begun = [(Conn::Begin, Message::BeginBegun(ID))];
     converse(
         rt,
@@ -86,141 +86,155 @@ fn commit(rt: &impl Abort, core: &mut Core, out: &mut Outbox, asked: &[(Conn, Me
     );
 }
 
-#[test]
-fn all_votes_are_appended_told_and_freed(rt: HostRuntime) -> Result<(), Fail> {
-    let e1 = enl(&rt, 1);
-    let r1 = manager(&rt, 1);
-    let info = info(&rt);
-    let x = Conn::Enl(e1);
-    let mut out = Outbox::with_room(rt.alloc())?;
-    let mut core = voting(&rt, &mut out);
+/// Enlistment 1 is enlisted, asked with the local side, and both vote yes.
+fn votes(rt: &impl Abort, core: &mut Core, out: &mut Outbox) {
+    let x = Conn::Enl(enl(rt, 1));
+    let enlist = Message::EnlistEnlist(info(rt));
     let enlisted = [(x, Message::EnlistEnlisted)];
-    converse(
-        &rt,
-        &mut core,
-        &mut out,
-        &[(x, Message::EnlistEnlist(info), &enlisted)],
-    );
     let asked = [
         (Conn::Voter, Message::VoterAsk),
         (x, Message::EnlistPrepare),
     ];
-    commit(&rt, &mut core, &mut out, &asked);
-    assert_eq!(rt; core.act(), None);
-    converse(
-        &rt,
-        &mut core,
-        &mut out,
-        &[(x, Message::EnlistPrepared, &[])],
-    );
+    converse(rt, core, out, &[(x, enlist, &enlisted)]);
+    commit(rt, core, out, &asked);
+    assert!(rt; core.act().is_none());
+    converse(rt, core, out, &[(x, Message::EnlistPrepared, &[])]);
+}
+
+/// The record is written, and all are told.
+fn is_logged(rt: &impl Abort, core: &mut Core, out: &mut Outbox) {
+    let e1 = enl(rt, 1);
+    let told = [
+        (Conn::Begin, Message::BeginCommitted),
+        (Conn::Voter, Message::VoterCommit),
+        (Conn::Enl(e1), Message::EnlistCommit),
+    ];
     let mut record = LogRecord::new(ID);
-    record.add(r1, e1);
-    assert_eq!(rt; core.act(), Some(CoreAct::WriteRecord(record)));
+    record.add(manager(rt, 1), e1);
+    assert!(rt; core.act() == Some(CoreAct::WriteRecord(record)));
     out.clear();
     assert!(rt; core.may_log());
-    core.logged(&mut out);
-    compare(
-        &rt,
-        &out,
-        &[
-            (Conn::Begin, Message::BeginCommitted),
-            (Conn::Voter, Message::VoterCommit),
-            (x, Message::EnlistCommit),
-        ],
-    );
-    assert_eq!(rt; core.act(), None);
-    converse(&rt, &mut core, &mut out, &[(x, Message::EnlistAck, &[])]);
-    assert_eq!(rt; core.act(), Some(CoreAct::FreeIt(ID)));
+    core.logged(out);
+    compare(rt, out, &told);
+    assert!(rt; core.act().is_none());
+}
+
+/// The record is freed once the enlistment acknowledged.
+fn is_freed(rt: &impl Abort, core: &mut Core, out: &mut Outbox) {
+    let x = Conn::Enl(enl(rt, 1));
+    converse(rt, core, out, &[(x, Message::EnlistAck, &[])]);
+    assert!(rt; core.act() == Some(CoreAct::FreeIt(ID)));
     assert!(rt; core.may_free());
-    core.freed(&mut out);
-    assert_eq!(rt; core.act(), None);
-    assert_eq!(rt; core.stage(), Stage::Over);
+    core.freed(out);
+    assert!(rt; core.act().is_none());
+    assert!(rt; core.stage() == Stage::Over);
+}
+
+#[test]
+fn all_votes_are_appended_told_and_freed(rt: HostRuntime) -> Result<(), Fail> {
+    let mut out = Outbox::with_room(rt.alloc())?;
+    let mut core = voting(&rt, &mut out);
+    votes(&rt, &mut core, &mut out);
+    is_logged(&rt, &mut core, &mut out);
+    is_freed(&rt, &mut core, &mut out);
     Ok(())
+}
+
+/// The local side votes yes, and no record can be written.
+fn finds_it_full(rt: &impl Abort, core: &mut Core, out: &mut Outbox) {
+    let told = [
+        (Conn::Begin, Message::BeginAborted),
+        (Conn::Voter, Message::VoterAbort),
+    ];
+    commit(rt, core, out, &[(Conn::Voter, Message::VoterAsk)]);
+    assert!(rt; core.act() == Some(CoreAct::WriteRecord(LogRecord::new(ID))));
+    out.clear();
+    assert!(rt; core.may_log());
+    core.log_full(out);
+    compare(rt, out, &told);
+    assert!(rt; core.stage() == Stage::Aborted);
 }
 
 #[test]
 fn a_full_log_aborts(rt: HostRuntime) -> Result<(), Fail> {
     let mut out = Outbox::with_room(rt.alloc())?;
     let mut core = voting(&rt, &mut out);
-    let asked = [(Conn::Voter, Message::VoterAsk)];
-    commit(&rt, &mut core, &mut out, &asked);
-    assert_eq!(rt; core.act(), Some(CoreAct::WriteRecord(LogRecord::new(ID))));
-    out.clear();
-    assert!(rt; core.may_log());
-    core.log_full(&mut out);
-    compare(
-        &rt,
-        &out,
-        &[
-            (Conn::Begin, Message::BeginAborted),
-            (Conn::Voter, Message::VoterAbort),
-        ],
-    );
-    assert_eq!(rt; core.stage(), Stage::Aborted);
+    finds_it_full(&rt, &mut core, &mut out);
     Ok(())
 }
 
-/// An end comes by itself, or by a message that its connection doesn't carry.
+/// The voter's connection ends, by itself or by a message that it doesn't carry.
+fn ends(rt: &impl Abort, core: &mut Core, out: &mut Outbox, is_message: bool) {
+    out.clear();
+    if is_message {
+        assert!(rt; core.has_room(Conn::Voter, Message::BeginCommit));
+        assert!(rt; !core.got(Conn::Voter, Message::BeginCommit, out));
+    } else {
+        core.down(Conn::Voter, out);
+    }
+    compare(rt, out, &[(Conn::Begin, Message::BeginAborted)]);
+}
+
 #[test]
 fn an_early_end_aborts(rt: HostRuntime) -> Result<(), Fail> {
+    let mut out = Outbox::with_room(rt.alloc())?;
     for is_message in [false, true] {
-        let mut out = Outbox::with_room(rt.alloc())?;
         let mut core = voting(&rt, &mut out);
-        out.clear();
-        if is_message {
-            assert!(rt; core.has_room(Conn::Voter, Message::BeginCommit));
-            assert!(rt; !core.got(Conn::Voter, Message::BeginCommit, &mut out));
-        } else {
-            core.down(Conn::Voter, &mut out);
-        }
-        compare(&rt, &out, &[(Conn::Begin, Message::BeginAborted)]);
+        ends(&rt, &mut core, &mut out, is_message);
     }
     Ok(())
 }
 
-#[test]
-fn a_vote_no_aborts(rt: HostRuntime) -> Result<(), Fail> {
-    let [e1, e2] = [1, 2].map(|n| enl(&rt, n));
-    let info = info(&rt);
+/// Enlistment 1 votes no, and whoever comes then hears the abort.
+fn hear_no(rt: &impl Abort, core: &mut Core, out: &mut Outbox) {
+    let (e1, e2) = (enl(rt, 1), enl(rt, 2));
+    let info = info(rt);
     let (x, y, again) = (Conn::Enl(e1), Conn::Enl(e2), Conn::Again(e1));
-    let mut out = Outbox::with_room(rt.alloc())?;
-    let mut core = begun(&rt, &mut out);
-    converse(
-        &rt,
-        &mut core,
-        &mut out,
-        &[
-            (
-                x,
-                Message::EnlistEnlist(info),
-                &[(x, Message::EnlistEnlisted)],
-            ),
-            (
-                x,
-                Message::EnlistNo,
-                &[(Conn::Begin, Message::BeginAborted)],
-            ),
-            (y, Message::EnlistEnlist(info), &[(y, Message::EnlistAbort)]),
-            (
-                Conn::Voter,
-                Message::VoterVoter(ID),
-                &[(Conn::Voter, Message::VoterAbort)],
-            ),
-            (
-                again,
-                Message::ReenlistReenlist(info),
-                &[(again, Message::ReenlistAborted)],
-            ),
-        ],
-    );
-    assert_eq!(rt; core.desks().len(), 1);
-    assert_eq!(rt; core.desks()[0].ballot, Some(Ballot::Refused));
+    let exchanges: [Exchange; 5] = [
+        (
+            x,
+            Message::EnlistEnlist(info),
+            &[(x, Message::EnlistEnlisted)],
+        ),
+        (
+            x,
+            Message::EnlistNo,
+            &[(Conn::Begin, Message::BeginAborted)],
+        ),
+        (y, Message::EnlistEnlist(info), &[(y, Message::EnlistAbort)]),
+        (
+            Conn::Voter,
+            Message::VoterVoter(ID),
+            &[(Conn::Voter, Message::VoterAbort)],
+        ),
+        (
+            again,
+            Message::ReenlistReenlist(info),
+            &[(again, Message::ReenlistAborted)],
+        ),
+    ];
+    converse(rt, core, out, &exchanges);
+    assert!(rt; core.desks().len() == 1);
+    assert!(rt; core.desks()[0].ballot == Some(Ballot::Refused));
+}
+
+/// The coordinator stops and comes back without a record, and a manager has recovered.
+fn comes_back(rt: &impl Abort, core: &mut Core) {
+    let r1 = manager(rt, 1);
     assert!(rt; !core.is_stopped());
     core.stopped();
     assert!(rt; core.is_stopped());
     core.restarted(None);
-    core.recovery_over(manager(&rt, 1));
-    assert!(rt; core.has_recovered(manager(&rt, 1)));
-    assert_eq!(rt; core.stage(), Stage::Unknown);
+    core.recovery_over(r1);
+    assert!(rt; core.has_recovered(r1));
+    assert!(rt; core.stage() == Stage::Unknown);
+}
+
+#[test]
+fn a_vote_no_aborts(rt: HostRuntime) -> Result<(), Fail> {
+    let mut out = Outbox::with_room(rt.alloc())?;
+    let mut core = begun(&rt, &mut out);
+    hear_no(&rt, &mut core, &mut out);
+    comes_back(&rt, &mut core);
     Ok(())
 }

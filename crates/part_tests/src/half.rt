@@ -22,187 +22,211 @@ fn enl(rt: &impl Abort, n: u32) -> EnlNo {
     EnlNo::new(n).expect(rt, "no such number")
 }
 
+/// Enlistments 1, 2 and 3.
+fn three(rt: &impl Abort) -> [EnlNo; 3] {
+    [enl(rt, 1), enl(rt, 2), enl(rt, 3)]
+}
+
+fn manager(rt: &impl Abort) -> RmNo {
+    RmNo::new(1).expect(rt, "no such number")
+}
+
+fn clone_no(rt: &impl Abort) -> CloneNo {
+    CloneNo::new(1).expect(rt, "no such number")
+}
+
+/// A half, and where it writes.
+#[derive(Drop)]
+struct Stage {
+    half: LocalHalf,
+    out: Outbox,
+}
+
+impl Stage {
+    /// Nothing was done yet.
+    fn new(rt: &impl Abort, alloc: Global) -> Result<Stage, AllocError> {
+        let out = Outbox::with_room(alloc)?;
+        let half = LocalHalf::new(alloc, transaction(rt))?;
+        Ok(Stage { half, out })
+    }
+}
+
 /// Does a call of line 1, where its conditions hold, and says what it answered.
-fn call(rt: &impl Abort, half: &mut LocalHalf, c: &Call, out: &mut Outbox) -> Answer {
-    out.clear();
-    if LocalHalf::is_its_own(c) && half.is_free(1, c) {
-        half.call(actor(rt), 1, c, out)
+fn call(rt: &impl Abort, s: &mut Stage, c: &Call) -> Answer {
+    s.out.clear();
+    if LocalHalf::is_its_own(c) && s.half.is_free(1, c) {
+        s.half.call(actor(rt), 1, c, &mut s.out)
     } else {
         panic!(rt; "a condition of the call doesn't hold");
     }
 }
 
-/// Begins it, with a durable enlistment e1 and a volatile one e2, and asks for the commit.
-fn begin(rt: &impl Abort, half: &mut LocalHalf, out: &mut Outbox) {
-    let t = transaction(rt);
-    let [e1, e2] = [1, 2].map(|n| enl(rt, n));
-    assert!(rt; !half.is_begun());
-    assert_eq!(rt; call(rt, half, &Call::Status(t), out), Answer::NotBegun);
-    assert_eq!(rt;
-        call(rt, half, &Call::Begin(t, Timeout::Default), out),
-        Answer::Fine
-    );
-    assert!(rt; half.is_begun());
-    assert!(rt; half.rows().is_empty());
-    let single = Support::SinglePhase(None, None);
-    let rm = RmNo::new(1).expect(rt, "no such number");
-    assert_eq!(rt;
-        call(rt, half, &Call::Durable(t, e1, rm, single), out),
-        Answer::Fine
-    );
-    assert!(rt; half.stands(e1));
-    let stands = half.stands(e2);
-    assert!(rt; !stands);
-    let volatile = Call::Volatile(t, e2, EnlistOption::Plain, None);
-    assert_eq!(rt; call(rt, half, &volatile, out), Answer::Fine);
-    assert_eq!(rt; half.rows().len(), 2);
-    assert_eq!(rt; call(rt, half, &Call::Commit(t), out), Answer::Fine);
+/// Does these calls, and compares what they answer.
+fn calls(rt: &impl Abort, s: &mut Stage, cases: &[(Call, Answer)]) {
+    for (c, answer) in cases {
+        let came = call(rt, s, c);
+        assert!(rt; came == *answer);
+    }
 }
 
-/// Does the local act, which is this entry alone.
-fn act(rt: &impl Abort, half: &mut LocalHalf, out: &mut Outbox, want: Entry) {
-    out.clear();
-    assert!(rt; half.has_act());
-    assert!(rt; half.act(out));
-    assert_eq!(rt; out.entries(), [want].as_slice());
+/// The calls that begin it, with a durable enlistment e1 and a volatile one e2, and ask for the commit.
+fn begin(rt: &impl Abort, s: &mut Stage) {
+    let t = transaction(rt);
+    let [e1, e2, _] = three(rt);
+    let single = Support::SinglePhase(None, None);
+    let cases = [
+        (Call::Status(t), Answer::NotBegun),
+        (Call::Begin(t, Timeout::Default), Answer::Fine),
+        (Call::Durable(t, e1, manager(rt), single), Answer::Fine),
+        (
+            Call::Volatile(t, e2, EnlistOption::Plain, None),
+            Answer::Fine,
+        ),
+        (Call::Commit(t), Answer::Fine),
+    ];
+    calls(rt, s, &cases);
+}
+
+/// Does the local acts, each of which is one entry alone.
+fn act(rt: &impl Abort, s: &mut Stage, wanted: &[Entry]) {
+    for want in wanted {
+        s.out.clear();
+        assert!(rt; s.half.has_act());
+        assert!(rt; s.half.act(&mut s.out));
+        assert!(rt; s.out.entries() == [*want].as_slice());
+    }
+}
+
+/// A reply that is due.
+fn reply(rt: &impl Abort, s: &mut Stage, e: EnlNo, r: Reply) {
+    s.out.clear();
+    assert!(rt; s.half.fits(e, r) && s.half.reply(e, r, &mut s.out));
 }
 
 /// Goes on until the commit is handed to e1.
-fn hand(rt: &impl Abort, half: &mut LocalHalf, out: &mut Outbox) {
-    let [e1, e2] = [1, 2].map(|n| enl(rt, n));
-    act(rt, half, out, Entry::Sealed);
-    act(rt, half, out, Entry::Asked(e2, Ask::Prepare));
-    assert!(rt; !half.has_act());
-    assert_eq!(rt; half.due(), Some((e2, Note::Prepare)));
-    let due = half.due_of(e2);
-    assert_eq!(rt; due, Some(Note::Prepare));
-    assert!(rt; half.may_be_due());
-    out.clear();
-    assert!(rt; half.reply(e2, Reply::Vote(Vote::Yes), out));
-    assert!(rt; !half.may_be_due());
-    act(rt, half, out, Entry::Handed(e1));
-    assert!(rt; half.may_be_due());
-    assert_eq!(rt; half.due(), Some((e1, Note::Hand)));
+fn hand(rt: &impl Abort, s: &mut Stage) {
+    let [e1, e2, _] = three(rt);
+    act(rt, s, &[Entry::Sealed, Entry::Asked(e2, Ask::Prepare)]);
+    assert!(rt; !s.half.has_act());
+    assert!(rt; s.half.due() == Some((e2, Note::Prepare)));
+    assert!(rt; s.half.due_of(e2) == Some(Note::Prepare));
+    assert!(rt; s.half.may_be_due());
+    reply(rt, s, e2, Reply::Vote(Vote::Yes));
+    assert!(rt; !s.half.may_be_due());
+    act(rt, s, &[Entry::Handed(e1)]);
+    assert!(rt; s.half.may_be_due());
+    assert!(rt; s.half.due() == Some((e1, Note::Hand)));
 }
 
-/// A half whose commit is handed to e1.
-fn handed(rt: &impl Abort, alloc: Global, out: &mut Outbox) -> Result<LocalHalf, AllocError> {
-    let mut half = LocalHalf::new(alloc, transaction(rt))?;
-    begin(rt, &mut half, out);
-    hand(rt, &mut half, out);
-    Ok(half)
+/// The enlistments stand once their calls were done.
+fn begins(rt: &impl Abort, s: &mut Stage) {
+    let [e1, e2, e3] = three(rt);
+    assert!(rt; !s.half.is_begun());
+    assert!(rt; s.half.rows().is_empty());
+    begin(rt, s);
+    assert!(rt; s.half.is_begun());
+    assert!(rt; s.half.rows().len() == 2);
+    assert!(rt; s.half.stands(e1) && s.half.stands(e2) && !s.half.stands(e3));
+}
+
+#[test]
+fn enlistments_stand_once_they_were_called(rt: HostRuntime) -> Result<(), Fail> {
+    let mut s = Stage::new(&rt, rt.alloc())?;
+    begins(&rt, &mut s);
+    Ok(())
+}
+
+/// Nothing is due, and no reply is taken.
+fn nothing_is_due(rt: &impl Abort, s: &mut Stage) {
+    let e1 = enl(rt, 1);
+    assert!(rt; s.half.due_of(e1).is_none());
+    assert!(rt; !s.half.may_be_due());
+    s.out.clear();
+    assert!(rt; s.half.fits(e1, Reply::Ack) && !s.half.reply(e1, Reply::Ack, &mut s.out));
+    assert!(rt; s.out.entries().is_empty());
 }
 
 #[test]
 fn no_reply_is_due_before_anything_was_asked(rt: HostRuntime) -> Result<(), Fail> {
-    let e1 = enl(&rt, 1);
-    let mut out = Outbox::with_room(rt.alloc())?;
-    let mut half = LocalHalf::new(rt.alloc(), transaction(&rt))?;
-    let due = half.due_of(e1);
-    assert_eq!(rt; due, None);
-    assert!(rt; !half.may_be_due());
-    assert!(rt; !half.reply(e1, Reply::Ack, &mut out));
-    assert!(rt; out.entries().is_empty());
+    let mut s = Stage::new(&rt, rt.alloc())?;
+    nothing_is_due(&rt, &mut s);
     Ok(())
+}
+
+/// The owner answers, and the volatile and the client are told.
+fn owner_decides(rt: &impl Abort, s: &mut Stage) {
+    let [e1, e2, _] = three(rt);
+    let told = [
+        Entry::Told(Party::Enl(e2), Outcome::Committed),
+        Entry::Told(Party::Client, Outcome::Committed),
+    ];
+    assert!(rt; s.half.due_of(e1) == Some(Note::Hand));
+    reply(rt, s, e1, Reply::Owner(Outcome::Committed));
+    act(rt, s, &told);
+    assert!(rt; s.half.told_client() == Some(Outcome::Committed));
+    s.out.clear();
+    assert!(rt; !s.half.act(&mut s.out));
+    assert!(rt; s.half.due().is_none());
 }
 
 #[test]
 fn the_owner_decides_and_the_volatile_is_told(rt: HostRuntime) -> Result<(), Fail> {
-    let [e1, e2] = [1, 2].map(|n| enl(&rt, n));
-    let mut out = Outbox::with_room(rt.alloc())?;
-    let mut half = handed(&rt, rt.alloc(), &mut out)?;
-    let due = half.due_of(e1);
-    assert_eq!(rt; due, Some(Note::Hand));
-    out.clear();
-    assert!(rt; half.reply(e1, Reply::Owner(Outcome::Committed), &mut out));
-    act(
-        &rt,
-        &mut half,
-        &mut out,
-        Entry::Told(Party::Enl(e2), Outcome::Committed),
-    );
-    act(
-        &rt,
-        &mut half,
-        &mut out,
-        Entry::Told(Party::Client, Outcome::Committed),
-    );
-    assert_eq!(rt; half.told_client(), Some(Outcome::Committed));
-    out.clear();
-    assert!(rt; !half.act(&mut out));
-    assert_eq!(rt; half.due(), None);
+    let mut s = Stage::new(&rt, rt.alloc())?;
+    begin(&rt, &mut s);
+    hand(&rt, &mut s);
+    owner_decides(&rt, &mut s);
     Ok(())
+}
+
+/// The owner is lost while the commit is handed to it.
+fn owner_is_lost(rt: &impl Abort, s: &mut Stage) {
+    let [e1, e2, _] = three(rt);
+    let lost = [Entry::Lost(e1), Entry::Decided(Outcome::InDoubt)];
+    let told = [
+        Entry::Told(Party::Enl(e2), Outcome::InDoubt),
+        Entry::Told(Party::Client, Outcome::InDoubt),
+    ];
+    assert!(rt; s.half.stands(e1));
+    assert!(rt; !s.half.is_gone(e1));
+    s.out.clear();
+    s.half.gone(e1, false, &mut s.out);
+    assert!(rt; s.out.entries() == lost.as_slice());
+    assert!(rt; s.half.is_gone(e1));
+    act(rt, s, &told);
+    assert!(rt; !s.half.has_act());
 }
 
 #[test]
 fn a_lost_owner_leaves_it_in_doubt(rt: HostRuntime) -> Result<(), Fail> {
-    let [e1, e2] = [1, 2].map(|n| enl(&rt, n));
-    let mut out = Outbox::with_room(rt.alloc())?;
-    let mut half = handed(&rt, rt.alloc(), &mut out)?;
-    let stands = half.stands(e1);
-    let is_gone = half.is_gone(e1);
-    assert!(rt; stands);
-    assert!(rt; !is_gone);
-    out.clear();
-    half.gone(e1, false, &mut out);
-    assert_eq!(rt;
-        out.entries(),
-        [Entry::Lost(e1), Entry::Decided(Outcome::InDoubt)].as_slice()
-    );
-    assert!(rt; half.is_gone(e1));
-    act(
-        &rt,
-        &mut half,
-        &mut out,
-        Entry::Told(Party::Enl(e2), Outcome::InDoubt),
-    );
-    act(
-        &rt,
-        &mut half,
-        &mut out,
-        Entry::Told(Party::Client, Outcome::InDoubt),
-    );
-    assert!(rt; !half.has_act());
+    let mut s = Stage::new(&rt, rt.alloc())?;
+    begin(&rt, &mut s);
+    hand(&rt, &mut s);
+    owner_is_lost(&rt, &mut s);
     Ok(())
+}
+
+/// Calls before it is begun and after it, and a rollback.
+fn rolls_back(rt: &impl Abort, s: &mut Stage) {
+    let t = transaction(rt);
+    let c1 = clone_no(rt);
+    let cases = [
+        (Call::Complete(c1), Answer::NotBegun),
+        (Call::Begin(t, Timeout::Default), Answer::Fine),
+        (Call::Complete(c1), Answer::NoSuch),
+        (Call::Tick(t, 59_999), Answer::Fine),
+        (Call::Rollback(t), Answer::Fine),
+    ];
+    assert!(rt; s.half.transaction() == t);
+    calls(rt, s, &cases);
+    act(rt, s, &[Entry::Told(Party::Client, Outcome::Aborted)]);
+    let aborted = call(rt, s, &Call::Status(t));
+    assert!(rt; aborted == Answer::OutcomeIs(Outcome::Aborted));
 }
 
 #[test]
 fn a_rollback_aborts(rt: HostRuntime) -> Result<(), Fail> {
-    let t = transaction(&rt);
-    let c1 = CloneNo::new(1).expect(&rt, "no such number");
-    let mut out = Outbox::with_room(rt.alloc())?;
-    let mut half = LocalHalf::new(rt.alloc(), t)?;
-    assert_eq!(rt; half.transaction(), t);
-    assert_eq!(rt;
-        call(&rt, &mut half, &Call::Complete(c1), &mut out),
-        Answer::NotBegun
-    );
-    assert_eq!(rt;
-        call(&rt, &mut half, &Call::Begin(t, Timeout::Default), &mut out),
-        Answer::Fine
-    );
-    assert_eq!(rt;
-        call(&rt, &mut half, &Call::Complete(c1), &mut out),
-        Answer::NoSuch
-    );
-    assert_eq!(rt;
-        call(&rt, &mut half, &Call::Tick(t, 59_999), &mut out),
-        Answer::Fine
-    );
-    assert_eq!(rt;
-        call(&rt, &mut half, &Call::Rollback(t), &mut out),
-        Answer::Fine
-    );
-    act(
-        &rt,
-        &mut half,
-        &mut out,
-        Entry::Told(Party::Client, Outcome::Aborted),
-    );
-    assert_eq!(rt;
-        call(&rt, &mut half, &Call::Status(t), &mut out),
-        Answer::OutcomeIs(Outcome::Aborted)
-    );
+    let mut s = Stage::new(&rt, rt.alloc())?;
+    rolls_back(&rt, &mut s);
     Ok(())
 }
 
@@ -238,14 +262,9 @@ fn drive(half: &mut LocalHalf, out: &mut Outbox, kept: &mut Vec<Entry>) -> Resul
     Ok(())
 }
 
-#[test]
-fn a_half_is_driven_until_nothing_is_left(rt: HostRuntime) -> Result<(), Fail> {
-    let [e1, e2] = [1, 2].map(|n| enl(&rt, n));
-    let mut out = Outbox::with_room(rt.alloc())?;
-    let mut half = LocalHalf::new(rt.alloc(), transaction(&rt))?;
-    let mut kept = Vec::new(rt.alloc());
-    begin(&rt, &mut half, &mut out);
-    drive(&mut half, &mut out, &mut kept)?;
+/// What the drive of a commit writes: e2 votes, and e1 decides.
+fn driven(rt: &impl Abort, s: &Stage, kept: &[Entry]) {
+    let [e1, e2, _] = three(rt);
     let want = [
         Entry::Sealed,
         Entry::Asked(e2, Ask::Prepare),
@@ -256,56 +275,72 @@ fn a_half_is_driven_until_nothing_is_left(rt: HostRuntime) -> Result<(), Fail> {
         Entry::Told(Party::Enl(e2), Outcome::Committed),
         Entry::Told(Party::Client, Outcome::Committed),
     ];
-    assert_eq!(rt; kept.as_slice(), want.as_slice());
-    assert!(rt; !half.has_act());
-    assert_eq!(rt; half.due(), None);
+    assert!(rt; kept == want.as_slice());
+    assert!(rt; !s.half.has_act());
+    assert!(rt; s.half.due().is_none());
+}
+
+#[test]
+fn a_half_is_driven_until_nothing_is_left(rt: HostRuntime) -> Result<(), Fail> {
+    let mut s = Stage::new(&rt, rt.alloc())?;
+    let mut kept = Vec::new(rt.alloc());
+    begin(&rt, &mut s);
+    drive(&mut s.half, &mut s.out, &mut kept)?;
+    driven(&rt, &s, kept.as_slice());
     Ok(())
 }
 
 /// Which calls are answered by the half alone, and which make nothing that is there already: those of a transaction with e1 and e2.
 fn tell_calls_apart(rt: &impl Abort, half: &LocalHalf) {
     let t = transaction(rt);
-    let [e1, e2, e3] = [1, 2, 3].map(|n| enl(rt, n));
-    let c1 = CloneNo::new(1).expect(rt, "no such number");
+    let [e1, e2, e3] = three(rt);
     let plain = EnlistOption::Plain;
     for (call, own, new) in [
         (Call::Volatile(t, e2, plain, None), true, false),
         (Call::Volatile(t, e3, plain, None), true, true),
-        (Call::Clone(t, c1, CloneKind::Block), true, true),
+        (Call::Clone(t, clone_no(rt), CloneKind::Block), true, true),
         (Call::Status(t), true, true),
         (Call::Await(t), false, true),
         (Call::Gone(e1), false, true),
     ] {
-        assert_eq!(rt; LocalHalf::is_its_own(&call), own);
-        assert_eq!(rt; half.is_free(1, &call), new);
+        assert!(rt; LocalHalf::is_its_own(&call) == own);
+        assert!(rt; half.is_free(1, &call) == new);
     }
+}
+
+/// The conditions before it is begun and after it.
+fn test_conditions(rt: &impl Abort, s: &mut Stage) {
+    assert!(rt; s.half.if_begun(Answer::Fine) == Answer::NotBegun);
+    begin(rt, s);
+    assert!(rt; s.half.if_begun(Answer::Fine) == Answer::Fine);
+    tell_calls_apart(rt, &s.half);
+    assert!(rt; s.half.is_unpromoted());
 }
 
 #[test]
 fn the_conditions_of_calls_can_be_tested(rt: HostRuntime) -> Result<(), Fail> {
-    let mut out = Outbox::with_room(rt.alloc())?;
-    let mut half = LocalHalf::new(rt.alloc(), transaction(&rt))?;
-    assert_eq!(rt; half.if_begun(Answer::Fine), Answer::NotBegun);
-    begin(&rt, &mut half, &mut out);
-    assert_eq!(rt; half.if_begun(Answer::Fine), Answer::Fine);
-    tell_calls_apart(&rt, &half);
-    assert!(rt; half.is_unpromoted());
+    let mut s = Stage::new(&rt, rt.alloc())?;
+    test_conditions(&rt, &mut s);
     Ok(())
+}
+
+/// The owner is lost before the commit is handed to it.
+fn owner_aborts(rt: &impl Abort, s: &mut Stage) {
+    let [e1, _, e3] = three(rt);
+    assert!(rt; s.half.gone_answer(e3) == Answer::NoSuch);
+    assert!(rt; s.half.gone_answer(e1) == Answer::Fine);
+    s.out.clear();
+    s.half.gone(e1, false, &mut s.out);
+    assert!(rt; s.out.room() == 62);
+    assert!(rt; s.half.gone_answer(e1) == Answer::Already);
+    assert!(rt; s.half.decided() == Some(Outcome::Aborted));
 }
 
 #[test]
 fn an_owner_that_is_lost_aborts(rt: HostRuntime) -> Result<(), Fail> {
-    let [e1, e3] = [1, 3].map(|n| enl(&rt, n));
-    let mut out = Outbox::with_room(rt.alloc())?;
-    let mut half = LocalHalf::new(rt.alloc(), transaction(&rt))?;
-    begin(&rt, &mut half, &mut out);
-    assert_eq!(rt; half.gone_answer(e3), Answer::NoSuch);
-    assert_eq!(rt; half.gone_answer(e1), Answer::Fine);
-    out.clear();
-    half.gone(e1, false, &mut out);
-    assert_eq!(rt; out.room(), 62);
-    assert_eq!(rt; half.gone_answer(e1), Answer::Already);
-    assert_eq!(rt; half.decided(), Some(Outcome::Aborted));
+    let mut s = Stage::new(&rt, rt.alloc())?;
+    begin(&rt, &mut s);
+    owner_aborts(&rt, &mut s);
     Ok(())
 }
 
@@ -316,38 +351,18 @@ const ID: u128 = 18_446_744_073_709_551_617;
 type Taken<'a> = (Conn, Message, &'a [Entry]);
 
 /// Takes each message in turn, and compares what is written.
-fn takes(rt: &impl Abort, half: &mut LocalHalf, out: &mut Outbox, messages: &[Taken]) {
+fn takes(rt: &impl Abort, s: &mut Stage, messages: &[Taken]) {
     for (at, (c, m, want)) in messages.iter().enumerate() {
-        out.clear();
-        let fits = half.got(*c, *m, out);
+        s.out.clear();
+        let fits = s.half.got(*c, *m, &mut s.out);
         assert!(rt; fits, "at {at}");
-        assert_eq!(rt; out.entries(), *want, "at {at}");
+        assert!(rt; s.out.entries() == *want, "at {at}");
     }
 }
 
-/// The coordinator has begun it, and the half becomes its voter.
-fn begun(rt: &impl Abort, half: &mut LocalHalf, out: &mut Outbox) {
-    let voter = [Entry::Sent(Conn::Voter, Dir::Up, Message::VoterVoter(ID))];
-    takes(
-        rt,
-        half,
-        out,
-        &[(Conn::Begin, Message::BeginBegun(ID), &voter)],
-    );
-}
-
-/// A half of which these calls of line 1 were made, each where it may be, with these answers.
-fn called(
-    rt: &impl Abort,
-    alloc: Global,
-    out: &mut Outbox,
-    calls: &[(Call, Answer)],
-) -> Result<LocalHalf, AllocError> {
-    let mut half = LocalHalf::new(alloc, transaction(rt))?;
-    for (c, answer) in calls {
-        assert_eq!(rt; call(rt, &mut half, c, out), *answer);
-    }
-    Ok(half)
+/// The entry by which the half becomes a voter.
+fn voter() -> Entry {
+    Entry::Sent(Conn::Voter, Dir::Up, Message::VoterVoter(ID))
 }
 
 /// The message by which e1 or e2, whose manager is r1, is enlisted.
@@ -355,82 +370,113 @@ fn enlist(rt: &impl Abort, n: u32) -> Entry {
     let enl = enl(rt, n);
     let info = Info {
         id: ID,
-        rm: RmNo::new(1).expect(rt, "no such number"),
+        rm: manager(rt),
         enl,
     };
     Entry::Sent(Conn::Enl(enl), Dir::Up, Message::EnlistEnlist(info))
 }
 
-#[test]
-fn a_marshal_call_gets_the_identifier(rt: HostRuntime) -> Result<(), Fail> {
-    let t = transaction(&rt);
-    let a = actor(&rt);
-    let mut out = Outbox::with_room(rt.alloc())?;
-    let calls = [
-        (Call::Begin(t, Timeout::Default), Answer::Fine),
-        (Call::Marshal(t), Answer::Wait),
-    ];
-    let mut half = called(&rt, rt.alloc(), &mut out, &calls)?;
+/// A client asks for the identifier of a transaction that was begun.
+fn marshal(rt: &impl Abort, s: &mut Stage) {
+    let t = transaction(rt);
     let want = [
-        Entry::Called(1, a, Answer::Wait),
+        Entry::Called(1, actor(rt), Answer::Wait),
         Entry::Promoting(Cause::Marshal),
         Entry::Sent(Conn::Begin, Dir::Up, Message::BeginBegin),
     ];
-    assert_eq!(rt; out.entries(), want.as_slice());
     let sent = [(Conn::Begin, Dir::Up, Message::BeginBegin)];
-    assert_eq!(rt; out.sends(), sent.as_slice());
-    assert!(rt; !half.is_unpromoted());
-    assert!(rt; !half.is_free(1, &Call::Status(t)));
+    let cases = [
+        (Call::Begin(t, Timeout::Default), Answer::Fine),
+        (Call::Marshal(t), Answer::Wait),
+    ];
+    calls(rt, s, &cases);
+    assert!(rt; s.out.entries() == want.as_slice());
+    assert!(rt; s.out.sends() == sent.as_slice());
+    assert!(rt; !s.half.is_unpromoted());
+    assert!(rt; !s.half.is_free(1, &Call::Status(t)));
+}
+
+/// It gets the identifier once the coordinator took the half as a voter.
+fn identified(rt: &impl Abort, s: &mut Stage) {
     let over = [
         Entry::Promoted(ID, Cause::Marshal),
         Entry::Answered(1, Answer::Id(ID)),
     ];
-    begun(&rt, &mut half, &mut out);
-    let messages = [(Conn::Voter, Message::VoterCreated, over.as_slice())];
-    takes(&rt, &mut half, &mut out, &messages);
-    let id = call(&rt, &mut half, &Call::Marshal(t), &mut out);
-    assert_eq!(rt; id, Answer::Id(ID));
-    out.clear();
-    half.down(Conn::Begin, &mut out);
+    let messages: [Taken; 2] = [
+        (Conn::Begin, Message::BeginBegun(ID), &[voter()]),
+        (Conn::Voter, Message::VoterCreated, &over),
+    ];
+    takes(rt, s, &messages);
+    let id = call(rt, s, &Call::Marshal(transaction(rt)));
+    assert!(rt; id == Answer::Id(ID));
+}
+
+/// The loss of its first connection aborts it.
+fn begin_is_lost(rt: &impl Abort, s: &mut Stage) {
     let lost = [
         Entry::Decided(Outcome::Aborted),
         Entry::Sent(Conn::Voter, Dir::Up, Message::VoterNo),
     ];
-    assert_eq!(rt; out.entries(), lost.as_slice());
-    Ok(())
+    s.out.clear();
+    s.half.down(Conn::Begin, &mut s.out);
+    assert!(rt; s.out.entries() == lost.as_slice());
 }
 
 #[test]
-fn a_second_durable_waits_for_its_place(rt: HostRuntime) -> Result<(), Fail> {
-    let t = transaction(&rt);
-    let [e1, e2] = [1, 2].map(|n| enl(&rt, n));
-    let rm = RmNo::new(1).expect(&rt, "no such number");
+fn a_marshal_call_gets_the_identifier(rt: HostRuntime) -> Result<(), Fail> {
+    let mut s = Stage::new(&rt, rt.alloc())?;
+    marshal(&rt, &mut s);
+    identified(&rt, &mut s);
+    begin_is_lost(&rt, &mut s);
+    Ok(())
+}
+
+/// A second durable comes, and waits.
+fn second_durable(rt: &impl Abort, s: &mut Stage) {
+    let t = transaction(rt);
+    let [e1, e2, _] = three(rt);
+    let rm = manager(rt);
     let single = Support::SinglePhase(None, None);
-    let mut out = Outbox::with_room(rt.alloc())?;
-    let calls = [
+    let cases = [
         (Call::Begin(t, Timeout::Default), Answer::Fine),
         (Call::Durable(t, e1, rm, single), Answer::Fine),
         (Call::Durable(t, e2, rm, single), Answer::Wait),
     ];
-    let mut half = called(&rt, rt.alloc(), &mut out, &calls)?;
-    begun(&rt, &mut half, &mut out);
-    let first = [enlist(&rt, 1)];
-    let over = [Entry::Promoted(ID, Cause::Second), enlist(&rt, 2)];
+    calls(rt, s, &cases);
+}
+
+/// It gets its place once the first has its own, and hears the commit there.
+fn second_is_placed(rt: &impl Abort, s: &mut Stage) {
+    let [e1, e2, _] = three(rt);
+    let over = [Entry::Promoted(ID, Cause::Second), enlist(rt, 2)];
     let placed = [
         Entry::Enlisted(e2, Class::DurableSingle),
         Entry::Answered(1, Answer::Fine),
     ];
-    let messages = [
-        (Conn::Voter, Message::VoterCreated, first.as_slice()),
-        (Conn::Enl(e1), Message::EnlistEnlisted, over.as_slice()),
-        (Conn::Enl(e2), Message::EnlistEnlisted, placed.as_slice()),
+    let messages: [Taken; 4] = [
+        (Conn::Begin, Message::BeginBegun(ID), &[voter()]),
+        (Conn::Voter, Message::VoterCreated, &[enlist(rt, 1)]),
+        (Conn::Enl(e1), Message::EnlistEnlisted, &over),
+        (Conn::Enl(e2), Message::EnlistEnlisted, &placed),
     ];
-    takes(&rt, &mut half, &mut out, &messages);
-    assert!(rt; half.is_accepted(e2));
+    takes(rt, s, &messages);
+}
+
+/// It is told the commit.
+fn second_is_told(rt: &impl Abort, s: &mut Stage) {
+    let e2 = enl(rt, 2);
     let told = [Entry::Told(Party::Enl(e2), Outcome::Committed)];
-    let commit = [(Conn::Enl(e2), Message::EnlistCommit, told.as_slice())];
-    takes(&rt, &mut half, &mut out, &commit);
-    assert!(rt; half.may_be_due());
-    assert_eq!(rt; half.due(), Some((e2, Note::Commit)));
+    assert!(rt; s.half.is_accepted(e2));
+    takes(rt, s, &[(Conn::Enl(e2), Message::EnlistCommit, &told)]);
+    assert!(rt; s.half.may_be_due());
+    assert!(rt; s.half.due() == Some((e2, Note::Commit)));
+}
+
+#[test]
+fn a_second_durable_waits_for_its_place(rt: HostRuntime) -> Result<(), Fail> {
+    let mut s = Stage::new(&rt, rt.alloc())?;
+    second_durable(&rt, &mut s);
+    second_is_placed(&rt, &mut s);
+    second_is_told(&rt, &mut s);
     Ok(())
 }

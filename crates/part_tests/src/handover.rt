@@ -10,7 +10,7 @@ fn enl(rt: &impl Abort, n: u32) -> EnlNo {
 
 #[test]
 fn it_is_over_once_its_enlistment_is_enlisted(rt: HostRuntime) {
-    let [e1, e2] = [1, 2].map(|n| enl(&rt, n));
+    let (e1, e2) = (enl(&rt, 1), enl(&rt, 2));
     let steps = [
         (
             ProxyNews::Created,
@@ -28,12 +28,12 @@ fn it_is_over_once_its_enlistment_is_enlisted(rt: HostRuntime) {
         (ProxyNews::Enlisted(e1), HandoverAct::Nothing, Right::Local),
     ];
     let mut h = Handover::new();
-    assert_eq!(rt; h.got(&ProxyNews::Begun(1)), HandoverAct::Nothing);
-    assert_eq!(rt; h.place(false, false, false), Right::Local);
+    assert!(rt; h.got(&ProxyNews::Begun(1)) == HandoverAct::Nothing);
+    assert!(rt; h.place(false, false, false) == Right::Local);
     h.start(Cause::Second, Some(e1));
     for (news, act, right) in steps {
-        assert_eq!(rt; h.got(&news), act, "at {news:?}");
-        assert_eq!(rt; h.place(false, false, false), right, "after {news:?}");
+        assert!(rt; h.got(&news) == act, "at {news:?}");
+        assert!(rt; h.place(false, false, false) == right, "after {news:?}");
     }
     assert!(rt; h.is_over());
 }
@@ -42,8 +42,8 @@ fn it_is_over_once_its_enlistment_is_enlisted(rt: HostRuntime) {
 fn one_that_failed_does_nothing_more(rt: HostRuntime) {
     let mut h = Handover::new();
     h.start(Cause::Marshal, None);
-    assert_eq!(rt; h.got(&ProxyNews::Begun(1)), HandoverAct::SendVoter);
+    assert!(rt; h.got(&ProxyNews::Begun(1)) == HandoverAct::SendVoter);
     h.fail();
-    assert_eq!(rt; h.got(&ProxyNews::Created), HandoverAct::Nothing);
+    assert!(rt; h.got(&ProxyNews::Created) == HandoverAct::Nothing);
     assert!(rt; h.has_failed() && !h.is_over() && !h.is_under_way());
 }

@@ -2,6 +2,7 @@
 use dtx_values::{Class, EnlNo};
 use enlist_table::EnlistTable;
 use promotable_enlist::try_own;
+use std::process::Abort;
 use std::test::Fail;
 
 /// A class that stands, whether the transaction is promoted or promoting, and whether a promotable enlistment may own it.
@@ -15,15 +16,20 @@ const CASES: [(Option<Class>, bool, bool); 7] = [
     (Some(Class::Promotable), false, false),
 ];
 
+/// Whether one may own the transaction, where one of this class stands.
+fn owns(rt: &impl Abort, t: &mut EnlistTable, class: Option<Class>, promoted: bool) -> bool {
+    let e = EnlNo::new(1).expect(rt, "no such number");
+    if let Some(c) = class {
+        assert!(rt; t.add(e, c) == Ok(()));
+    }
+    try_own(t, promoted)
+}
+
 #[test]
 fn one_may_own_beside_volatiles_alone(rt: HostRuntime) -> Result<(), Fail> {
-    let e = EnlNo::new(1).expect(&rt, "no such number");
     for (class, promoted, own) in CASES {
         let mut t = EnlistTable::new(rt.alloc())?;
-        if let Some(c) = class {
-            assert_eq!(rt; t.add(e, c), Ok(()));
-        }
-        assert_eq!(rt; try_own(&t, promoted), own);
+        assert!(rt; owns(&rt, &mut t, class, promoted) == own);
     }
     Ok(())
 }

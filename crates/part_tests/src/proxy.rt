@@ -69,16 +69,17 @@ fn a_run(rt: HostRuntime) {
     for (step, abort_on) in RUN {
         match step {
             Step::Sent(c, m) => send(&rt, &mut p, c, &m),
-            Step::Got(c, m, news) => assert_eq!(rt; p.got(c, m), news, "at {step:?}"),
-            Step::Down(c, news) => assert_eq!(rt; p.down(c), news, "at {step:?}"),
+            Step::Got(c, m, news) => assert!(rt; p.got(c, m) == news, "at {step:?}"),
+            Step::Down(c, news) => assert!(rt; p.down(c) == news, "at {step:?}"),
         }
-        assert_eq!(rt; p.may_send_abort(), abort_on, "after {step:?}");
+        assert!(rt; p.may_send_abort() == abort_on, "after {step:?}");
     }
 }
 
 #[test]
 fn an_opening_forgets_the_one_before(rt: HostRuntime) {
-    let [e1, e2] = [1, 2].map(|n| EnlNo::new(n).expect(&rt, "no such number"));
+    let e1 = EnlNo::new(1).expect(&rt, "no such number");
+    let e2 = EnlNo::new(2).expect(&rt, "no such number");
     let info = Info {
         id: 7,
         rm: RmNo::new(1).expect(&rt, "no such number"),
@@ -94,11 +95,11 @@ fn an_opening_forgets_the_one_before(rt: HostRuntime) {
     send(&rt, &mut p, Conn::Enl(e2), &Message::EnlistEnlist(info));
     send(&rt, &mut p, Conn::Enl(e1), &Message::EnlistEnlist(info));
     let order = [Conn::Enl(e1), Conn::Enl(e2), Conn::Again(e1)];
-    assert_eq!(rt; p.ends().len(), order.len());
+    assert!(rt; p.ends().len() == order.len());
     for (n, c) in p.ends().iter().zip(order) {
-        assert_eq!(rt; n.connection, c);
+        assert!(rt; n.connection == c);
     }
-    assert_eq!(rt; p.got(Conn::Enl(e1), Message::VoterAsk), ProxyNews::Unfit);
+    assert!(rt; p.got(Conn::Enl(e1), Message::VoterAsk) == ProxyNews::Unfit);
     assert!(rt; p.saw_end(Conn::Enl(e1)) && p.knows(Conn::Enl(e2)));
     send(&rt, &mut p, Conn::Enl(e1), &Message::EnlistNo);
     assert!(rt; p.was_sent(Conn::Enl(e1), &Message::EnlistNo));

@@ -29,66 +29,129 @@ const LIMITS: [(u32, Class, Class, Result<(), AddRefusal>); 7] = [
     (16, Class::DurableTwo, Class::One, Ok(())),
 ];
 
+/// Adds so many of the class and then one more, and compares the answers and what stands.
+fn limited(
+    rt: &impl Abort,
+    t: &mut EnlistTable,
+    count: u32,
+    class: Class,
+    next: Class,
+    want: Result<(), AddRefusal>,
+) {
+    for n in 0..count {
+        assert!(rt; t.add(enl(rt, n + 1), class).is_ok(), "at {n}");
+    }
+    let more = enl(rt, 100);
+    let stood = t.rows().len();
+    assert!(rt; t.add(more, next) == want, "behind {count}");
+    let stands = stood + usize::from(want.is_ok());
+    assert!(rt; t.rows().len() == stands, "behind {count}");
+    assert!(rt;
+        t.state_of(more).is_some() == want.is_ok(),
+        "behind {count}"
+    );
+}
+
 #[test]
 fn so_many_stand_at_most(rt: HostRuntime) -> Result<(), Fail> {
     for (count, class, next, want) in LIMITS {
         let mut t = EnlistTable::new(rt.alloc())?;
-        for n in 0..count {
-            assert_eq!(rt; t.add(enl(&rt, n + 1), class), Ok(()), "at {n}");
-        }
-        let stood = t.rows().len();
-        assert_eq!(rt; t.add(enl(&rt, 100), next), want, "behind {count}");
-        let more = usize::from(want.is_ok());
-        assert_eq!(rt; t.rows().len(), stood + more, "behind {count}");
-        assert_eq!(rt;
-            t.state_of(enl(&rt, 100)).is_some(),
-            want.is_ok(),
-            "behind {count}"
-        );
+        limited(&rt, &mut t, count, class, next, want);
     }
     Ok(())
 }
 
-#[test]
-fn rows_keep_their_order_and_marks(rt: HostRuntime) -> Result<(), Fail> {
-    let [e1, e2, e3, e9] = [1, 2, 3, 9].map(|n| enl(&rt, n));
-    let mut t = EnlistTable::new(rt.alloc())?;
-    assert_eq!(rt; t.add(e3, Class::Zero), Ok(()));
-    assert_eq!(rt; t.add(e1, Class::One), Ok(()));
-    assert_eq!(rt; t.add(e1, Class::Zero), Err(AddRefusal::Twice(e1)));
-    assert_eq!(rt; t.set_asked(e9), Err(TableRefusal::NoSuch(e9)));
-    assert_eq!(rt; t.set_asked(e3), Ok(()));
-    assert_eq!(rt; t.set_asked(e3), Err(TableRefusal::AlreadyThere(e3)));
-    assert_eq!(rt; t.add(e2, Class::Zero), Ok(()));
-    assert_eq!(rt; t.set_asked(e2), Ok(()));
-    assert!(rt; t.voted_before(0));
-    assert!(rt; !t.voted_before(1));
-    assert_eq!(rt; t.set_vote(e9, Vote::Yes), Err(TableRefusal::NoSuch(e9)));
-    assert_eq!(rt; t.set_vote(e3, Vote::No), Ok(()));
-    assert_eq!(rt;
-        t.set_vote(e3, Vote::Yes),
-        Err(TableRefusal::AlreadyThere(e3))
-    );
-    assert_eq!(rt; t.voters_left(), 2);
-    assert!(rt; t.voted_before(1));
-    assert!(rt; !t.voted_before(2));
-    let wanted = [
-        (e1, Class::One, 0, None, None),
-        (e2, Class::Zero, 1, Some(1), None),
-        (e3, Class::Zero, 0, Some(0), Some(Vote::No)),
-    ];
-    assert_eq!(rt; t.rows().len(), wanted.len());
-    for ((e, class, added, asked, vote), row) in wanted.iter().zip(t.rows()) {
+/// What is done to the table with an enlistment, and whether it is refused.
+#[derive(Clone, Copy)]
+enum Step {
+    Add(u32, Class),
+    AddTwice(u32, Class),
+    Ask(u32),
+    AskNone(u32),
+    AskTwice(u32),
+    Vote(u32, Vote),
+    VoteNone(u32, Vote),
+    VoteTwice(u32, Vote),
+    Before(u8, bool),
+    VotersLeft(u8),
+}
+
+const STEPS: [Step; 16] = [
+    Step::Add(3, Class::Zero),
+    Step::Add(1, Class::One),
+    Step::AddTwice(1, Class::Zero),
+    Step::AskNone(9),
+    Step::Ask(3),
+    Step::AskTwice(3),
+    Step::Add(2, Class::Zero),
+    Step::Ask(2),
+    Step::Before(0, true),
+    Step::Before(1, false),
+    Step::VoteNone(9, Vote::Yes),
+    Step::Vote(3, Vote::No),
+    Step::VoteTwice(3, Vote::Yes),
+    Step::VotersLeft(2),
+    Step::Before(1, true),
+    Step::Before(2, false),
+];
+
+/// Whether a step is answered as it says.
+fn goes(rt: &impl Abort, t: &mut EnlistTable, step: Step) -> bool {
+    match step {
+        Step::Add(n, c) => t.add(enl(rt, n), c) == Ok(()),
+        Step::AddTwice(n, c) => t.add(enl(rt, n), c) == Err(AddRefusal::Twice(enl(rt, n))),
+        Step::Ask(n) => t.set_asked(enl(rt, n)) == Ok(()),
+        Step::AskNone(n) => t.set_asked(enl(rt, n)) == Err(TableRefusal::NoSuch(enl(rt, n))),
+        Step::AskTwice(n) => {
+            t.set_asked(enl(rt, n)) == Err(TableRefusal::AlreadyThere(enl(rt, n)))
+        }
+        Step::Vote(n, v) => t.set_vote(enl(rt, n), v) == Ok(()),
+        Step::VoteNone(n, v) => {
+            t.set_vote(enl(rt, n), v) == Err(TableRefusal::NoSuch(enl(rt, n)))
+        }
+        Step::VoteTwice(n, v) => {
+            t.set_vote(enl(rt, n), v) == Err(TableRefusal::AlreadyThere(enl(rt, n)))
+        }
+        Step::Before(k, is) => t.voted_before(k) == is,
+        Step::VotersLeft(many) => t.voters_left() == many,
+    }
+}
+
+/// Does the steps.
+fn all_go(rt: &impl Abort, t: &mut EnlistTable) {
+    for (at, step) in STEPS.iter().enumerate() {
+        assert!(rt; goes(rt, t, *step), "at step {at}");
+    }
+}
+
+/// The rows that stand then.
+const ROWS: [(u32, Class, u8, Option<u8>, Option<Vote>); 3] = [
+    (1, Class::One, 0, None, None),
+    (2, Class::Zero, 1, Some(1), None),
+    (3, Class::Zero, 0, Some(0), Some(Vote::No)),
+];
+
+/// The rows of a table, in order, and each by its number.
+fn stand(rt: &impl Abort, t: &EnlistTable) {
+    assert!(rt; t.rows().len() == ROWS.len());
+    for ((n, class, added, asked, vote), row) in ROWS.iter().zip(t.rows()) {
         let want = Row {
-            number: *e,
+            number: enl(rt, *n),
             class: *class,
             added: *added,
             asked: *asked,
             vote: *vote,
         };
-        assert_eq!(rt; *row, want);
-        assert_eq!(rt; t.state_of(*e), Some(want));
+        assert!(rt; *row == want);
+        assert!(rt; t.state_of(enl(rt, *n)) == Some(want));
     }
-    assert_eq!(rt; t.state_of(e9), None);
+    assert!(rt; t.state_of(enl(rt, 9)).is_none());
+}
+
+#[test]
+fn rows_keep_their_order_and_marks(rt: HostRuntime) -> Result<(), Fail> {
+    let mut t = EnlistTable::new(rt.alloc())?;
+    all_go(&rt, &mut t);
+    stand(&rt, &t);
     Ok(())
 }

@@ -153,7 +153,7 @@ fn judges_histories(rt: HostRuntime) -> Result<(), Fail> {
         ),
     ];
     for (h, want) in cases {
-        assert_eq!(rt; judge(h), want);
+        assert!(rt; judge(h) == want);
     }
     Ok(())
 }

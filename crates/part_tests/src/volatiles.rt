@@ -9,34 +9,64 @@ fn enl(rt: &impl Abort, n: u32) -> EnlNo {
     EnlNo::new(n).expect(rt, "no such number")
 }
 
+/// What is done with an enlistment, or whom a wave asks next.
+#[derive(Clone, Copy)]
+enum Step {
+    Add(u32, Class),
+    Ask(u32),
+    Vote(u32, Vote, bool),
+    NotAsked(u32, Vote),
+    Next(bool, Option<u32>),
+}
+
+const STEPS: [Step; 18] = [
+    Step::Next(true, None),
+    Step::Add(2, Class::Zero),
+    Step::Add(3, Class::Zero),
+    Step::Add(4, Class::One),
+    Step::Next(true, Some(2)),
+    Step::Next(false, Some(4)),
+    Step::NotAsked(2, Vote::Yes),
+    Step::Ask(2),
+    Step::Add(1, Class::Zero),
+    Step::Next(true, Some(3)),
+    Step::Ask(3),
+    Step::Next(true, None),
+    Step::Next(false, Some(4)),
+    Step::Vote(3, Vote::Done, true),
+    Step::Next(true, None),
+    Step::Vote(2, Vote::Yes, true),
+    Step::Vote(2, Vote::No, false),
+    Step::Next(true, Some(1)),
+];
+
+/// Whether a step is answered as it says.
+fn goes(rt: &impl Abort, t: &mut EnlistTable, step: Step) -> bool {
+    match step {
+        Step::Add(n, c) => t.add(enl(rt, n), c) == Ok(()),
+        Step::Ask(n) => t.set_asked(enl(rt, n)) == Ok(()),
+        Step::Vote(n, v, true) => take_vote(t, enl(rt, n), v) == Ok(()),
+        Step::Vote(n, v, false) => {
+            take_vote(t, enl(rt, n), v) == Err(VoteRefusal::AlreadyVoted(enl(rt, n)))
+        }
+        Step::NotAsked(n, v) => {
+            take_vote(t, enl(rt, n), v) == Err(VoteRefusal::NotAsked(enl(rt, n)))
+        }
+        Step::Next(zero, n) => next_ask(t, zero).map(|e| e.get()) == n,
+    }
+}
+
+/// Does the steps.
+fn all_go(rt: &impl Abort, t: &mut EnlistTable) {
+    for (at, step) in STEPS.iter().enumerate() {
+        assert!(rt; goes(rt, t, *step), "at step {at}");
+    }
+}
+
 #[test]
 fn one_added_while_a_wave_prepares_waits(rt: HostRuntime) -> Result<(), Fail> {
-    let [e1, e2, e3, e4] = [1, 2, 3, 4].map(|n| enl(&rt, n));
     let mut t = EnlistTable::new(rt.alloc())?;
-    assert_eq!(rt; next_ask(&t, true), None);
-    assert_eq!(rt; t.add(e2, Class::Zero), Ok(()));
-    assert_eq!(rt; t.add(e3, Class::Zero), Ok(()));
-    assert_eq!(rt; t.add(e4, Class::One), Ok(()));
-    assert_eq!(rt; next_ask(&t, true), Some(e2));
-    assert_eq!(rt; next_ask(&t, false), Some(e4));
-    assert_eq!(rt;
-        take_vote(&mut t, e2, Vote::Yes),
-        Err(VoteRefusal::NotAsked(e2))
-    );
-    assert_eq!(rt; t.set_asked(e2), Ok(()));
-    assert_eq!(rt; t.add(e1, Class::Zero), Ok(()));
-    assert_eq!(rt; next_ask(&t, true), Some(e3));
-    assert_eq!(rt; t.set_asked(e3), Ok(()));
-    assert_eq!(rt; next_ask(&t, true), None);
-    assert_eq!(rt; next_ask(&t, false), Some(e4));
-    assert_eq!(rt; take_vote(&mut t, e3, Vote::Done), Ok(()));
-    assert_eq!(rt; next_ask(&t, true), None);
-    assert_eq!(rt; take_vote(&mut t, e2, Vote::Yes), Ok(()));
-    assert_eq!(rt;
-        take_vote(&mut t, e2, Vote::No),
-        Err(VoteRefusal::AlreadyVoted(e2))
-    );
-    assert_eq!(rt; next_ask(&t, true), Some(e1));
+    all_go(&rt, &mut t);
     Ok(())
 }
 
@@ -52,28 +82,25 @@ const HEARERS: [(Class, Option<Vote>, bool); 8] = [
     (Class::Promotable, Some(Vote::Yes), false),
 ];
 
+/// Asks an enlistment of this class, lets it vote, and compares whether it hears the outcome.
+fn heard(rt: &impl Abort, t: &mut EnlistTable, class: Class, vote: Option<Vote>, want: bool) {
+    let e1 = enl(rt, 1);
+    assert!(rt; goes(rt, t, Step::NotAsked(1, Vote::Yes)));
+    assert!(rt; goes(rt, t, Step::Add(1, class)));
+    assert!(rt; goes(rt, t, Step::Ask(1)));
+    if let Some(v) = vote {
+        assert!(rt; goes(rt, t, Step::Vote(1, v, true)));
+        assert!(rt; goes(rt, t, Step::Vote(1, v, false)));
+    }
+    assert!(rt; hears(t, e1) == want);
+    assert!(rt; !hears(t, enl(rt, 9)));
+}
+
 #[test]
 fn those_that_may_still_commit_hear_the_outcome(rt: HostRuntime) -> Result<(), Fail> {
-    let [e1, e9] = [1, 9].map(|n| enl(&rt, n));
-    for (at, (class, vote, want)) in HEARERS.iter().enumerate() {
+    for (class, vote, want) in HEARERS {
         let mut t = EnlistTable::new(rt.alloc())?;
-        assert_eq!(rt;
-            take_vote(&mut t, e1, Vote::Yes),
-            Err(VoteRefusal::NotAsked(e1)),
-            "at {at}"
-        );
-        assert_eq!(rt; t.add(e1, *class), Ok(()), "at {at}");
-        assert_eq!(rt; t.set_asked(e1), Ok(()), "at {at}");
-        if let Some(v) = *vote {
-            assert_eq!(rt; take_vote(&mut t, e1, v), Ok(()), "at {at}");
-            assert_eq!(rt;
-                take_vote(&mut t, e1, v),
-                Err(VoteRefusal::AlreadyVoted(e1)),
-                "at {at}"
-            );
-        }
-        assert_eq!(rt; hears(&t, e1), *want, "at {at}");
-        assert!(rt; !hears(&t, e9), "at {at}");
+        heard(&rt, &mut t, class, vote, want);
     }
     Ok(())
 }

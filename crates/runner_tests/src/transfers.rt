@@ -24,20 +24,23 @@ impl Sink for Stalled {
     }
 }
 
+/// Replays a script into the sink that takes no byte.
+fn written_to_it<R: Threads + Wait + Sync>(
+    rt: &R,
+    alloc: Global,
+    script: &str,
+) -> Result<Exit, AllocError> {
+    let mut source = SureSource::new(Vec::from_slice(alloc, script.as_bytes())?);
+    let disk = SureDisk::new(alloc, LOG_BYTES)?;
+    let (exit, _disk) = run_open(rt, alloc, &mut source, &mut Stalled, disk)?;
+    Ok(exit)
+}
+
 #[test]
 fn a_sink_that_takes_no_byte_is_a_fault(rt: HostRuntime) -> Result<(), Fail> {
     for (script, wanted) in [("a1 begin t1 0\n", Exit::WriteFault), ("", Exit::Fine)] {
-        let mut source = SureSource::new(Vec::from_slice(rt.alloc(), script.as_bytes())?);
-        let disk = SureDisk::new(rt.alloc(), LOG_BYTES)?;
-        let (exit, _disk) = run_open(
-            &rt,
-            rt.alloc(),
-            &["replay"],
-            &mut source,
-            &mut Stalled,
-            disk,
-        )?;
-        assert_eq!(rt; exit, wanted, "at {script}");
+        let exit = written_to_it(&rt, rt.alloc(), script)?;
+        assert!(rt; exit == wanted, "at {script}");
     }
     Ok(())
 }
@@ -55,18 +58,27 @@ fn run_surely<R: Threads + Wait + Sync>(
     ensures log { IfOk result (λ r. r ≢ Exit.LogFault) }
     ensures written { IfOk result (λ r. r ≢ Exit.WriteFault) }
 {
-    let (exit, _disk) = run_open(rt, alloc, &["replay"], source, sink, disk)?;
+    let (exit, _disk) = run_open(rt, alloc, source, sink, disk)?;
     Ok(exit)
+}
+
+/// Replays what this source gives: how it ended, and how many bytes were written.
+fn ended<R: Threads + Wait + Sync>(
+    rt: &R,
+    alloc: Global,
+    source: &mut SureSource,
+) -> Result<(Exit, usize), AllocError> {
+    let mut sink = SureSink::new(alloc);
+    let disk = SureDisk::new(alloc, LOG_BYTES)?;
+    let exit = run_surely(rt, alloc, source, &mut sink, disk)?;
+    Ok((exit, sink.bytes().len()))
 }
 
 #[test]
 fn one_byte_more_than_the_longest_script_is_read(rt: HostRuntime) -> Result<(), Fail> {
     let mut source = SureSource::new(vec![in rt.alloc(); b'a'; SCRIPT_BYTES + 4]?);
-    let mut sink = SureSink::new(rt.alloc());
-    let disk = SureDisk::new(rt.alloc(), LOG_BYTES)?;
-    let exit = run_surely(&rt, rt.alloc(), &mut source, &mut sink, disk)?;
-    assert_eq!(rt; exit, Exit::BadScript(1, BadCause::TooLong));
-    assert!(rt; sink.bytes().is_empty());
+    let ended = ended(&rt, rt.alloc(), &mut source)?;
+    assert!(rt; ended == (Exit::BadScript(1, BadCause::TooLong), 0));
     assert_eq!(rt; source.read(&mut [0u8; 9]), Ok(3));
     Ok(())
 }

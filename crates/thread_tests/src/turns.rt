@@ -25,7 +25,7 @@ fn restarts<N: Run, D: Disk, R: Abort>(rt: &R, log: &mut LogState<D, N>) -> Resu
         Entry::Stopped,
         Entry::LogWord(LogNote::Opened(0)),
     ];
-    assert_eq!(rt; log.entries(), entries.as_slice());
+    assert!(rt; log.entries() == entries.as_slice());
     Ok(())
 }
 

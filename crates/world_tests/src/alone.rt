@@ -1,7 +1,7 @@
 //! Calls, steps and replies of a world without a log.
 ghost use Rattle.dtx_model.specs.Caused.{MayAnswer};
 
-use crate::worlds::{ASKED, client, shows, transaction, world};
+use crate::worlds::{client, shows, transaction, world};
 use dtx_values::{Answer, Call, EnlNo, EnlistOption, Note, Outbox, Reply, Timeout, Vote};
 use std::process::Abort;
 use std::test::Fail;
@@ -43,18 +43,11 @@ fn reply(rt: &impl Abort, world: &mut TxWorld, out: &mut Outbox, e: EnlNo, r: Re
     }
 }
 
-/// The history of a transaction whose volatile votes yes.
-const COMMITTED: [&[&str]; 3] = [&BEGUN, &ASKED, &VOTED_YES];
-
-/// The longest timeout.
-const BEGUN: [&str; 2] = ["call 1 a1 ok", "began 600000"];
-
-const VOTED_YES: [&str; 4] = [
-    "vote e1 yes",
-    "decided committed",
-    "told e1 committed",
-    "told client committed",
-];
+/// The history of a transaction whose volatile votes yes, with the longest timeout.
+const COMMITTED: &str =
+    "1 t1 call 1 a1 ok\n2 t1 began 600000\n3 t1 call 2 a1 ok\n4 t1 enlisted e1 one\n\
+    5 t1 call 3 a1 ok\n6 t1 commit\n7 t1 sealed\n8 t1 ask e1 prepare\n9 t1 vote e1 yes\n\
+    10 t1 decided committed\n11 t1 told e1 committed\n12 t1 told client committed\n";
 
 /// Begins the transaction, enlists a volatile that is to vote yes, and asks for the commit.
 fn asks_to_commit(rt: &impl Abort, world: &mut TxWorld, out: &mut Outbox, e: EnlNo) {
@@ -92,19 +85,14 @@ fn a_transaction_commits_without_a_log(rt: HostRuntime) -> Result<(), Fail> {
     asks_to_commit(&rt, &mut world, &mut out, e1);
     commits(&rt, &mut world, &mut out, e1);
     assert_eq!(rt; world.coordinator_stopped(0), Ok(()));
-    shows(&rt, alloc, &world, &COMMITTED)?;
+    shows(&rt, alloc, &world, COMMITTED)?;
     Ok(())
 }
 
 /// The history of a transaction whose caller did a step itself.
-const COUNTED: [&str; 6] = [
-    "call 1 a1 ok",
-    "began 60000",
-    "call 2 a1 ok",
-    "commit",
-    "sealed",
-    "call 3 a1 did 1",
-];
+const COUNTED: &str =
+    "1 t1 call 1 a1 ok\n2 t1 began 60000\n3 t1 call 2 a1 ok\n4 t1 commit\n5 t1 sealed\n\
+    6 t1 call 3 a1 did 1\n";
 
 /// Does the first pending step, and then says so by a `do` of client 1.
 fn step_and_say(rt: &impl Abort, world: &mut TxWorld, out: &mut Outbox, line: u32) {
@@ -119,19 +107,21 @@ fn step_and_say(rt: &impl Abort, world: &mut TxWorld, out: &mut Outbox, line: u3
     assert!(rt; world.did(actor, line, &c, 1).is_ok());
 }
 
+/// Begins the transaction, and asks for the commit.
+fn commits_alone(rt: &impl Abort, world: &mut TxWorld, out: &mut Outbox) {
+    let t = transaction(rt);
+    let begin = Call::Begin(t, Timeout::Default);
+    assert!(rt; call(rt, world, out, 1, &begin) == Answer::Fine);
+    assert!(rt; call(rt, world, out, 2, &Call::Commit(t)) == Answer::Fine);
+}
+
 #[test]
 fn a_step_without_the_log_is_said(rt: HostRuntime) -> Result<(), Fail> {
     let alloc = rt.alloc();
     let mut world = world(&rt, alloc);
     let mut out = Outbox::with_room(alloc)?;
-    let t = transaction(&rt);
-    let begin = Call::Begin(t, Timeout::Default);
-    assert_eq!(rt; call(&rt, &mut world, &mut out, 1, &begin), Answer::Fine);
-    assert_eq!(rt;
-        call(&rt, &mut world, &mut out, 2, &Call::Commit(t)),
-        Answer::Fine
-    );
+    commits_alone(&rt, &mut world, &mut out);
     step_and_say(&rt, &mut world, &mut out, 3);
-    shows(&rt, alloc, &world, &[&COUNTED])?;
+    shows(&rt, alloc, &world, COUNTED)?;
     Ok(())
 }

@@ -1,5 +1,5 @@
 //! The whole of one transaction that is promoted, as text.
-ghost use Rattle.std.specs.Prelude.{◌≡◌, [], true, IfOk, IsTrue};
+ghost use Rattle.std.specs.Prelude.{◌≡◌, ◌<◌, [], true, IfOk, IsTrue};
 ghost use Rattle.dtx_model.specs.Caused.{MayAnswer};
 ghost use Rattle.tx_world.specs.State.{may_enter};
 ghost use Rattle.dtx_model.specs.Steps.{pending};
@@ -128,64 +128,40 @@ fn run_whole(rt: &impl Abort, run: &mut Run)
     settle(rt, run);
 }
 
-/// Compares the history, as text, with these entries.
-pub(crate) fn shows(
-    rt: &impl Abort,
-    alloc: Global,
-    world: &TxWorld,
-    parts: &[&[&str]],
-) -> Result<(), AllocError> {
-    let place = Place::Transaction(transaction(rt));
+/// The history as text.
+fn text(alloc: Global, world: &TxWorld, place: Place) -> Result<Vec<u8>, AllocError> {
     let mut entries = PlacedEntries::new(alloc);
     let history = world.history();
     entries.reserve(history.len())?;
     entries.push_from(place, history, 0);
-    let found = print_trace(alloc, &Trace::new(entries), false)?;
-    let mut wanted = Vec::new(alloc);
-    let mut number = 0_u32;
-    for part in parts {
-        for entry in *part {
-            number = number.saturating_add(1);
-            let line = format!(in alloc; "{number} t1 {entry}\n")?;
-            wanted.extend_from_slice(line.as_bytes())?;
-        }
-    }
-    assert!(rt; found.as_slice() == wanted.as_slice());
+    print_trace(alloc, &Trace::new(entries), false)
+}
+
+/// Compares the history with this text.
+pub(crate) fn shows(
+    rt: &impl Abort,
+    alloc: Global,
+    world: &TxWorld,
+    wanted: &str,
+) -> Result<(), AllocError> {
+    let found = text(alloc, world, Place::Transaction(transaction(rt)))?;
+    assert!(rt; found.as_slice() == wanted.as_bytes());
     Ok(())
 }
 
-/// A transaction is begun.
-const BEGUN: [&str; 2] = ["call 1 a1 ok", "began 60000"];
+/// One whose volatile votes yes, and whose client asks for single steps and then for the outcome.
+const VOTED_YES: &str =
+    "1 t1 call 1 a1 ok\n2 t1 began 60000\n3 t1 call 2 a1 ok\n4 t1 enlisted e1 one\n\
+    5 t1 call 3 a1 ok\n6 t1 commit\n7 t1 sealed\n8 t1 ask e1 prepare\n9 t1 vote e1 yes\n\
+    10 t1 call 4 a1 did 3\n11 t1 decided committed\n12 t1 told e1 committed\n\
+    13 t1 told client committed\n14 t1 call 5 a1 committed\n15 t1 call 6 a1 did 0\n";
 
-/// One with one volatile was sealed, and asks it.
-pub(crate) const ASKED: [&str; 6] = [
-    "call 2 a1 ok",
-    "enlisted e1 one",
-    "call 3 a1 ok",
-    "commit",
-    "sealed",
-    "ask e1 prepare",
-];
-
-/// It votes yes, and the client asks for single steps and then for the outcome.
-const VOTED_YES: [&str; 7] = [
-    "vote e1 yes",
-    "call 4 a1 did 3",
-    "decided committed",
-    "told e1 committed",
-    "told client committed",
-    "call 5 a1 committed",
-    "call 6 a1 did 0",
-];
-
-/// It votes no.
-const VOTED_NO: [&str; 5] = [
-    "call 4 a1 did 2",
-    "vote e1 no",
-    "decided aborted",
-    "told client aborted",
-    "call 5 a1 aborted",
-];
+/// One whose volatile votes no.
+const VOTED_NO: &str =
+    "1 t1 call 1 a1 ok\n2 t1 began 60000\n3 t1 call 2 a1 ok\n4 t1 enlisted e1 one\n\
+    5 t1 call 3 a1 ok\n6 t1 commit\n7 t1 sealed\n8 t1 ask e1 prepare\n9 t1 call 4 a1 did 2\n\
+    10 t1 vote e1 no\n11 t1 decided aborted\n12 t1 told client aborted\n\
+    13 t1 call 5 a1 aborted\n";
 
 /// Does a call of client 1, with the steps before it, and says what it answered.
 fn call(rt: &impl Abort, run: &mut Run, line: u32, c: &Call) -> Answer
@@ -205,7 +181,8 @@ fn calls(rt: &impl Abort, run: &mut Run, cases: &[(u32, Call, Answer)])
     ensures fits { IsTrue run.new.log.is_up → Fits run.new.world (open_records run.new.log.slots) }
 {
     for (line, c, answer) in cases {
-        assert_eq!(rt; call(rt, run, *line, c), *answer, "at line {line}");
+        let came = call(rt, run, *line, c);
+        assert!(rt; came == *answer, "at line {line}");
     }
 }
 
@@ -241,27 +218,43 @@ fn asked(rt: &impl Abort, alloc: Global) -> Result<Run, AllocError>
     Ok(run)
 }
 
+/// Does three steps by a `do`, and asks for the outcome.
+fn does_steps(rt: &impl Abort, run: &mut Run)
+    requires fits { IsTrue run.old.log.is_up → Fits run.old.world (open_records run.old.log.slots) }
+{
+    let t = transaction(rt);
+    let told = Answer::OutcomeIs(Outcome::Committed);
+    let did = call(rt, run, 4, &Call::Do(t, 1, 3));
+    assert!(rt; did == Answer::Did(3));
+    assert!(rt; run.world.status() == Status::Active);
+    let came = call(rt, run, 5, &Call::Await(t));
+    assert!(rt; came == told);
+    assert!(rt; run.world.status() == Status::Committed);
+    did_none(rt, run, 6);
+}
+
 #[test]
 fn a_call_does_the_steps_before_it(rt: HostRuntime) -> Result<(), Fail> {
     let mut run = asked(&rt, rt.alloc())?;
-    let t = transaction(&rt);
-    let told = Answer::OutcomeIs(Outcome::Committed);
-    assert_eq!(rt; call(&rt, &mut run, 4, &Call::Do(t, 1, 3)), Answer::Did(3));
-    assert_eq!(rt; run.world.status(), Status::Active);
-    assert_eq!(rt; call(&rt, &mut run, 5, &Call::Await(t)), told);
-    assert_eq!(rt; run.world.status(), Status::Committed);
-    did_none(&rt, &mut run, 6);
-    shows(&rt, rt.alloc(), &run.world, &[&BEGUN, &ASKED, &VOTED_YES])?;
+    does_steps(&rt, &mut run);
+    shows(&rt, rt.alloc(), &run.world, VOTED_YES)?;
     Ok(())
+}
+
+/// Nothing is pending, so no step is done.
+fn does_nothing(rt: &impl Abort, run: &mut Run)
+    requires fits { IsTrue run.old.log.is_up → Fits run.old.world (open_records run.old.log.slots) }
+{
+    assert!(rt; run.world.pending() == 0);
+    assert!(rt; run.world.step(&mut run.log, &mut run.out, 1) == Ok(false));
+    assert!(rt; run.world.status() == Status::Active);
+    assert!(rt; run.world.id() == 0);
 }
 
 #[test]
 fn nothing_is_pending_in_a_new_world(rt: HostRuntime) -> Result<(), Fail> {
     let mut run = fresh(&rt, rt.alloc())?;
-    assert_eq!(rt; run.world.pending(), 0);
-    assert_eq!(rt; run.world.step(&mut run.log, &mut run.out, 1), Ok(false));
-    assert_eq!(rt; run.world.status(), Status::Active);
-    assert_eq!(rt; run.world.id(), 0);
+    does_nothing(&rt, &mut run);
     Ok(())
 }
 
@@ -282,106 +275,125 @@ fn reply(rt: &impl Abort, run: &mut Run, vote: Vote) -> bool
     }
 }
 
+/// Votes no once the enlistment was asked, and no more then.
+fn votes_no(rt: &impl Abort, run: &mut Run)
+    requires fits { IsTrue run.old.log.is_up → Fits run.old.world (open_records run.old.log.slots) }
+{
+    let t = transaction(rt);
+    assert!(rt; !reply(rt, run, Vote::No));
+    let did = call(rt, run, 4, &Call::Do(t, 1, 2));
+    assert!(rt; did == Answer::Did(2));
+    assert!(rt; reply(rt, run, Vote::No));
+    assert!(rt; !reply(rt, run, Vote::No));
+    let told = call(rt, run, 5, &Call::Await(t));
+    assert!(rt; told == Answer::OutcomeIs(Outcome::Aborted));
+}
+
 /// The volatile of the transaction votes no, though its line plans yes.
 #[test]
 fn a_reply_need_not_be_the_planned_one(rt: HostRuntime) -> Result<(), Fail> {
     let mut run = asked(&rt, rt.alloc())?;
-    let t = transaction(&rt);
-    let told = Answer::OutcomeIs(Outcome::Aborted);
-    assert!(rt; !reply(&rt, &mut run, Vote::No));
-    assert_eq!(rt; call(&rt, &mut run, 4, &Call::Do(t, 1, 2)), Answer::Did(2));
-    assert!(rt; reply(&rt, &mut run, Vote::No));
-    assert!(rt; !reply(&rt, &mut run, Vote::No));
-    assert_eq!(rt; call(&rt, &mut run, 5, &Call::Await(t)), told);
-    shows(&rt, rt.alloc(), &run.world, &[&BEGUN, &ASKED, &VOTED_NO])?;
+    votes_no(&rt, &mut run);
+    shows(&rt, rt.alloc(), &run.world, VOTED_NO)?;
     Ok(())
 }
 
 /// The transaction begins, asks for its identifier at the coordinator, and then the coordinator stops. The log wasn't opened since, so nothing is found yet.
-#[test]
-fn a_stop_reaches_who_is_at_the_coordinator(rt: HostRuntime) -> Result<(), Fail> {
-    let mut run = fresh(&rt, rt.alloc())?;
-    let t = transaction(&rt);
-    let begin = Call::Begin(t, Timeout::Default);
-    assert_eq!(rt; call(&rt, &mut run, 1, &begin), Answer::Fine);
-    assert_eq!(rt; run.world.coordinator_stopped(0), Ok(()));
+fn stops(rt: &impl Abort, run: &mut Run)
+    requires fits { IsTrue run.old.log.is_up → Fits run.old.world (open_records run.old.log.slots) }
+{
+    let t = transaction(rt);
+    let began = call(rt, run, 1, &Call::Begin(t, Timeout::Default));
+    assert!(rt; began == Answer::Fine);
+    assert!(rt; run.world.coordinator_stopped(0) == Ok(()));
     assert!(rt; !run.world.is_stopped());
-    assert_eq!(rt; call(&rt, &mut run, 2, &Call::Marshal(t)), Answer::Wait);
-    assert_eq!(rt; run.world.coordinator_stopped(0), Ok(()));
+    let waits = call(rt, run, 2, &Call::Marshal(t));
+    assert!(rt; waits == Answer::Wait);
+    assert!(rt; run.world.coordinator_stopped(0) == Ok(()));
     assert!(rt; run.world.is_stopped());
     if !run.log.is_up() {
         panic!(rt; "the log is stopped");
     }
-    assert_eq!(rt; run.world.coordinator_restarted(&run.log), Ok(()));
+    assert!(rt; run.world.coordinator_restarted(&run.log) == Ok(()));
     assert!(rt; run.world.is_stopped());
-    let h = run.world.history();
-    assert_eq!(rt; h.len(), 6);
-    assert_eq!(rt; h.at(5), Entry::Stopped);
+}
+
+#[test]
+fn a_stop_reaches_who_is_at_the_coordinator(rt: HostRuntime) -> Result<(), Fail> {
+    let mut run = fresh(&rt, rt.alloc())?;
+    stops(&rt, &mut run);
+    ends_with(&rt, &run.world, 6, Entry::Stopped);
     Ok(())
+}
+
+/// Whether the history has so many entries, and this one last.
+fn ends_with(rt: &impl Abort, world: &TxWorld, many: usize, last: Entry)
+    requires { 0 < many }
+{
+    let h = world.history();
+    assert!(rt; h.len() == many);
+    assert!(rt; h.at(many - 1) == last);
+}
+
+/// Runs the transaction over a log that stops under its record.
+fn stops_under_the_record(rt: &impl Abort, run: &mut Run, image: Image)
+    requires fits { IsTrue run.old.log.is_up → Fits run.old.world (open_records run.old.log.slots) }
+{
+    run.log.arm(1, image);
+    run_whole(rt, run);
+    assert!(rt; run.world.status() == Status::InDoubt);
+    assert!(rt; run.world.is_stopped());
+    assert!(rt; !run.log.is_up());
+    assert!(rt; run.world.ties(&run.log).is_ok());
 }
 
 #[test]
 fn a_log_that_stops_under_the_record_stops_the_coordinator(rt: HostRuntime) -> Result<(), Fail> {
     for image in [Image::Lose, Image::Keep, Image::Torn] {
         let mut run = fresh(&rt, rt.alloc())?;
-        run.log.arm(1, image);
-        run_whole(&rt, &mut run);
-        assert_eq!(rt; run.world.status(), Status::InDoubt);
-        assert!(rt; run.world.is_stopped());
-        assert!(rt; !run.log.is_up());
-        assert!(rt; run.world.ties(&run.log).is_ok());
+        stops_under_the_record(&rt, &mut run, image);
     }
     Ok(())
+}
+
+/// Asks for the identifier, does a step, and says so.
+fn says_its_step(rt: &impl Abort, run: &mut Run)
+    requires fits { IsTrue run.old.log.is_up → Fits run.old.world (open_records run.old.log.slots) }
+{
+    let t = transaction(rt);
+    let cases = [
+        (1, Call::Begin(t, Timeout::Default), Answer::Fine),
+        (2, Call::Marshal(t), Answer::Wait),
+    ];
+    calls(rt, run, &cases);
+    step_and_say(rt, run, 3);
 }
 
 #[test]
 fn the_steps_of_the_caller_are_said(rt: HostRuntime) -> Result<(), Fail> {
     let mut run = fresh(&rt, rt.alloc())?;
-    let t = transaction(&rt);
-    let cases = [
-        (1, Call::Begin(t, Timeout::Default), Answer::Fine),
-        (2, Call::Marshal(t), Answer::Wait),
-    ];
-    calls(&rt, &mut run, &cases);
-    step_and_say(&rt, &mut run, 3);
+    says_its_step(&rt, &mut run);
     let a1 = ActorNo::new(1).unwrap();
-    let did = Entry::Called(3, a1, Answer::Did(1));
-    let h = run.world.history();
-    assert_eq!(rt; h.len(), 8);
-    assert_eq!(rt; h.at(7), did);
+    ends_with(&rt, &run.world, 8, Entry::Called(3, a1, Answer::Did(1)));
     Ok(())
 }
 
 /// A promotion begins; its connection is lost with BEGIN on it, and then the manager of the owner.
-const LOST: [&str; 19] = [
-    "call 2 a1 ok",
-    "enlisted e1 single",
-    "call 3 a1 wait",
-    "promoting marshal",
-    "sent b up begin",
-    "call 4 a1 nosuch",
-    "call 5 a1 ok",
-    "cut b 0 0",
-    "call 6 a1 nosuch",
-    "call 7 a1 ok",
-    "lost e1",
-    "promotionfailed",
-    "decided aborted",
-    "answer 3 ended aborted",
-    "call 8 a1 already",
-    "told client aborted",
-    "down b up",
-    "down b down",
-    "call 9 a1 aborted",
-];
+const LOST: &str =
+    "1 t1 call 1 a1 ok\n2 t1 began 60000\n3 t1 call 2 a1 ok\n4 t1 enlisted e1 single\n\
+    5 t1 call 3 a1 wait\n6 t1 promoting marshal\n7 t1 sent b up begin\n8 t1 call 4 a1 nosuch\n\
+    9 t1 call 5 a1 ok\n10 t1 cut b 0 0\n11 t1 call 6 a1 nosuch\n12 t1 call 7 a1 ok\n\
+    13 t1 lost e1\n14 t1 promotionfailed\n15 t1 decided aborted\n16 t1 answer 3 ended aborted\n\
+    17 t1 call 8 a1 already\n18 t1 told client aborted\n19 t1 down b up\n20 t1 down b down\n\
+    21 t1 call 9 a1 aborted\n";
 
 /// Connections are lost, which were opened or not, and an enlistment, twice.
-#[test]
-fn a_loss_ends_the_promotion_that_is_under_way(rt: HostRuntime) -> Result<(), Fail> {
-    let mut run = fresh(&rt, rt.alloc())?;
-    let t = transaction(&rt);
-    let e1 = EnlNo::new(1).expect(&rt, "no such enlistment");
-    let r1 = RmNo::new(1).expect(&rt, "no such manager");
+fn loses(rt: &impl Abort, run: &mut Run)
+    requires fits { IsTrue run.old.log.is_up → Fits run.old.world (open_records run.old.log.slots) }
+{
+    let t = transaction(rt);
+    let e1 = EnlNo::new(1).expect(rt, "no such enlistment");
+    let r1 = RmNo::new(1).expect(rt, "no such manager");
     let owner = Support::SinglePhase(Some(Vote::Yes), Some(Outcome::Committed));
     let told = Answer::OutcomeIs(Outcome::Aborted);
     let cases = [
@@ -395,7 +407,13 @@ fn a_loss_ends_the_promotion_that_is_under_way(rt: HostRuntime) -> Result<(), Fa
         (8, Call::Gone(e1), Answer::Already),
         (9, Call::Await(t), told),
     ];
-    calls(&rt, &mut run, &cases);
-    shows(&rt, rt.alloc(), &run.world, &[&BEGUN, &LOST])?;
+    calls(rt, run, &cases);
+}
+
+#[test]
+fn a_loss_ends_the_promotion_that_is_under_way(rt: HostRuntime) -> Result<(), Fail> {
+    let mut run = fresh(&rt, rt.alloc())?;
+    loses(&rt, &mut run);
+    shows(&rt, rt.alloc(), &run.world, LOST)?;
     Ok(())
 }
