@@ -1,5 +1,5 @@
 -- Words with spaces between them, cut apart.
-use Rattle.std.proofs.Common.{◌≡◌, ℕ, List, ◌∷◌, ◌++◌, codes, refl, ap, ◌∙◌, arith, append_assoc}
+use Rattle.std.proofs.Common.{◌≡◌, ℕ, List, [], ◌∷◌, ◌++◌, codes, refl, ap, ◌∙◌, arith, append_assoc}
 use Rattle.dtx_values.specs.declared.entry.Party.{Party}
 use Rattle.dtx_values.specs.declared.entry.Party.TheVariants.{Client, Enl}
 use Rattle.dtx_values.specs.declared.message.Conn.{Conn}
@@ -11,7 +11,7 @@ use Rattle.dtx_values.specs.declared.trace.Place.TheVariants.{Context, Transacti
 use Rattle.dtx_model.specs.Grammar.{connection_word}
 use Rattle.dtx_model.specs.TraceText.{direction_text, party_text, place_text}
 use Rattle.line_tail.specs.Cut.{IsWithout, behind, front}
-use Rattle.line_tail.proofs.CutLemmas.{front_cut, behind_cut}
+use Rattle.line_tail.proofs.CutLemmas.{front_cut, behind_cut, cut_none}
 use Rattle.line_words.proofs.Without.{name_without}
 
 -- the words of a text that is cut at its first space
@@ -33,6 +33,16 @@ pub cut_twice : (text first last a b r : List ℕ) → first ≡ front 32 text �
     → AreCut first last a (b ++ codes " " ++ r)
 cut_twice text first last a b r f l e h =
     cut_spaced text first last a (b ++ codes " " ++ r) f l (e ∙ ap (λ t. t ++ r) (append_assoc (a ++ codes " ") b (codes " ")) ∙ append_assoc (a ++ codes " ") (b ++ codes " ") r) h
+
+-- two texts that are cut at their last c are cut at one place
+pub cut_last : (c : ℕ) (v w r s : List ℕ) → IsWithout c r → IsWithout c s → v ++ c ∷ r ≡ w ++ c ∷ s → v ≡ w
+cut_last c [] [] r s hr hs e = refl
+cut_last c [] (y ∷ w) r s hr hs e = absurd (cut_none c r w s hr cc)
+cut_last c (x ∷ v) [] r s hr hs e = absurd (cut_none c s v r hs cc)
+cut_last c (x ∷ v) (y ∷ w) r s hr hs e =
+    let head : x ≡ y = cc in
+    let rest = cut_last c v w r s hr hs cc in
+    λ i. head i ∷ rest i
 
 -- a place has no space
 pub place_apart : (p : Place) → IsWithout 32 (place_text p)

@@ -3,12 +3,15 @@ pub mod CutWords
 pub mod Framed
 pub mod LineEnds
 pub mod Lines
+pub mod ObjectTexts
 pub mod OneTrace
 pub mod Plain
 pub mod Printing
 pub mod Summaries
 pub mod TellAnswers
 pub mod TellEntries
+pub mod TellFrames
 pub mod TellMessages
 pub mod TellPieces
 pub mod TellWords
+pub mod WireTexts

@@ -35,7 +35,7 @@ lines_some n [] k h e = absurd (omega arith)
 lines_some n (x ∷ T) zero h e = no_line n x (lines_from (suc n) T) (sym e)
 lines_some n (x ∷ T) (suc k) h e = lines_some n T k (omega arith) e
 
-ended : (a b rest : List ℕ) (m : ℕ) → (a ++ b ++ m ∷ []) ++ rest ≡ [] → ⊥
+pub ended : (a b rest : List ℕ) (m : ℕ) → (a ++ b ++ m ∷ []) ++ rest ≡ [] → ⊥
 ended a b rest m e = omega (arith, ap length e, length-append (a ++ b ++ m ∷ []) rest, length-append (a ++ b) (m ∷ []))
 
 wire_some : (n : ℕ) (T : List Placed) (k : ℕ) → k < length T → wire_lines_from n (drop k T) ≢ []

@@ -52,7 +52,8 @@ use Rattle.dtx_model.specs.Grammar.{actor_name, clone_name, connection_word, enl
 use Rattle.dtx_model.specs.TraceText.{ambient_text, answer_text, ask_text, cast_vote_text, cause_text, class_text, direction_text, entry_text, found_text, id_text, log_text, message_text, outcome_text, party_text, place_text, promote_text, request_text, scope_text, sent_text}
 use Rattle.dtx_model.specs.Traces.{Placed}
 use Rattle.dtx_model.specs.Words.{each}
-use Rattle.dtx_model.proofs.Bools.{and_both, and_left, and_right}
+use Rattle.dtx_model.proofs.Bools.{and_both, and_left, and_right, or_false}
+use Rattle.line_tail.specs.Cut.{IsWithout}
 use Rattle.trace_lines.specs.Forms.{object_of, object_text}
 
 -- a space, a hyphen, a digit or a lower-case letter
@@ -313,6 +314,20 @@ same : (s : List ℕ) → are_plain s ≡ true → escape s ≡ s
 same [] h = refl
 same (c ∷ s) h =
     flat_map-cons escape_byte c s ∙ ap (λ (t : List ℕ). t ++ escape s) (byte_same c (and_left (is_plain c) (are_plain s) h)) ∙ ap (λ (t : List ℕ). c ∷ t) (same s (and_right (is_plain c) (are_plain s) h))
+
+-- nor has it a quotation mark
+unquoted : (s : List ℕ) → are_plain s ≡ true → IsWithout 34 s
+unquoted [] h = refl
+unquoted (c ∷ s) h =
+    let here : is_plain c ≡ true = and_left (is_plain c) (are_plain s) h in
+    let quote : (c == 34) ≡ false = grind (arith, nat_tests) in
+    or_false (c == 34) _ quote (unquoted s (and_right (is_plain c) (are_plain s) h))
+
+pub place_unquoted : (p : Place) → IsWithout 34 (place_text p)
+place_unquoted p = unquoted (place_text p) (place p)
+
+pub entry_unquoted : (x : Entry) → IsWithout 34 (entry_text x)
+entry_unquoted x = unquoted (entry_text x) (entry x)
 
 -- the text of a place stands in JSON as it is
 place_same : (p : Place) → escape (place_text p) ≡ place_text p

@@ -62,13 +62,17 @@ named [] = 0
 named (letter ∷ w) = value w
 
 -- the number from 1 to high that is nearest
-abbrev nearest : ℕ → ℕ → ℕ
+abbrev pub nearest : ℕ → ℕ → ℕ
 nearest high n = max 1 (min n high)
 
 pub nearest_range : (high n : ℕ) → 1 ≤ high → (1 ≤ nearest high n) × (nearest high n ≤ high)
 nearest_range high n h = (omega arith, omega arith)
 
 -- a number in its range is its own nearest
+pub nearest_own : (high n : ℕ) → 1 ≤ n → n ≤ high → nearest high n ≡ n
+nearest_own high n a b = omega arith
+
+-- also as its text is read
 nearest_same : (high n : ℕ) → n < 2 ^ 64 → 1 ≤ n → n ≤ high → nearest high (value (decimal n)) ≡ n
 nearest_same high n small a b = omega (arith, value_is n small)
 

@@ -94,3 +94,46 @@ named u i x = x
 -- the same at its place
 abbrev pub named_at : ℕ → Info → Placed → Placed
 named_at u i x = (x.0, named u i x.1)
+
+-- where the entry has a message that is got, it is one that its connection carries in its direction
+abbrev pub is_got_carried : Entry → Bool
+is_got_carried (Got c d m) = has_line c d m
+is_got_carried x = true
+
+abbrev pub is_got_carried_at : Placed → Bool
+is_got_carried_at x = is_got_carried x.1
+
+-- the entry as its line in the form wire tells it: which message is sent is told by its frame, whatever its connection carries; one that is got
+-- is taken by its name
+abbrev pub wired : ℕ → Info → Entry → Entry
+wired u i (Sent c d m) = Sent c d (carrying u i m)
+wired u i x = named u i x
+
+-- the same at its place
+abbrev pub wired_at : ℕ → Info → Placed → Placed
+wired_at u i x = (x.0, wired u i x.1)
+
+-- the identifier that the message has, alone or in its recovery information, is a number of its type
+abbrev pub is_identifier_typed : Message → Bool
+is_identifier_typed (BeginBegun u) = nat_le u 340282366920938463463374607431768211455
+is_identifier_typed (VoterVoter u) = nat_le u 340282366920938463463374607431768211455
+is_identifier_typed (EnlistEnlist i) = nat_le i.id 340282366920938463463374607431768211455
+is_identifier_typed (ReenlistReenlist i) = nat_le i.id 340282366920938463463374607431768211455
+is_identifier_typed m = true
+
+-- where the entry has a message that is sent, so is its identifier
+abbrev pub is_frame_typed : Entry → Bool
+is_frame_typed (Sent c d m) = is_identifier_typed m
+is_frame_typed x = true
+
+abbrev pub is_frame_typed_at : Placed → Bool
+is_frame_typed_at x = is_frame_typed x.1
+
+-- the entry with a message that is sent as it is, since its frame tells it whole; one that is got is taken by its name
+abbrev pub framed : ℕ → Info → Entry → Entry
+framed u i (Sent c d m) = Sent c d m
+framed u i x = named u i x
+
+-- the same at its place
+abbrev pub framed_at : ℕ → Info → Placed → Placed
+framed_at u i x = (x.0, framed u i x.1)
