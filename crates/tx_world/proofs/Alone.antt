@@ -1,9 +1,14 @@
--- A pending step that needs no log: what of it is done, and that it leaves fewer that can come.
+-- A pending step that needs no log, or is a reply: what of it is done, and that it leaves fewer that can come.
 use Rattle.std.proofs.Common.{◌≡◌, ◌<◌, ◌∙◌, ℕ, suc, true, false, Some, refl, sym, subst}
+use Rattle.dtx_values.specs.declared.note.Note.{Note}
+use Rattle.dtx_values.specs.declared.note.Reply.{Reply as ReplyTo}
+use Rattle.dtx_values.specs.declared.number.EnlNo.{EnlNo}
 use Rattle.dtx_values.specs.declared.number.TxNo.{TxNo}
+use Rattle.dtx_model.specs.Plans.{plan_of, planned}
+use Rattle.dtx_model.specs.Replies.{due_of, fits}
 use Rattle.dtx_model.specs.Words.{kth}
-use Rattle.dtx_model.specs.World.{World}
-use Rattle.dtx_model.specs.Steps.{Acts, Delivers, LocalAct, Delivery, pending}
+use Rattle.dtx_model.specs.World.{World, half}
+use Rattle.dtx_model.specs.Steps.{Acts, Delivers, Replies, LocalAct, Delivery, ReplyOf, pending}
 use Rattle.dtx_model.specs.Caused.{HasStepped, IsIn, IsOwnRun}
 use Rattle.coordinator_log.specs.State.{LogState}
 use Rattle.world_laws.specs.Left.{steps_left}
@@ -12,7 +17,7 @@ use Rattle.world_parts.specs.declared.pending.PendingStep.TheVariants.{Reply, Ac
 use Rattle.tx_world.specs.OwnCalls.{DoesAlone, DoesKthAlone}
 use Rattle.world_parts.specs.Pending.{is_alone_step, name_of, step_of}
 use Rattle.tx_world.specs.State.{TxState}
-use Rattle.tx_world.specs.Stepping.{DoesKth}
+use Rattle.tx_world.specs.Stepping.{Does, DoesKth}
 use Rattle.tx_world.proofs.LeftSteps.{step_nearer}
 use Rattle.tx_world.proofs.Unlogged.{does_alone, turned_silent}
 
@@ -31,6 +36,11 @@ kth_beside faults k Act old new log a at d = record { name = LocalAct; step = Ac
 kth_beside faults k Coordinate old new log a at d = absurd cc
 kth_beside faults k (Deliver c e) old new log a at d =
     record { name = Delivery c e; step = Delivers c e; stands = at; named = refl; planned = tt; done = does_alone faults (Delivers c e) old new log refl d }
+
+-- and a planned reply, which fits the note that it answers
+pub kth_reply : {D : Type 0} (faults : D → ℕ) (k : ℕ) (e : EnlNo) (n : Note) (r : ReplyTo) (old : TxState) (from : LogState D) (new : TxState) (to : LogState D) → kth (pending old.world) k ≡ Some (ReplyOf e)
+    → due_of (half old.world).seen e.value ≡ Some n → planned (plan_of old.world.calls e.value) n ≡ Some r → fits r n ≡ true → Does faults (Replies e r) old from new to → DoesKth faults k old from new to
+kth_reply faults k e n r old from new to at due plan fit d = record { name = ReplyOf e; step = Replies e r; stands = at; named = (r, n, due, fit, refl); planned = (n, due, plan); done = d }
 
 -- the k-th pending step leaves fewer steps
 pub alone_nearer : (k : ℕ) (old new : TxState) → IsOwnRun old.transaction.value old.world → DoesKthAlone k old new → steps_left new.world < steps_left old.world

@@ -10,7 +10,7 @@ use Rattle.dtx_values.specs.declared.number.ActorNo.{ActorNo}
 use Rattle.dtx_values.specs.declared.number.EnlNo.{EnlNo}
 use Rattle.dtx_values.specs.declared.number.TxNo.{TxNo}
 use Rattle.dtx_model.specs.Facts.{facts_if, has_facts}
-use Rattle.dtx_model.specs.Half.{Half, stands}
+use Rattle.dtx_model.specs.Half.{Half}
 use Rattle.dtx_model.specs.declared.waiting.EnteredCall.{EnteredCall}
 use Rattle.dtx_model.specs.Words.{each, past_of}
 use Rattle.dtx_model.specs.World.{World, half, answer_at, facts_at, gone_by, gone_unlinked, open_ones}

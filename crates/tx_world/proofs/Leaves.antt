@@ -1,5 +1,5 @@
 -- What a step or a call leaves of the log where it doesn't touch it, and what two leave, one after the other.
-use Rattle.std.proofs.Common.{◌≡◌, ◌≤◌, ◌∙◌, inl, inr, ℕ, Bool, List, Option, le_refl, le_trans, refl, sym, ap, subst}
+use Rattle.std.proofs.Common.{◌≡◌, ◌∙◌, inl, inr, ℕ, Bool, List, Option, le_refl, le_trans, refl, sym, ap, subst}
 use Rattle.std.specs.Prelude.{IfOk, IsTrue, Ok, Err, Result}
 use Rattle.dtx_values.specs.declared.number.TxNo.{TxNo}
 use Rattle.dtx_model.specs.Promotes.{identifier_of}

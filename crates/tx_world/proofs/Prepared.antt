@@ -1,5 +1,5 @@
 -- What comes right before a call lets it be entered, and then it is done.
-use Rattle.std.proofs.Common.{◌≡◌, ◌≤◌, ◌∙◌, ℕ, Bool, true, List, None, Result, Ok, Err, IfOk, OnOk, OnErr, refl, sym, ap, subst, ◌&&◌, ◌==◌, not, is_some, arith}
+use Rattle.std.proofs.Common.{◌≡◌, ◌≤◌, ◌∙◌, ℕ, true, List, None, Result, Ok, Err, IfOk, OnOk, OnErr, refl, sym, ap, subst, ◌&&◌, ◌==◌, not, is_some, arith}
 use Rattle.dtx_values.specs.declared.call.Call.{Call}
 use Rattle.dtx_values.specs.declared.call.Call.TheVariants.{Await, Do}
 use Rattle.dtx_values.specs.declared.entry.Answer.{Answer}

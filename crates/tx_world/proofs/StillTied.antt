@@ -1,5 +1,5 @@
 -- Which steps write entries of the log: the coordinator's act there, a stop and a restart; and what restarts found stays tied to what was appended in each step but a restart.
-use Rattle.std.proofs.Common.{◌≡◌, ℕ, zero, suc, Bool, true, false, ◌&&◌, not, List, [], ◌∷◌, refl, ap, sym, subst, if◌then◌else◌}
+use Rattle.std.proofs.Common.{◌≡◌, ℕ, zero, suc, Bool, true, false, ◌&&◌, not, List, [], ◌∷◌, Result, Ok, Err, OnOk, OnErr, refl, ap, sym, subst, if◌then◌else◌}
 use Rattle.dtx_values.specs.declared.call.Call.{Call}
 use Rattle.dtx_values.specs.declared.entry.Answer.{Answer}
 use Rattle.dtx_values.specs.declared.entry.Ask.TheVariants.{Promote, Single as AskSingle}
@@ -35,7 +35,8 @@ use Rattle.history_table.proofs.QuietBlocks.{is_quiet, q_coordinates}
 use Rattle.std.specs.Prelude.{is_some}
 use Rattle.coordinator_log.specs.State.{LogState}
 use Rattle.tx_world.specs.State.{TxState, sends_begin, turned}
-use Rattle.tx_world.specs.Stepping.{DoesKth, IsKeptAfter, Stepped}
+use Rattle.tx_world.specs.OwnCalls.{DoesAlone, DoesKthAlone}
+use Rattle.tx_world.specs.Stepping.{DoesAt, DoesKth, IsKeptAfter, Stepped}
 use Rattle.world_parts.proofs.Keeping.{is_elsewhere}
 
 -- the blocks of calls, replies, deliveries and the local act have no entry of the log
@@ -163,6 +164,26 @@ turned_tied up t w m i d = by (sends_begin t w m && not up)
     by true = still_tied t (after t w m) Stops refl (still_tied t w m i d)
     by false = still_tied t w m i d
 
+-- so too from a transaction to what a step made of it, with a log or alone,
+abbrev pub StaysTied : TxState → TxState → Type 0
+StaysTied old new = tied old.world.past ≡ true → tied new.world.past ≡ true
+
+pub does_tied : (up : Bool) (life : ℕ) (m : Step) (old new : TxState) → is_restarting m ≡ false → DoesAt up life m old new → StaysTied old new
+does_tied up life m old new i d k = subst (λ (w : World). tied w.past ≡ true) (sym d.world) (turned_tied up old.transaction.value old.world m i k)
+
+pub alone_tied : (m : Step) (old new : TxState) → is_restarting m ≡ false → DoesAlone m old new → StaysTied old new
+alone_tied m old new i d k = subst (λ (w : World). tied w.past ≡ true) (sym d.world) (still_tied old.transaction.value old.world m i k)
+
+-- to what a call made of it that may fail, and then does nothing, or that may have nothing to do,
+pub ok_tied : {A E D : Type 0} (r : Result A E) (old new : TxState) → (D → StaysTied old new) → OnOk r D → OnErr r (new ≡ old) → StaysTied old new
+ok_tied (Ok a) old new does done same k = does done k
+ok_tied (Err e) old new does done same k = subst (λ (x : TxState). tied x.world.past ≡ true) (sym same) k
+
+pub due_tied : {E D F : Type 0} (r : Result Bool E) (old new : TxState) → (r ≡ Ok true → D) → (D → StaysTied old new) → (r ≡ Ok false → new ≡ old) → OnErr r F → (F → new ≡ old) → StaysTied old new
+due_tied (Ok true) old new done does none fails same k = does (done refl) k
+due_tied (Ok false) old new done does none fails same k = subst (λ (x : TxState). tied x.world.past ≡ true) (sym (none refl)) k
+due_tied (Err e) old new done does none fails same k = subst (λ (x : TxState). tied x.world.past ≡ true) (sym (same fails)) k
+
 -- and in pending steps, of which none is a restart.
 pub named_elsewhere : (w : World) (n : StepName) (m : Step) → IsNamed w n m → is_restarting m ≡ false
 named_elsewhere w (ReplyOf e) m i = ap (λ (s : Step). is_restarting s) i.4
@@ -170,11 +191,14 @@ named_elsewhere w LocalAct m i = ap (λ (s : Step). is_restarting s) i
 named_elsewhere w CoordinatorAct m i = ap (λ (s : Step). is_restarting s) i.2
 named_elsewhere w (Delivery c d) m i = ap (λ (s : Step). is_restarting s) i
 
-pub kth_tied : {D : Type 0} (faults : D → ℕ) (k : ℕ) (old : TxState) (from : LogState D) (new : TxState) (to : LogState D) → DoesKth faults k old from new to → tied old.world.past ≡ true → tied new.world.past ≡ true
+pub kth_alone_tied : (k : ℕ) (old new : TxState) → DoesKthAlone k old new → StaysTied old new
+kth_alone_tied k old new d = alone_tied d.step old new (named_elsewhere old.world d.name d.step d.named) d.done
+
+pub kth_tied : {D : Type 0} (faults : D → ℕ) (k : ℕ) (old : TxState) (from : LogState D) (new : TxState) (to : LogState D) → DoesKth faults k old from new to → StaysTied old new
 kth_tied faults k old from new to d k_tied =
     subst (λ (w : World). tied w.past ≡ true) (sym d.done.world)
     (turned_tied from.is_up old.transaction.value old.world d.step (named_elsewhere old.world d.name d.step d.named) k_tied)
 
-pub stepped_tied : {D : Type 0} (faults : D → ℕ) (k m : ℕ) (old : TxState) (from : LogState D) (new : TxState) (to : LogState D) → Stepped faults k m old from new to → tied old.world.past ≡ true → tied new.world.past ≡ true
+pub stepped_tied : {D : Type 0} (faults : D → ℕ) (k m : ℕ) (old : TxState) (from : LogState D) (new : TxState) (to : LogState D) → Stepped faults k m old from new to → StaysTied old new
 stepped_tied faults k zero old from new to s d = subst (λ (x : TxState). tied x.world.past ≡ true) (sym s.0) d
 stepped_tied faults k (suc m) old from new to s d = kth_tied faults k s.0 s.1 new to s.3 (stepped_tied faults k m old from s.0 s.1 s.2 d)

@@ -1,12 +1,15 @@
 //! Calls, steps and replies that need no log, for a caller that doesn't hold it.
-ghost use Rattle.std.specs.Prelude.{◌≡◌, ◌<◌, ◌&&◌, not, Ok, None, IfOk, OnOk, OnErr, true, false, is_some};
+ghost use Rattle.std.specs.Prelude.{◌≡◌, ◌<◌, ◌&&◌, not, List, Ok, None, IfOk, OnOk, OnErr, true, false, is_some};
 ghost use Rattle.dtx_model.specs.Caused.{MayAnswer};
+ghost use Rattle.dtx_model.specs.Log.{CommitRecord};
 ghost use Rattle.dtx_model.specs.Replies.{due_of};
 ghost use Rattle.dtx_model.specs.Steps.{Calls, Replies, pending};
+ghost use Rattle.dtx_model.specs.Tied.{tied};
 ghost use Rattle.dtx_model.specs.Words.{kth};
 ghost use Rattle.dtx_model.specs.World.{answer_at, half};
 ghost use Rattle.local_half.specs.Half.{fits_due};
 ghost use Rattle.world_laws.specs.Left.{steps_left};
+ghost use Rattle.tx_world.specs.AtLog.{Fits};
 ghost use Rattle.tx_world.specs.OwnCalls.{DoesAlone, DoesKthAlone, is_alone, may_reply_alone};
 ghost use Rattle.tx_world.specs.State.{may_enter};
 ghost use Rattle.tx_world.specs.Stepping.{is_to_promote, needs_log};
@@ -53,6 +56,8 @@ impl TxWorld {
         requires answers { MayAnswer self.old.transaction.value self.old.world c.now 0 }
         ensures answer { IfOk result (λ a. a ≡ answer_at self.old.transaction.value self.old.world c.now 0) }
         ensures done { OnOk result (DoesAlone (Calls line actor c.now 0) self.old self.new) }
+        ensures fits { (rs : List CommitRecord) → Fits self.old rs → Fits self.new rs }
+        ensures tied { tied self.old.world.past ≡ true → tied self.new.world.past ≡ true }
         ensures named { NamesPrepared self.old → NamesPrepared self.new }
         ensures memory { OnErr result (self.new ≡ self.old) }
     {
@@ -80,6 +85,8 @@ impl TxWorld {
         requires alone { is_to_promote (due_of (half self.old.world).seen e.value) ≡ false }
         ensures due { IfOk result (λ b. b ≡ is_some (due_of (half self.old.world).seen e.value)) }
         ensures done { result ≡ Ok true → DoesAlone (Replies e r) self.old self.new }
+        ensures fits { (rs : List CommitRecord) → Fits self.old rs → Fits self.new rs }
+        ensures tied { tied self.old.world.past ≡ true → tied self.new.world.past ≡ true }
         ensures named { NamesPrepared self.old → NamesPrepared self.new }
         ensures unchanged { result ≡ Ok false → self.new ≡ self.old }
         ensures memory { OnErr result (self.new ≡ self.old) }
@@ -99,6 +106,8 @@ impl TxWorld {
         ensures some { result ≡ Ok true → DoesKthAlone k self.old self.new }
         ensures nearer { result ≡ Ok true → steps_left self.new.world < steps_left self.old.world }
         ensures ours { (self.new.ours ≡ self.old.ours) × (self.new.unsure ≡ self.old.unsure) }
+        ensures fits { (rs : List CommitRecord) → Fits self.old rs → Fits self.new rs }
+        ensures tied { tied self.old.world.past ≡ true → tied self.new.world.past ≡ true }
         ensures named { NamesPrepared self.old → NamesPrepared self.new }
         ensures memory { OnErr result (self.new ≡ self.old) }
     {

@@ -1,11 +1,14 @@
 //! The calls that a world is given.
-ghost use Rattle.std.specs.Prelude.{◌≡◌, ◌&&◌, not, IfOk, OnOk, OnErr, true, false};
+ghost use Rattle.std.specs.Prelude.{◌≡◌, ◌&&◌, not, List, IfOk, OnOk, OnErr, true, false};
 ghost use Rattle.dtx_values.specs.declared.entry.Answer.TheVariants.{Fine};
 ghost use Rattle.dtx_model.specs.Facts.{has_facts};
+ghost use Rattle.dtx_model.specs.Log.{CommitRecord};
+ghost use Rattle.dtx_model.specs.Tied.{tied};
 ghost use Rattle.dtx_model.specs.World.{answer_at};
 ghost use Rattle.dtx_model.specs.Steps.{Calls};
 ghost use Rattle.dtx_model.specs.Caused.{MayAnswer};
 ghost use Rattle.world_parts.specs.Entering.{is_near};
+ghost use Rattle.tx_world.specs.AtLog.{Fits};
 ghost use Rattle.tx_world.specs.State.{is_linking, may_enter};
 ghost use Rattle.tx_world.specs.OwnCalls.{DoesAlone};
 ghost use Rattle.tx_world.specs.Stepping.{Does, DoesAt};
@@ -55,6 +58,8 @@ impl TxWorld {
         requires answers { MayAnswer self.old.transaction.value self.old.world c.now done }
         ensures answer { IfOk result (λ a. a ≡ answer_at self.old.transaction.value self.old.world c.now done) }
         ensures done { OnOk result (Does D.faults (Calls line actor c.now done) self.old log.now self.new log.now) }
+        ensures fits { (rs : List CommitRecord) → Fits self.old rs → Fits self.new rs }
+        ensures tied { tied self.old.world.past ≡ true → tied self.new.world.past ≡ true }
         ensures named { NamesPrepared self.old → NamesPrepared self.new }
         ensures memory { OnErr result (self.new ≡ self.old) }
     {

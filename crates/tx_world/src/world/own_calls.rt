@@ -1,12 +1,14 @@
 //! Calls with the steps before them, calls whose steps the caller made, and the status.
-ghost use Rattle.std.specs.Prelude.{ℕ, ◌≡◌, ◌∷◌, IfOk, OnOk, OnErr, IsTrue, true, is_some};
+ghost use Rattle.std.specs.Prelude.{ℕ, ◌≡◌, ◌∷◌, List, IfOk, OnOk, OnErr, IsTrue, true, is_some};
 ghost use Rattle.dtx_values.specs.declared.call.Call.TheVariants.{Status as StatusCall};
 ghost use Rattle.dtx_values.specs.declared.entry.Answer.TheVariants.{Did};
 ghost use Rattle.dtx_values.specs.declared.entry.Entry.TheVariants.{Called};
 ghost use Rattle.dtx_values.specs.declared.number.TxNo.{TxNo};
 ghost use Rattle.dtx_model.specs.Answers.{if_begun};
 ghost use Rattle.dtx_model.specs.Caused.{MayAnswer};
+ghost use Rattle.dtx_model.specs.Log.{CommitRecord};
 ghost use Rattle.dtx_model.specs.Steps.{Calls};
+ghost use Rattle.dtx_model.specs.Tied.{tied};
 ghost use Rattle.dtx_model.specs.World.{answer_at, half};
 ghost use Rattle.coordinator_log.specs.Slots.{open_records};
 ghost use Rattle.tx_world.specs.AtLog.{Fits};
@@ -55,6 +57,8 @@ impl TxWorld {
         requires answers { MayAnswer self.old.transaction.value self.old.world c.now m }
         ensures done { OnOk result (DoesAlone (Calls line actor c.now m) self.old self.new) }
         ensures wrote { is_some (half self.old.world).seen.limit ≡ true → OnOk result (self.new.world.past ≡ Called line actor (Did m) ∷ self.old.world.past) }
+        ensures fits { (rs : List CommitRecord) → Fits self.old rs → Fits self.new rs }
+        ensures tied { tied self.old.world.past ≡ true → tied self.new.world.past ≡ true }
         ensures named { NamesPrepared self.old → NamesPrepared self.new }
         ensures memory { OnErr result (self.new ≡ self.old) }
     {
@@ -77,6 +81,7 @@ impl TxWorld {
         ensures memory { OnErr result (SomeSteps D.faults (place_of c.now) self.old log.old self.new log.new) }
         ensures transaction { self.new.transaction ≡ self.old.transaction }
         ensures leaves { Leaves D.honest D.image D.faults self.old log.old self.new log.new }
+        ensures tied { tied self.old.world.past ≡ true → tied self.new.world.past ≡ true }
     {
         match *c {
             Call::Do(_, k, n) => {
@@ -112,6 +117,7 @@ impl TxWorld {
         ensures memory { OnErr result (SomeSteps D.faults (place_of c.now) self.old log.old self.new log.new) }
         ensures transaction { self.new.transaction ≡ self.old.transaction }
         ensures leaves { Leaves D.honest D.image D.faults self.old log.old self.new log.new }
+        ensures tied { tied self.old.world.past ≡ true → tied self.new.world.past ≡ true }
     {
         let done = self.prepare(log, out, c)?;
         self.enter(log, out, actor, line, c, done)

@@ -2,6 +2,7 @@
 ghost use Rattle.std.specs.Prelude.{◌≡◌, ◌<◌, Ok, None, IfOk, OnErr, IsTrue, true, false};
 ghost use Rattle.dtx_model.specs.Words.{kth};
 ghost use Rattle.dtx_model.specs.Steps.{pending};
+ghost use Rattle.dtx_model.specs.Tied.{tied};
 ghost use Rattle.coordinator_log.specs.Slots.{open_records};
 ghost use Rattle.tx_world.specs.AtLog.{Fits};
 ghost use Rattle.world_laws.specs.Left.{steps_left};
@@ -32,6 +33,7 @@ impl TxWorld {
         ensures some { result ≡ Ok true → DoesKth D.faults k self.old log.old self.new log.new }
         ensures nearer { result ≡ Ok true → steps_left self.new.world < steps_left self.old.world }
         ensures leaves { Leaves D.honest D.image D.faults self.old log.old self.new log.new }
+        ensures tied { tied self.old.world.past ≡ true → tied self.new.world.past ≡ true }
         ensures memory { OnErr result ((self.new ≡ self.old) × (log.new ≡ log.old)) }
     {
         self.is_own_run();
@@ -51,6 +53,7 @@ impl TxWorld {
         ensures memory { OnErr result (SomeSteps D.faults k self.old log.old self.new log.new) }
         ensures transaction { self.new.transaction ≡ self.old.transaction }
         ensures leaves { Leaves D.honest D.image D.faults self.old log.old self.new log.new }
+        ensures tied { tied self.old.world.past ≡ true → tied self.new.world.past ≡ true }
     {
         let mut count = 0;
         while count < n {
@@ -73,6 +76,7 @@ impl TxWorld {
         ensures memory { OnErr result (SomeSteps D.faults 1 self.old log.old self.new log.new) }
         ensures transaction { self.new.transaction ≡ self.old.transaction }
         ensures leaves { Leaves D.honest D.image D.faults self.old log.old self.new log.new }
+        ensures tied { tied self.old.world.past ≡ true → tied self.new.world.past ≡ true }
     {
         let count = self.repeat(log, out, 1, u32::MAX)?;
         if count == u32::MAX {

@@ -1,12 +1,15 @@
 //! The steps of the local side.
-ghost use Rattle.std.specs.Prelude.{◌≡◌, Ok, Some, IfOk, OnErr, true, false, is_some, not};
+ghost use Rattle.std.specs.Prelude.{◌≡◌, List, Ok, Some, IfOk, OnErr, true, false, is_some, not};
 ghost use Rattle.dtx_model.specs.Acts.{act_entries};
+ghost use Rattle.dtx_model.specs.Log.{CommitRecord};
 ghost use Rattle.dtx_model.specs.Outcome.{is_empty};
 ghost use Rattle.dtx_model.specs.Replies.{due_of};
+ghost use Rattle.dtx_model.specs.Tied.{tied};
 ghost use Rattle.dtx_model.specs.World.{half};
 ghost use Rattle.dtx_model.specs.Words.{kth};
 ghost use Rattle.dtx_model.specs.Steps.{Acts, LocalAct, Replies, pending};
 ghost use Rattle.local_half.specs.Half.{fits_due};
+ghost use Rattle.tx_world.specs.AtLog.{Fits};
 ghost use Rattle.tx_world.specs.OwnCalls.{DoesAlone};
 ghost use Rattle.tx_world.specs.Stepping.{Does, DoesAt};
 ghost use Rattle.tx_world.specs.Prepared.{NamesPrepared};
@@ -34,6 +37,8 @@ impl TxWorld {
         requires fits { fits_due r (due_of (half self.old.world).seen e.value) ≡ true }
         ensures due { IfOk result (λ b. b ≡ is_some (due_of (half self.old.world).seen e.value)) }
         ensures done { result ≡ Ok true → Does D.faults (Replies e r) self.old log.now self.new log.now }
+        ensures fits { (rs : List CommitRecord) → Fits self.old rs → Fits self.new rs }
+        ensures tied { tied self.old.world.past ≡ true → tied self.new.world.past ≡ true }
         ensures named { NamesPrepared self.old → NamesPrepared self.new }
         ensures unchanged { result ≡ Ok false → self.new ≡ self.old }
         ensures memory { OnErr result (self.new ≡ self.old) }

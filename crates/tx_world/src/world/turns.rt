@@ -104,6 +104,7 @@ impl TxWorld {
     }
 
     /// Does the k-th pending step, from 1, as [`TxWorld::step`] does.
+    #[tactic(auto, using(crate::proofs::Alone::kth_beside))]
     pub(super) fn step_kth<D: Disk>(
         &mut self,
         log: &mut Log<D>,

@@ -7,6 +7,7 @@ use Rattle.tx_world.proofs.Naming.{named_ok}
 use Rattle.std.proofs.Common.{refl, true}
 use Rattle.dtx_model.specs.Steps.{Calls}
 use Rattle.tx_world.proofs.Unlogged.{ok_at_alone}
+use Rattle.tx_world.proofs.StillTied.{alone_tied, ok_tied}
 use Rattle.tx_world.proofs.world.TxWorld.did.Goals as goal
 
 pub write_alone-entered-requires-clause-answer : goal.write_alone-entered-requires-clause-answer
@@ -30,3 +31,10 @@ returns-clause-named c =
     let new = c.write_alone-entered.new.self in
     named_ok c.write_alone-entered.result true 0 m c.args.self.now new refl c.is_own_run.ensures.ours c.is_own_run-2.ensures.run
     (ok_at_alone c.write_alone-entered.result true 0 m c.args.self.now new c.write_alone-entered.ensures.done) c.write_alone-entered.ensures.memory
+
+-- what its restarts found stays tied to what was appended
+pub returns-clause-tied : goal.returns-clause-tied
+returns-clause-tied c =
+    let m = Calls c.args.line c.args.actor c.args.c.now c.args.m in
+    let new = c.write_alone-entered.new.self in
+    ok_tied c.write_alone-entered.result c.args.self.now new (alone_tied m c.args.self.now new refl) c.write_alone-entered.ensures.done c.write_alone-entered.ensures.memory

@@ -25,7 +25,8 @@ loop-count-preserved g c =
       leaves_on c.args.self.now c.loop-count.self c.step.new.self c.args.log.now c.loop-count.log c.step.new.log was.2 was.1 c.step.ensures.leaves,
       did.done.transaction ∙ was.2,
       omega arith,
+      λ k. c.step.ensures.tied (was.4 k),
     )
 
 pub loop-count-init : goal.loop-count-init
-loop-count-init g c = ((refl, refl), leaves_same c.args.self.now c.args.self.now c.args.log.now c.args.log.now c.requires.fits (refl, refl), refl, omega arith)
+loop-count-init g c = ((refl, refl), leaves_same c.args.self.now c.args.self.now c.args.log.now c.args.log.now c.requires.fits (refl, refl), refl, omega arith, λ k. k)
