@@ -1,4 +1,7 @@
 //! The round after the log was stopped or opened.
+ghost use Rattle.std.specs.Prelude.{IfErr};
+ghost use Rattle.tx_cells.specs.Ties.{HasCause};
+
 use crate::holds::{is_of, tell};
 use outside::Disk;
 use std::alloc::Global;
@@ -11,7 +14,9 @@ fn hear<D: Disk, N: Run, R: Wait>(
     alloc: Global,
     cell: &TxCell<N>,
     log: &SharedLog<D, N>,
-) -> Result<(), TurnError> {
+) -> Result<(), TurnError>
+    ensures { IfErr result HasCause }
+{
     let mut state = cell.state().lock(rt);
     is_of(&state, cell.t())?;
     let held = log.state().lock(rt);
@@ -26,7 +31,9 @@ pub fn go_round<D: Disk, N: Run, R: Wait>(
     alloc: Global,
     cells: &Cells<N>,
     log: &SharedLog<D, N>,
-) -> Result<(), TurnError> {
+) -> Result<(), TurnError>
+    ensures { IfErr result HasCause }
+{
     for cell in cells.all() {
         hear(rt, alloc, cell, log)?;
     }

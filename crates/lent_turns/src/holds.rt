@@ -9,6 +9,7 @@ ghost use Rattle.tx_cells.specs.Ties.{IsCause};
 ghost use Rattle.tx_cells.specs.Turns.{with_tx};
 ghost use Rattle.lent_turns.specs.Turning.{MayFail};
 
+use crate::shared::unlent_mut;
 use dtx_values::{Differs, EnlNo, Note, TxNo};
 use outside::Disk;
 use std::alloc::Global;
@@ -63,22 +64,20 @@ pub fn tell<N: Run>(
 }
 
 /// Does the k-th pending step, from 1, inside the locks of its transaction and of the log.
-#[tactic(auto, using(tx_cells::proofs::EitherWay::kth_over))]
 fn do_over<D: Disk, N: Run>(
     state: &mut CellState<N>,
     log: &mut LogState<D, N>,
     k: u32,
 ) -> Result<Came, TurnError>
-    ensures none { result ≡ Ok Came.Nothing → (kth (pending state.old.tx.world) k ≡ None) × (state.new ≡ state.old) × (log.new ≡ log.old) }
-    ensures done { result ≡ Ok Came.Done → IsKthDone k state.old.tx state.new.tx × (log.new.log.is_up ≡ log.old.log.is_up) }
+    ensures none { result ≡ Ok Came.Nothing → (kth (pending state.old.tx.world) k ≡ None) × (state.new ≡ state.old) }
+    ensures done { result ≡ Ok Came.Done → IsKthDone k state.old.tx state.new.tx × (IsTrue log.old.log.is_up → IsTrue log.new.log.is_up) }
     ensures stopped { result ≡ Ok Came.Stopped → IsKthDone k state.old.tx state.new.tx × IsTrue log.old.log.is_up × (log.new.log.is_up ≡ false) }
     ensures never { (e : EnlNo) (n : Note) → result ≢ Ok (Came.Out e n) }
     ensures same { state.new ≡ with_tx state.new.tx state.old }
-    ensures life { log.new.log.life ≡ log.old.log.life }
-    ensures cause { IfErr result (λ e. ((e ≡ TurnError.Memory) ⊎ IsCause state.old.tx log.old.log e) × (state.new ≡ state.old) × (log.new ≡ log.old)) }
+    ensures cause { IfErr result (λ e. ((e ≡ TurnError.Memory) ⊎ IsCause state.old.tx log.old.log e) × (state.new ≡ state.old)) }
 {
     let was_up = log.is_up();
-    if !state.do_step_with(log, k)? {
+    if !state.do_step(Some(&mut *log), k)? {
         return Ok(Came::Nothing);
     }
     if was_up && !log.is_up() {
@@ -89,7 +88,6 @@ fn do_over<D: Disk, N: Run>(
 }
 
 /// Does the k-th pending step, from 1, inside the lock of its transaction. A step that needs the log takes the lock of the log for as long.
-#[tactic(auto, using(tx_cells::proofs::EitherWay::kth_alone))]
 pub(crate) fn do_turn<D: Disk, N: Run, R: Wait>(
     rt: &R,
     state: &mut CellState<N>,
@@ -104,7 +102,7 @@ pub(crate) fn do_turn<D: Disk, N: Run, R: Wait>(
     ensures cause { IfErr result (λ e. MayFail D state.old.tx e × (state.new ≡ state.old)) }
 {
     if !state.needs_log(k) {
-        let is_done = state.do_step_alone(k)?;
+        let is_done = state.do_step(unlent_mut(log), k)?;
         return Ok(if is_done { Came::Done } else { Came::Nothing });
     }
     let mut held = log.state().lock(rt);

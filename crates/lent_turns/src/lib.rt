@@ -9,5 +9,5 @@ mod turning;
 
 pub use hearing::go_round;
 pub use holds::{Came, is_of, tell};
-pub use shared::SharedRun;
+pub use shared::{SharedRun, unlent};
 pub use turning::{begin_turn, end_turn};

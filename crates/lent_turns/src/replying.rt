@@ -5,13 +5,14 @@ ghost use Rattle.dtx_model.specs.Words.{kth};
 ghost use Rattle.tx_cells.specs.Cell.{MayReply};
 ghost use Rattle.tx_cells.specs.Entering.{IsDone, IsKthDone};
 ghost use Rattle.tx_cells.specs.TakingBack.{TakesBack};
+ghost use Rattle.tx_cells.specs.Ties.{HasCause};
 ghost use Rattle.tx_cells.specs.Turns.{is_due, is_that, unmarked, with_tx};
 ghost use Rattle.lent_turns.specs.Turning.{MayFail};
 ghost use Rattle.tx_world.specs.Stepping.{reply_in};
 
 use crate::hearing::go_round;
 use crate::holds::{Came, do_turn, is_of, tell};
-use crate::shared::SharedRun;
+use crate::shared::{SharedRun, unlent};
 use dtx_values::{EnlNo, Note, Reply, TxNo};
 use outside::{Disk, Gate};
 use script_calls::fits;
@@ -28,7 +29,8 @@ fn ask<D: Disk, G: Gate, N: Run, R: Wait>(
     n: Note,
 ) -> Option<Reply>
     requires { length run.now.resources.now ≡ N.objects }
-    ensures { IfSome result (λ r. MayReply N.script N.objects e n r) }
+    ensures right { IfSome result (λ r. MayReply N.script N.objects e n r) }
+    ensures given { IfSome result (λ r. (object : _) × (after : _) × gives object t e n (Some r) after) }
 {
     let rm = run.cells.manager(e)?;
     let object = run.resources.get(rm.index())?;
@@ -38,7 +40,6 @@ fn ask<D: Disk, G: Gate, N: Run, R: Wait>(
 }
 
 /// Takes back this reply of the enlistment to the note, inside the lock of its transaction. False where it isn't pending any more, and then only the mark goes. A reply to Promote takes the lock of the log for as long.
-#[tactic(auto, using(tx_cells::proofs::EitherWay::taken_alone, tx_cells::proofs::EitherWay::taken_over))]
 fn take_given<D: Disk, N: Run, R: Wait>(
     rt: &R,
     state: &mut CellState<N>,
@@ -52,10 +53,10 @@ fn take_given<D: Disk, N: Run, R: Wait>(
     ensures cause { IfErr result (λ x. MayFail D state.old.tx x × (state.new.tx ≡ state.old.tx)) }
 {
     if n != Note::Promote {
-        return state.take_back_alone(e, n, r);
+        return state.take_back(unlent(log), e, n, r);
     }
     let held = log.state().lock(rt);
-    state.take_back_with(&held, e, n, r)
+    state.take_back(Some(&held), e, n, r)
 }
 
 /// Takes back the reply of the enlistment to this note, inside the lock of its transaction: this one, or else the planned one. Nothing is done where it isn't pending any more, and then only the mark goes. A reply to
@@ -97,6 +98,7 @@ pub(crate) fn bring_back<D: Disk, G: Gate, N: Run, R: Wait>(
     n: Note,
 ) -> Result<(), TurnError>
     requires { length run.now.resources.now ≡ N.objects }
+    ensures { IfErr result HasCause }
 {
     let t = cell.t();
     let reply = ask(rt, run, t, e, n);

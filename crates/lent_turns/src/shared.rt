@@ -1,10 +1,10 @@
 //! What the threads of a run share.
-ghost use Rattle.std.specs.Prelude.{◌≡◌};
+ghost use Rattle.std.specs.Prelude.{◌≡◌, None};
 
 use dtx_values::Resource;
 use outside::{Disk, Gate};
 use std::sync::Mutex;
-use tx_cells::{Cells, Run, SharedLog};
+use tx_cells::{Cells, LogState, Run, SharedLog};
 
 /// What the threads of a run share: its transactions, its log, the gate before each reply, and the objects of its first managers, each in a lock.
 #[derive(Drop)]
@@ -36,4 +36,20 @@ impl<'a, D: Disk, G: Gate, N: Run> SharedRun<'a, D, G, N> {
             resources,
         }
     }
+}
+
+/// What a call of a transaction's state is lent of the log where it needs none of it.
+pub fn unlent<'a, D: Disk, N: Run>(_log: &'a SharedLog<D, N>) -> Option<&'a LogState<D, N>>
+    ensures { result ≡ None }
+{
+    None
+}
+
+/// The same, where the call would change the log.
+pub(crate) fn unlent_mut<'a, D: Disk, N: Run>(
+    _log: &'a SharedLog<D, N>,
+) -> Option<&'a mut LogState<D, N>>
+    ensures { result ≡ None }
+{
+    None
 }

@@ -3,6 +3,7 @@ ghost use Rattle.std.specs.Prelude.{◌≡◌, IfErr, IfOk, IsSome, Ok, OnOk, So
 ghost use Rattle.dtx_model.specs.Entries.{client_told_of};
 ghost use Rattle.dtx_model.specs.Words.{latest};
 ghost use Rattle.tx_cells.specs.Board.{Post};
+ghost use Rattle.tx_cells.specs.Ties.{HasCause};
 ghost use Rattle.tx_cells.specs.Turns.{turn_of};
 ghost use Rattle.tx_cells.specs.declared.turns.Turn.{Turn};
 ghost use Rattle.lent_turns.specs.Turning.{HasStepped, MayFail, is_turned, marked};
@@ -74,7 +75,8 @@ pub fn end_turn<D: Disk, G: Gate, N: Run, R: Wait>(
     came: Came,
 ) -> Result<bool, TurnError>
     requires { length run.now.resources.now ≡ N.objects }
-    ensures { IfOk result (λ b. b ≡ is_turned came) }
+    ensures turned { IfOk result (λ b. b ≡ is_turned came) }
+    ensures cause { IfErr result HasCause }
 {
     match came {
         Came::Nothing => return Ok(false),

@@ -24,7 +24,7 @@ use Rattle.dtx_model.specs.Waiting.{Waiter, call_at, waiter_line, waiting, wante
 use Rattle.dtx_model.specs.Steps.{Step}
 use Rattle.dtx_model.specs.World.{World}
 use Rattle.dtx_model.specs.Grammar.{are_named_well}
-use Rattle.dtx_model.specs.Caused.{Caused, IsCallOf, Ran, entered_in, plans_of}
+use Rattle.dtx_model.specs.Caused.{FreelyCaused, IsCallOf, Ran, entered_in, plans_of}
 use Rattle.history_table.specs.Waited.{AreCallsAnswered, is_answer_of, waiting_line}
 use Rattle.dtx_model.specs.History.{is_silent_to_promote, is_still_lost}
 use Rattle.dtx_model.proofs.Bools.{and_both, and_left, not_both, or_case, or_right}
@@ -139,8 +139,8 @@ abbrev pub are_all_answered : List Entry → Bool
 are_all_answered h = each (λ n. has (is_answer_of n) h) (all_of waiting_line h)
 
 -- Each waiting call is answered: by the decision where there is one; else the promotion is over, and so is each enlistment that waited for it.
-pub calls_answered : (s : List Line) (k t : ℕ) (h : List Entry) → are_named_well s ≡ true → Caused s k t h → has is_stop h ≡ false → AreCallsAnswered s h
-calls_answered s k t h named c running = λ settled. began (settled_run s k t h named c running settled) (has is_promoting h) refl
+pub calls_answered : (s : List Line) (t : ℕ) (h : List Entry) → are_named_well s ≡ true → FreelyCaused (IsCallOf s t) t h → has is_stop h ≡ false → AreCallsAnswered s h
+calls_answered s t h named c running = λ settled. began (settled_run s t h named c running settled) (has is_promoting h) refl
   where
     silent : Bool
     silent = is_one_silent s h

@@ -106,4 +106,4 @@ commits_named = refl
 
 -- so the law says of it that its client was told
 commits_told : has (is_client_told Committed) (past_of commits_history) ≡ true
-commits_told = settled_told commits_lines 0 1 (past_of commits_history) commits_named commits_caused commits_settled commits_can
+commits_told = settled_told commits_lines 1 (past_of commits_history) commits_named commits_caused.freely commits_settled commits_can

@@ -15,7 +15,7 @@ use Rattle.dtx_model.specs.Tied.{is_stop, tied}
 use Rattle.dtx_model.specs.Steps.{deliveries_on}
 use Rattle.dtx_model.specs.World.{World}
 use Rattle.dtx_model.specs.Grammar.{are_named_well}
-use Rattle.dtx_model.specs.Caused.{Caused, IsCallOf, Settled, entered_in}
+use Rattle.dtx_model.specs.Caused.{FreelyCaused, IsCallOf, Settled, entered_in}
 use Rattle.dtx_model.specs.History.{IsToldOrWaits, is_waiting}
 use Rattle.dtx_model.proofs.Bools.{not_both, three_hold}
 use Rattle.history_table.specs.Waited.{AreCallsAnswered}
@@ -51,30 +51,30 @@ stop_decides h k going delivered stopped = true_from_ne_false (has is_decision h
         (three_hold (has is_yes h) (has (is_end_on Begin Down) h) (has (is_end_on Voter Down) h) said begin_seen (voter_seen said)) u.certain
 
 -- so it is in a settled history of a script
-stopped_decided : (s : List Line) (k t : ℕ) (h : List Entry) → are_named_well s ≡ true → Caused s k t h → tied h ≡ true → Settled s h → has is_stop h ≡ true → has is_decision h ≡ true
-stopped_decided s k t h named c tie settled stopped =
+stopped_decided : (s : List Line) (t : ℕ) (h : List Entry) → are_named_well s ≡ true → FreelyCaused (IsCallOf s t) t h → tied h ≡ true → Settled s h → has is_stop h ≡ true → has is_decision h ≡ true
+stopped_decided s t h named c tie settled stopped =
     let G = IsCallOf s t in
-    let steps = c.freely.1.0 in
-    let w : World = record { calls = c.freely.0; past = h } in
+    let steps = c.1.0 in
+    let w : World = record { calls = c.0; past = h } in
     let once = script_once s t named in
-    stop_decides h (run_keeps G t steps w once c.freely.1.1 tie) (ran_goes G t steps w once c.freely.1.1 tie) (idle (entered_in s h) h settled).undelivered stopped
+    stop_decides h (run_keeps G t steps w once c.1.1 tie) (ran_goes G t steps w once c.1.1 tie) (idle (entered_in s h) h settled).undelivered stopped
 
 -- Where the commit was asked for, the client was told, or there is something that it waits for.
-pub told_settled : (s : List Line) (k t : ℕ) (h : List Entry) → are_named_well s ≡ true → Caused s k t h → tied h ≡ true → IsToldOrWaits s h
-told_settled s k t h named c tie = λ settled asked. by settled asked (has is_stop h) refl
+pub told_settled : (s : List Line) (t : ℕ) (h : List Entry) → are_named_well s ≡ true → FreelyCaused (IsCallOf s t) t h → tied h ≡ true → IsToldOrWaits s h
+told_settled s t h named c tie = λ settled asked. by settled asked (has is_stop h) refl
   where
     by : Settled s h → has is_commit h ≡ true → (b : Bool) → has is_stop h ≡ b → (is_some (latest client_told_of h) || is_waiting s h) ≡ true
     by settled asked true q =
         or_left (is_some (latest client_told_of h)) (is_waiting s h)
-        (told_decided (entered_in s h) h (idle (entered_in s h) h settled).act (stopped_decided s k t h named c tie settled q))
-    by settled asked false q = told_promoted s k t h named c q settled asked
+        (told_decided (entered_in s h) h (idle (entered_in s h) h settled).act (stopped_decided s t h named c tie settled q))
+    by settled asked false q = told_promoted s t h named c q settled asked
 
 -- Each call that had to wait got its answer, or an enlistment that was asked to promote stays silent.
-pub waits_answered : (s : List Line) (k t : ℕ) (h : List Entry) → are_named_well s ≡ true → Caused s k t h → tied h ≡ true → AreCallsAnswered s h
-waits_answered s k t h named c tie = λ settled. by settled (has is_stop h) refl
+pub waits_answered : (s : List Line) (t : ℕ) (h : List Entry) → are_named_well s ≡ true → FreelyCaused (IsCallOf s t) t h → tied h ≡ true → AreCallsAnswered s h
+waits_answered s t h named c tie = λ settled. by settled (has is_stop h) refl
   where
     by : Settled s h → (b : Bool) → has is_stop h ≡ b → (are_all_answered h || is_one_silent s h) ≡ true
     by settled true q =
         or_left (are_all_answered h) (is_one_silent s h)
-        (decided_answered (IsCallOf s t) t c.freely.1.0 (record { calls = c.freely.0; past = h }) c.freely.1.1 (stopped_decided s k t h named c tie settled q))
-    by settled false q = calls_answered s k t h named c q settled
+        (decided_answered (IsCallOf s t) t c.1.0 (record { calls = c.0; past = h }) c.1.1 (stopped_decided s t h named c tie settled q))
+    by settled false q = calls_answered s t h named c q settled

@@ -32,7 +32,7 @@ use Rattle.dtx_model.specs.Replies.{owes_promotion, may_still_vote, due_of, name
 use Rattle.dtx_model.specs.Steps.{Step}
 use Rattle.dtx_model.specs.World.{World}
 use Rattle.dtx_model.specs.Grammar.{OfEnlistment, are_named_well}
-use Rattle.dtx_model.specs.Caused.{AreMadeOnce, IsCallOf, Ran, entered_in, plans_of, Caused, Settled}
+use Rattle.dtx_model.specs.Caused.{AreMadeOnce, IsCallOf, Ran, entered_in, plans_of, FreelyCaused, Settled}
 use Rattle.dtx_model.specs.History.{is_silent_to_promote, is_still_lost, is_silent, IsToldOrWaits, is_waiting}
 use Rattle.dtx_model.proofs.Bools.{not_both, or_second, and_left, and_right, and_both, not_false, not_true, or_first, or_right}
 use Rattle.dtx_model.proofs.Local.{free-local}
@@ -205,15 +205,15 @@ unowed_of p h m once f j q voters unanswered d =
     cast : (e : EnlNo) → is_lost_wire (Enl e) h ≡ true → has (is_vote e.value) h ≡ true
     cast e l = vote_cast e h m.table (j.cast e l)
 
-pub settled_run : (s : List Line) (k t : ℕ) (h : List Entry) → are_named_well s ≡ true → Caused s k t h → has is_stop h ≡ false → Settled s h → IsSettledRun s t h
-settled_run s k t h named c running settled =
+pub settled_run : (s : List Line) (t : ℕ) (h : List Entry) → are_named_well s ≡ true → FreelyCaused (IsCallOf s t) t h → has is_stop h ≡ false → Settled s h → IsSettledRun s t h
+settled_run s t h named c running settled =
     let G = IsCallOf s t in
-    let calls = c.freely.0 in
-    let steps = c.freely.1.0 in
+    let calls = c.0 in
+    let steps = c.1.0 in
     let w : World = record { calls = calls; past = h } in
-    let ran = c.freely.1.1 in
+    let ran = c.1.1 in
     let once = script_once s t named in
-    let tie = unstopped_tied G t h c.freely running in
+    let tie = unstopped_tied G t h c running in
     let stands = (run_steady G t steps w once ran tie).stands in
     let keeps = stands.keeps in
     let more = run_rows G t steps w ran keeps in
@@ -346,8 +346,8 @@ none_silent s t h r quiet = λ i x e there.
     (heeded (plans_of s x.number.value) h i x keeps e there (none_row (λ n. is_silent (plans_of s n) h n) h i x quiet e))
 
 -- Where the coordinator didn't stop: a settled history in which the commit was asked for, promoted or not. Where it waits for nothing, it is at rest; so its client was told.
-pub told_promoted : (s : List Line) (k t : ℕ) (h : List Entry) → are_named_well s ≡ true → Caused s k t h → has is_stop h ≡ false → IsToldOrWaits s h
-told_promoted s k t h named c running = λ settled asked. by settled asked (has is_promoting h) refl
+pub told_promoted : (s : List Line) (t : ℕ) (h : List Entry) → are_named_well s ≡ true → FreelyCaused (IsCallOf s t) t h → has is_stop h ≡ false → IsToldOrWaits s h
+told_promoted s t h named c running = λ settled asked. by settled asked (has is_promoting h) refl
   where
     same_entry : (x : Entry) → is_promoting x ≡ true → is_promoting x ≡ true
     same_entry (Promoting c) k = k
@@ -366,9 +366,9 @@ told_promoted s k t h named c running = λ settled asked. by settled asked (has 
     by : Settled s h → has is_commit h ≡ true → (b : Bool) → has is_promoting h ≡ b → (is_some (latest client_told_of h) || is_waiting s h) ≡ true
     by settled asked true q =
         waits (is_waiting s h) refl
-        (λ n. told_at_rest (entered_in s h) h (rests (settled_run s k t h named c running settled) (has_more is_promoting is_promoting same_entry h q) asked n))
+        (λ n. told_at_rest (entered_in s h) h (rests (settled_run s t h named c running settled) (has_more is_promoting is_promoting same_entry h q) asked n))
     by settled asked false q =
-        let kept = script_kept s t h named c.freely (ap not q) in
-        let home = free-local (IsCallOf s t) t h c.freely (ap not q) in
-        let run = free_run (IsCallOf s t) t h c.freely (ap not q) in
+        let kept = script_kept s t h named c (ap not q) in
+        let home = free-local (IsCallOf s t) t h c (ap not q) in
+        let run = free_run (IsCallOf s t) t h c (ap not q) in
         told_or_waits s h kept (settled_act s t h named run home kept.rules settled) (settled_unplanned s t h named run home kept.rules settled) asked

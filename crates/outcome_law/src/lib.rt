@@ -3,7 +3,7 @@
 //! Each law is a public function with an empty body. It does nothing when it runs. A caller calls it for its contract: after the call the
 //! proof of the caller has the law. Where a law is of histories in which each restart found what may be found, its clause says so by `tied`; where it is
 //! of those in which nothing is promoted, by the scan `is_unpromoted`, or `is_local_trace` of a whole trace, in which
-//! nothing stands at the log either.
+//! nothing stands at the log either; and where it is of those in which the log did each append and each free, by `is_log_sound`.
 #![tactic(auto)]
 
 ghost use Rattle.std.specs.Prelude.{◌≡◌, ◌||◌, ℕ, suc, true, false, List, ◌∷◌, ◌++◌, Bool, Some, length, slice_get};
@@ -41,6 +41,7 @@ ghost use Rattle.dtx_model.specs.Replay.{IsReplayed, LinesRan, due_calls};
 ghost use Rattle.dtx_model.specs.History.{AreAnswered, CanCommit, IsHistory, IsReplay, IsToldOrWaits};
 ghost use Rattle.dtx_model.specs.Grammar.{are_named_well};
 ghost use Rattle.history_table.specs.Appended.{backs_append, has_append, is_abort_decision, is_barred, stopped_at_append};
+ghost use Rattle.script_histories.specs.LogQuiet.{is_log_sound};
 ghost use Rattle.settled_histories.specs.Stopped.{is_outcome_withheld, restarts_without_evidence};
 ghost use Rattle.history_table.specs.Waited.{AreCallsAnswered};
 
@@ -101,19 +102,20 @@ pub fn crossings()
 /// A settled transaction that can commit is committed, promoted or not: its client was told so. Whatever was lost, enlistments and connections, and however often the
 /// coordinator stopped and was started again, where each restart found what may be found: if commit was asked, the client was told some outcome, or a blocking clone is
 /// open, or an enlistment whose reply is needed plans none; each enlistment that came back was told, unless that was broken off, or nothing is decided at the coordinator;
-/// and each call that had to wait was answered, or an enlistment that was asked to promote plans no reply to that.
+/// and each call that had to wait was answered, or an enlistment that was asked to promote plans no reply to that. Freely: whatever each reply is.
 pub fn completeness()
-    ensures told { (s : List Line) (k t : ℕ) (h : List Entry) → are_named_well s ≡ true → Caused s k t h → tied h ≡ true → IsToldOrWaits s h }
-    ensures committed { (s : List Line) (k t : ℕ) (h : List Entry) → are_named_well s ≡ true → Caused s k t h → Settled s h → CanCommit s h
+    ensures told { (s : List Line) (t : ℕ) (h : List Entry) → are_named_well s ≡ true → FreelyCaused (IsCallOf s t) t h → tied h ≡ true → IsToldOrWaits s h }
+    ensures committed { (s : List Line) (t : ℕ) (h : List Entry) → are_named_well s ≡ true → FreelyCaused (IsCallOf s t) t h → Settled s h → CanCommit s h
         → has (is_client_told Committed) h ≡ true }
-    ensures answered { (s : List Line) (k t : ℕ) (h : List Entry) → are_named_well s ≡ true → Caused s k t h → tied h ≡ true → AreAnswered s h }
-    ensures waited { (s : List Line) (k t : ℕ) (h : List Entry) → are_named_well s ≡ true → Caused s k t h → tied h ≡ true → AreCallsAnswered s h }
+    ensures answered { (s : List Line) (t : ℕ) (h : List Entry) → are_named_well s ≡ true → FreelyCaused (IsCallOf s t) t h → tied h ≡ true → AreAnswered s h }
+    ensures waited { (s : List Line) (t : ℕ) (h : List Entry) → are_named_well s ≡ true → FreelyCaused (IsCallOf s t) t h → tied h ≡ true → AreCallsAnswered s h }
 {}
 
 /// What a replay does in its order, promoted or not, whatever stops of the log and restarts come, is caused by its script in each transaction where its
 /// replies are as planned, is at each context what its actor's lines write there, has each line's call exactly once at each of its places and in order, and
-/// its transactions follow the log. Where the lines before it ran, a line was called nowhere, and what its call makes is new. Where nothing is promoted and
-/// nothing stands at the log, a script has one trace. The trace is read newest first, but for the last clause.
+/// its transactions follow the log. Where the lines before it ran, a line was called nowhere, and what its call makes is new. Promoted or not, a script has one trace
+/// in which the log is sound: it was never stopped, nor opened again, and no append found it full. And so it is where nothing is promoted and nothing stands at the
+/// log. The trace is read newest first, but for the last two clauses.
 pub fn replay()
     ensures caused { (s : List Line) (T : List Placed) → IsReplayed s T → (k : ℕ)
         → ((t : TxNo) → always (is_as_planned (plans_of s) (has_object s k)) (history t.value T) ≡ true) → (t : TxNo) → Caused s k t.value (history t.value T) }
@@ -125,7 +127,8 @@ pub fn replay()
     ensures fresh { (s xs ys : List Line) (l : Line) (T : List Placed) (t : TxNo) (c : Call) → s ≡ xs ++ l ∷ ys → are_named_well s ≡ true → LinesRan s (past_of xs) T
         → call_of s l.body ≡ Some (t, c) → is_new (observe (history t.value T)) c ≡ true }
     ensures determined { (s : List Line) (T U : List Placed) (rise : ℕ) (honest : Bool) → IsHistory s 0 rise T → IsReplay s rise honest T
-        → IsHistory s 0 rise U → IsReplay s rise honest U → is_local_trace T ≡ true → is_local_trace U ≡ true → T ≡ U }
+        → IsHistory s 0 rise U → IsReplay s rise honest U → is_log_sound T ≡ true → is_log_sound U ≡ true → T ≡ U }
+    ensures sound { (s : List Line) (k rise : ℕ) (T : List Placed) → IsHistory s k rise T → is_local_trace T ≡ true → is_log_sound T ≡ true }
 {}
 
 /// The tables of a history that a script's lines cause say what its entries say, promoted or not: of each enlistment, whether it was told and is lost, and of

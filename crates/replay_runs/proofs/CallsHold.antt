@@ -34,6 +34,7 @@ use Rattle.replay_runs.proofs.Fitting.{fits_as, had_as}
 use Rattle.replay_runs.proofs.Goes.{goes_step}
 use Rattle.replay_runs.proofs.Noting.{history_here, history_there, trace_noted}
 use Rattle.replay_runs.proofs.Numbered.{is_it, state_here, state_reached, state_there}
+use Rattle.replay_runs.proofs.NeverFull.{unfilled_written}
 use Rattle.replay_runs.proofs.Telling.{is_untelling, tells_block}
 use Rattle.replay_runs.proofs.Turns.{IsOwn, own_at, turn_here, turned_past, written}
 use Rattle.replay_runs.proofs.Tying.{right_written, tied_same}
@@ -151,7 +152,8 @@ pub entered_tells : {D : Type 0} (faults : D → ℕ) (honest : Bool) (image : D
     → Entered faults log t n a c m x y old new → Tells faults honest image start log (past_of old.trace) → Tells faults honest image start log (past_of new.trace)
 entered_tells faults honest image start log t n a c m x y old new e k =
     subst (Tells faults honest image start log) (sym e.block)
-    (tells_block faults honest image start log (past_of old.trace) t (written log.is_up t.value x.world (Calls n a c m)) (untelling_call log.is_up t.value x.world n a c m) k)
+    (tells_block faults honest image start log (past_of old.trace) t (written log.is_up t.value x.world (Calls n a c m)) (untelling_call log.is_up t.value x.world n a c m)
+    (λ is empty. unfilled_written log.is_up t.value x.world (Calls n a c m) (λ e. cc)) k)
 
 -- and the call is a turn.
 pub entered_turn : {D : Type 0} (faults : D → ℕ) (honest : Bool) (image : D → List ℕ → Type 0) (log : LogState D) (t : TxNo) (n : ℕ) (a : ActorNo) (c : Call) (m : ℕ) (x y : TxState) (old new : RunState)

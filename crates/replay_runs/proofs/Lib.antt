@@ -4,12 +4,15 @@ pub mod ByNumber
 pub mod CallsHold
 pub mod Deeds
 pub mod Entering
+pub mod Exactness
 pub mod Fitting
 pub mod FoundRecords
 pub mod Goes
 pub mod Going
 pub mod Halting
 pub mod InRecords
+pub mod LogEvents
+pub mod NeverFull
 pub mod Noting
 pub mod Numbered
 pub mod OwnCalls

@@ -247,10 +247,12 @@ tells_at_start faults honest image log unarmed held =
     record {
       counted = record {
         count = record { grows = omega arith; told = λ less. rw unarmed (omega arith) };
-        stops = λ e less. refl;
-        armed = λ e less. rw unarmed refl;
+        broken = λ behind less. rw unarmed (omega arith);
+        exact = refl;
+        armed = inl (rw unarmed refl);
       };
       foreign = λ h. record { up = λ u id n. refl; imaged = in_each (AreForeignSame (open_records log.slots)) (image log.disk) (open_records log.slots) (held h) (λ id n. refl) };
       opens = λ h e. refl;
       unlike = λ h. refl;
+      unfilled = λ h e. refl;
     }

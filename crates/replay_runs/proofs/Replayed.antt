@@ -1,7 +1,6 @@
 -- What a replay gives is a history of its script.
-use Rattle.std.proofs.Common.{◌≡◌, ◌<◌, ◌≤◌, ◌⊎◌, ◌-◌, ℕ, Bool, true, false, suc, get_or, Some, List, ◌∷◌, ◌++◌, Option, ap, drop, length, refl, arith, le_trans, sym, subst, take, inl, inr, ◌∙◌, if◌then◌else◌}
+use Rattle.std.proofs.Common.{◌≡◌, ◌<◌, ◌≤◌, ◌-◌, ℕ, Bool, true, false, suc, get_or, Some, List, ◌∷◌, ◌++◌, Option, ap, drop, length, refl, arith, sym, subst, take, ◌∙◌, if◌then◌else◌}
 use Rattle.std.specs.Prelude.{nat_lt}
-use Rattle.std.proofs.lemmas.Bool.{cases_Bool}
 use Rattle.std.proofs.lemmas.Bool.Decides.{nat_tests}
 use Rattle.std.proofs.lemmas.List.{take-append-drop}
 use Rattle.std.proofs.lemmas.Option.{slice_get-get_or}
@@ -51,20 +50,9 @@ pub rise_known : (before now told : ℕ) → IsRise before now (rise_of before n
 rise_known before now told less = let here : nat_lt now LAST ≡ true = grind (arith, nat_tests) in rw here refl
 
 -- the faults that the trace tells of are no more
-pub rise_told : (before now : ℕ) (stop : Option ArmedStop) (T : List Placed) → IsCounted before now stop T → faults_told (at_log T) ≤ rise_of before now (faults_told (at_log T))
-rise_told before now stop T k = le_trans (told_there before now stop (at_log T) (at_log T) refl k.count) (by (nat_lt now LAST))
+pub rise_told : (before now told : ℕ) (stop : Option ArmedStop) (T : List Placed) → faults_told (at_log T) ≤ told → IsCounted before now stop T → faults_told (at_log T) ≤ rise_of before now told
+rise_told before now told stop T most k = by (nat_lt now LAST) (told_there before now stop (at_log T) (at_log T) refl k.count)
   where
-    by : (b : Bool) → (if b then now - before else faults_told (at_log T)) ≤ (if b then now - before else suc (faults_told (at_log T)))
-    by true = omega arith
-    by false = omega arith
-
--- and where it rose by none, it stands as it did, and not at its last value
-pub rise_none : (before now told : ℕ) → before ≤ now → rise_of before now told ≡ 0 → (now ≡ before) × (now < LAST)
-rise_none before now told grows e = by (cases_Bool (nat_lt now LAST)) e
-  where
-    by : (nat_lt now LAST ≡ true) ⊎ (nat_lt now LAST ≡ false) → rise_of before now told ≡ 0 → (now ≡ before) × (now < LAST)
-    by (inl l) z =
-        let same : now - before ≡ 0 = sym (ap (λ b. if b then now - before else suc told) l) ∙ z in
-        let less : now < LAST = grind (arith, nat_tests) in
-        (omega (arith, grows, same), less)
-    by (inr l) z = let more : suc told ≡ 0 = sym (ap (λ b. if b then now - before else suc told) l) ∙ z in absurd (omega (arith, more))
+    by : (b : Bool) → faults_told (at_log T) ≤ (if b then now - before else faults_told (at_log T)) → faults_told (at_log T) ≤ (if b then now - before else suc told)
+    by true le = le
+    by false le = omega (arith, most)

@@ -41,6 +41,7 @@ use Rattle.tx_world.proofs.StillTied.{is_restarting, named_elsewhere, turned_tie
 use Rattle.dtx_model.specs.Log.{first_of}
 use Rattle.world_laws.specs.Left.{steps_left}
 use Rattle.turn_parts.specs.Runs.{untouched}
+use Rattle.turn_parts.proofs.Filling.{unfilled_commits}
 use Rattle.turn_parts.proofs.Turned.{turned_calls}
 use Rattle.replay_runs.specs.LogRun.{LogGoes, LogStays}
 use Rattle.replay_runs.specs.Objects.{DoesGiven}
@@ -48,6 +49,7 @@ use Rattle.replay_runs.specs.RunState.{Advances, AreNumbered, GoesWith, HaveSame
 use Rattle.replay_runs.proofs.Deeds.{is_done, untelling_block, untelling_commit}
 use Rattle.replay_runs.proofs.Fitting.{fits_turn, goes_turn, had_turn}
 use Rattle.replay_runs.proofs.Goes.{MayTurn, acts_running, answered_down, answered_up, goes_step, named_in_replay, named_turn}
+use Rattle.replay_runs.proofs.NeverFull.{never_full, unfilled_written}
 use Rattle.replay_runs.proofs.Noting.{history_there, trace_noted}
 use Rattle.replay_runs.proofs.Numbered.{is_it, state_here, state_there, state_unreached}
 use Rattle.replay_runs.proofs.Telling.{is_untelling, tells_block, tells_done}
@@ -281,12 +283,12 @@ done_tells {D} faults honest image start a at own may e T tells =
     by true l up =
         let calls : act_calls (core (was a).world) ≡ 4 = ap (λ (c : Bool). if c then 4 else 2) l in
         let counted = e.counted refl (inl l) in
-        tells_done faults honest image start a.from a.to T a.t Logged 4 (commit_sends (follow (core (was a).world) Logged)) (inl (refl, refl)) (untelling_commit (follow (core (was a).world) Logged))
+        tells_done faults honest image start a.from a.to T a.t Logged 4 (commit_sends (follow (core (was a).world) Logged)) (inl (refl, refl)) (untelling_commit (follow (core (was a).world) Logged)) (unfilled_commits (follow (core (was a).world) Logged))
         (step_log faults honest image a at) (e.smooth (λ k. cc)) (subst (λ n. stop_in n a.from.armed ≡ None) calls counted.0) (subst (λ n. a.to.armed ≡ after_calls n a.from.armed) calls counted.1) tells
     by false l up =
         let calls : act_calls (core (was a).world) ≡ 2 = ap (λ (c : Bool). if c then 4 else 2) l in
         let counted = e.counted refl (inr (free_had (was a) a.from up l may (at.holds.kept a.t).ours (at.holds.had a.t))) in
-        tells_done faults honest image start a.from a.to T a.t Freed 2 [] (inr (refl, refl)) refl
+        tells_done faults honest image start a.from a.to T a.t Freed 2 [] (inr (refl, refl)) refl refl
         (step_log faults honest image a at) (e.smooth (λ k. cc)) (subst (λ n. stop_in n a.from.armed ≡ None) calls counted.0) (subst (λ n. a.to.armed ≡ after_calls n a.from.armed) calls counted.1) tells
 
 -- and of each other step nothing.
@@ -303,10 +305,11 @@ untelling_written up t w m d r = by (sends_begin t w m && not up)
     by false = untelling_block t w m d r
 
 same_tells : {D : Type 0} (faults : D → ℕ) (honest : Bool) (image : D → List ℕ → Type 0) (start : LogState D) (a : StepOf D) (m : Step) → is_done m ≡ false → is_restarting m ≡ false → a.to ≡ a.from
-    → (T : List Placed) → Tells faults honest image start a.from T → Tells faults honest image start a.to (onto T (placed a.t (written a.from.is_up a.t.value (was a).world m)))
-same_tells {D} faults honest image start a m d r same T tells =
+    → (T : List Placed) → (m ≡ Coordinates Full → IsTrue honest → open_records start.slots ≡ [] → ⊥) → Tells faults honest image start a.from T → Tells faults honest image start a.to (onto T (placed a.t (written a.from.is_up a.t.value (was a).world m)))
+same_tells {D} faults honest image start a m d r same T room tells =
     let es = written a.from.is_up a.t.value (was a).world m in
-    subst (λ (l : LogState D). Tells faults honest image start l (onto T (placed a.t es))) (sym same) (tells_block faults honest image start a.from T a.t es (untelling_written a.from.is_up a.t.value (was a).world m d r) tells)
+    subst (λ (l : LogState D). Tells faults honest image start l (onto T (placed a.t es))) (sym same) (tells_block faults honest image start a.from T a.t es (untelling_written a.from.is_up a.t.value (was a).world m d r)
+    (λ is empty. unfilled_written a.from.is_up a.t.value (was a).world m (λ full. room full is empty)) tells)
 
 step_tells : {D : Type 0} (faults : D → ℕ) (honest : Bool) (image : D → List ℕ → Type 0) (start : LogState D) (a : StepOf D) → IsStep faults honest image a → (d : DidStep faults honest a)
     → a.to.is_up ≡ a.from.is_up → (T : List Placed) → Tells faults honest image start a.from T → Tells faults honest image start a.to (onto T (placed a.t (wrote faults honest a d)))
@@ -316,13 +319,16 @@ step_tells {D} faults honest image start a at d same T tells =
     by : (m : Step) → MayTurn (was a).world m → is_in_replay m ≡ true → is_stopping m ≡ false → IsAnswered faults (was a) a.from a.to m
         → Tells faults honest image start a.to (onto T (placed a.t (written a.from.is_up a.t.value (was a).world m)))
     by (Coordinates Done) may i n e = done_tells faults honest image start a at d.own may e T tells
-    by (Coordinates Full) may i n e = same_tells faults honest image start a (Coordinates Full) refl refl (e.unchanged (λ k. cc) (λ k. cc)) T tells
+    by (Coordinates Full) may i n e =
+        let up = answered_up faults (core (was a).world) (id_of (was a)) (was a).life a.from a.to Full (λ k. cc) (λ k. cc) e in
+        same_tells faults honest image start a (Coordinates Full) refl refl (e.unchanged (λ k. cc) (λ k. cc)) T
+        (λ same is empty. never_full image a.from a.run.worlds (open_records start.slots) empty at.numbered up.0 (at.holds.fits is) (tells.foreign is) (e.full refl)) tells
     by (Coordinates StoppedNow) may i n e = absurd cc
     by (Coordinates StoppedBefore) may i n e = absurd cc
-    by (Calls n c k j) may i q e = same_tells faults honest image start a (Calls n c k j) refl refl e T tells
-    by (Replies n r) may i q e = same_tells faults honest image start a (Replies n r) refl refl e T tells
-    by Acts may i q e = same_tells faults honest image start a Acts refl refl e T tells
-    by (Delivers c r) may i q e = same_tells faults honest image start a (Delivers c r) refl refl e T tells
+    by (Calls n c k j) may i q e = same_tells faults honest image start a (Calls n c k j) refl refl e T (λ full. absurd cc) tells
+    by (Replies n r) may i q e = same_tells faults honest image start a (Replies n r) refl refl e T (λ full. absurd cc) tells
+    by Acts may i q e = same_tells faults honest image start a Acts refl refl e T (λ full. absurd cc) tells
+    by (Delivers c r) may i q e = same_tells faults honest image start a (Delivers c r) refl refl e T (λ full. absurd cc) tells
     by Stops may i q e = absurd may
     by (Restarts found) may i q e = absurd may
 

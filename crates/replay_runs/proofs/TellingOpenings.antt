@@ -1,5 +1,5 @@
 -- What a trace tells of the log, where it is opened again.
-use Rattle.std.proofs.Common.{◌≡◌, ◌≤◌, ◌<◌, ◌+◌, ◌==◌, ℕ, suc, Bool, true, false, List, [], ◌∷◌, ◌++◌, map, Option, if◌then◌else◌, refl, sym, ap, subst, ◌∙◌, arith, le_trans}
+use Rattle.std.proofs.Common.{◌≡◌, ◌≤◌, ◌<◌, ◌+◌, ◌==◌, ℕ, suc, Bool, true, false, ◌&&◌, not, List, [], ◌∷◌, ◌++◌, map, Option, if◌then◌else◌, refl, sym, ap, subst, ◌∙◌, arith, le_trans}
 use Rattle.std.specs.Prelude.{IsTrue}
 use Rattle.std.proofs.lemmas.Bool.Decides.{Decides-eqb}
 use Rattle.outside.specs.Faults.{Rose}
@@ -22,10 +22,11 @@ use Rattle.coordinator_log.specs.State.{LogState}
 use Rattle.coordinator_log.specs.declared.stop.ArmedStop.{ArmedStop}
 use Rattle.turn_parts.specs.Counted.{LAST, is_left}
 use Rattle.turn_parts.specs.Reopening.{is_no_log_answer}
+use Rattle.replay_runs.specs.Exact.{faults_made, is_left_over}
 use Rattle.replay_runs.specs.LogRun.{IsCounted, LogGoes}
-use Rattle.replay_runs.specs.RunState.{Tells}
+use Rattle.replay_runs.specs.RunState.{Tells, finds_full}
 use Rattle.replay_runs.proofs.Telling.{counted_same, tells_put}
-use Rattle.replay_runs.proofs.TellingStops.{open_on, open_same, or_left, stop_on}
+use Rattle.replay_runs.proofs.TellingStops.{counted_on, open_on, open_same}
 
 -- The call of a restart, which is answered `fault` only where the count of faults rose
 told_called : (b m n : ℕ) (l c : Bool) (f : ℕ) → m ≤ n → n < LAST → b + one_if l f ≤ m → (c ≡ true → Rose m n) → b + one_if l (one_if c f) ≤ n
@@ -39,8 +40,11 @@ counted_called b m n o T i a x le cause k = record {
     grows = le_trans k.count.grows le;
     told = λ less. told_called b m n (is_left o (armed (at_log T))) (is_fault_answer x) (faults_told (at_log T)) le less (k.count.told (omega arith)) cause;
   };
-  stops = λ same less. stop_on (Log, Called i a x) T refl (k.stops (omega (arith, k.count.grows)) (omega arith));
-  armed = λ same less. k.armed (omega (arith, k.count.grows)) (omega arith);
+  broken = λ behind less.
+      let there = (Log, Called i a x) ∷ behind in
+      told_called b m n (is_left o (armed (at_log T)) && not (is_left_over there T)) (is_fault_answer x) (faults_made there T) le less (k.broken there (omega arith)) cause;
+  exact = k.exact;
+  armed = k.armed;
 }
 
 tells_called : {D : Type 0} (faults : D → ℕ) (honest : Bool) (image : D → List ℕ → Type 0) (start from to : LogState D) (T : List Placed) (i : ℕ) (a : ActorNo) (x : Answer) → LogGoes faults honest image from to
@@ -50,15 +54,14 @@ tells_called faults honest image start from to T i a x goes cause like left k = 
   foreign = λ is. goes.foreign is (open_records start.slots) (k.foreign is);
   opens = λ is empty. open_on (Log, Called i a x) T refl refl (k.opens is empty);
   unlike = λ is. or_false (is_no_log_answer (Called i a x)) (has is_no_log_answer (at_log T)) (like is) (k.unlike is);
+  unfilled = k.unfilled;
 }
 
 -- The stop that the call brings
 counted_halted : (b m : ℕ) (o : Option ArmedStop) (T : List Placed) → is_called (at_log T) ≡ true → IsCounted b m o T → IsCounted b m o ((Log, Stopped) ∷ T)
-counted_halted b m o T called k = record {
-  count = record { grows = k.count.grows; told = λ less. rw called (k.count.told less) };
-  stops = λ same less. stop_on (Log, Stopped) T (or_left (is_called (at_log T)) false called) (k.stops same less);
-  armed = λ same less. rw called (k.armed same less);
-}
+counted_halted b m o T called k =
+    counted_on b m o T (Log, Stopped) (record { grows = k.count.grows; told = λ less. rw called (k.count.told less) })
+    (record { armed = rw called refl; made = refl; unmade = λ behind. rw called refl; left = λ behind l. rw called refl; free = refl }) k
 
 tells_halted : {D : Type 0} (faults : D → ℕ) (honest : Bool) (image : D → List ℕ → Type 0) (start log : LogState D) (T : List Placed) (us : List TxNo) → is_called (at_log T) ≡ true → Tells faults honest image start log T
     → Tells faults honest image start log (put_at (λ u. Stopped) us (at_the_log Stopped T))
@@ -68,21 +71,18 @@ tells_halted faults honest image start log T us called k =
       foreign = k.foreign;
       opens = λ is empty. open_on (Log, Stopped) T refl refl (k.opens is empty);
       unlike = k.unlike;
+      unfilled = k.unfilled;
     })
 
 -- The opening, and what is found in it
 counted_opened : (b m : ℕ) (o : Option ArmedStop) (T : List Placed) (n : ℕ) → IsCounted b m o T → IsCounted b m o ((Log, LogWord (Opened n)) ∷ T)
-counted_opened b m o T n k = record {
-  count = record { grows = k.count.grows; told = k.count.told };
-  stops = λ same less. stop_on (Log, LogWord (Opened n)) T refl (k.stops same less);
-  armed = k.armed;
-}
+counted_opened b m o T n k = counted_on b m o T (Log, LogWord (Opened n)) (record { grows = k.count.grows; told = k.count.told }) (record { armed = refl; made = refl; unmade = λ behind. refl; left = λ behind l. refl; free = refl }) k
 
 counted_found : (b m : ℕ) (o : Option ArmedStop) (T : List Placed) (found : ℕ → Bool) (ts : List TxNo) → IsCounted b m o T → IsCounted b m o (put_at (λ t. Restarted (found t.value)) ts T)
 counted_found b m o T found [] k = k
 counted_found b m o T found (t ∷ ts) k =
     let x : Placed = (Transaction t, Restarted (found t.value)) in
-    counted_found b m o (x ∷ T) found ts (counted_same b m o T (x ∷ T) refl (omega arith) (stop_on x T refl) k)
+    counted_found b m o (x ∷ T) found ts (counted_same b m o T x refl (record { armed = refl; made = omega arith; unmade = λ behind. refl; left = λ behind l. refl; free = refl }) k)
 
 -- what is found stands directly after the opening
 open_put : (found : ℕ → Bool) (ts : List TxNo) (b T : List Placed) → open_right (map (λ t. (Transaction t, Restarted (found t.value))) ts ++ b) T ≡ true → open_right b (put_at (λ t. Restarted (found t.value)) ts T) ≡ true
@@ -103,6 +103,11 @@ open_found found ts n T e k =
     let here : (n == found_behind block) ≡ true = (Decides-eqb n (found_behind block)).1 (e ∙ sym (found_count found ts)) in
     open_put found ts [] ((Log, LogWord (Opened n)) ∷ T) (and_both (n == found_behind block) (open_right ((Log, LogWord (Opened n)) ∷ block) T) here (open_same ((Log, LogWord (Opened n)) ∷ block) [] T refl ∙ k))
 
+-- no transaction that starts again finds the log full
+put_unfilled : (found : ℕ → Bool) (ts : List TxNo) (T : List Placed) → has finds_full (put_at (λ t. Restarted (found t.value)) ts T) ≡ has finds_full T
+put_unfilled found [] T = refl
+put_unfilled found (t ∷ ts) T = put_unfilled found ts ((Transaction t, Restarted (found t.value)) ∷ T)
+
 tells_opened : {D : Type 0} (faults : D → ℕ) (honest : Bool) (image : D → List ℕ → Type 0) (start log : LogState D) (T : List Placed) (found : ℕ → Bool) (n : ℕ) (ts : List TxNo)
     → (IsTrue honest → open_records start.slots ≡ [] → n ≡ how_many (λ t. found t.value) ts) → Tells faults honest image start log T
     → Tells faults honest image start log (put_at (λ t. Restarted (found t.value)) ts (at_the_log (LogWord (Opened n)) T))
@@ -111,6 +116,7 @@ tells_opened faults honest image start log T found n ts count k = record {
   foreign = k.foreign;
   opens = λ is empty. open_found found ts n T (count is empty) (k.opens is empty);
   unlike = λ is. ap (has is_no_log_answer) (log-put (λ t. Restarted (found t.value)) ts ((Log, LogWord (Opened n)) ∷ T)) ∙ k.unlike is;
+  unfilled = λ is empty. put_unfilled found ts ((Log, LogWord (Opened n)) ∷ T) ∙ k.unfilled is empty;
 }
 
 -- a restart's call, and the stop that it brings where the log runs

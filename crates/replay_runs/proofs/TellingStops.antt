@@ -1,71 +1,65 @@
 -- Where stops and openings stand in a trace, as entries come to it.
-use Rattle.std.proofs.Common.{◌≡◌, ◌≤◌, ◌+◌, ℕ, Bool, true, false, ◌&&◌, ◌||◌, nat_lt, ◌==◌, List, [], ◌∷◌, Option, Some, None, refl, ap, ◌∙◌, inl, inr, arith}
+use Rattle.std.proofs.Common.{◌≡◌, ◌<◌, ◌≤◌, ◌+◌, ℕ, Bool, true, false, ◌&&◌, ◌||◌, not, if◌then◌else◌, nat_le, nat_lt, ◌==◌, List, [], ◌∷◌, Option, Some, None, refl, ap, sym, ◌∙◌, inl, inr, arith}
 use Rattle.std.specs.Option.{option_map}
 use Rattle.std.proofs.lemmas.Bool.{cases_Bool}
 use Rattle.std.proofs.lemmas.Bool.Decides.{nat_tests}
-use Rattle.dtx_values.specs.declared.entry.Entry.TheVariants.{Freed, Logged, LogWord, Restarted, Stopped}
-use Rattle.dtx_values.specs.declared.entry.LogNote.TheVariants.{Opened}
+use Rattle.dtx_values.specs.declared.entry.Entry.TheVariants.{LogWord, Restarted, Stopped}
+use Rattle.dtx_values.specs.declared.entry.LogNote.TheVariants.{Armed, Opened}
 use Rattle.dtx_values.specs.declared.trace.Place.TheVariants.{Context, Log, Transaction}
-use Rattle.dtx_model.specs.AtLog.{at_log, found_behind, is_called, is_reached, is_stopped_by, one_if, open_right, opens_right, stop_right, stops_right}
+use Rattle.dtx_model.specs.AtLog.{armed, at_log, found_behind, is_called, is_reached, is_stopped_by, is_unarmed, made, one_if, open_right, opens_right}
 use Rattle.dtx_model.specs.Traces.{Placed}
-use Rattle.dtx_model.proofs.Bools.{and_both, and_left, and_right}
+use Rattle.dtx_model.proofs.Bools.{and_both, not_both}
 use Rattle.coordinator_log.specs.Stop.{after_calls, stop_in}
 use Rattle.coordinator_log.specs.declared.stop.ArmedStop.{ArmedStop}
-use Rattle.turn_parts.specs.Counted.{is_left}
+use Rattle.turn_parts.specs.Counted.{AreCounted, LAST, is_left}
+use Rattle.replay_runs.specs.Exact.{faults_made, is_fault_made, is_left_over, left_after, meets_no_stop, stops_exactly}
+use Rattle.replay_runs.specs.LogRun.{IsArmedBy, IsCounted}
 
--- Who stopped the log is told by the next entry alone,
-stopped_by_head : (past : List Placed) (x : Placed) (b c : List Placed) → is_stopped_by past (x ∷ b) ≡ is_stopped_by past (x ∷ c)
-stopped_by_head past (Transaction t, Stopped) b c = refl
-stopped_by_head past (Transaction t, x) b c = refl
-stopped_by_head past (Context a, x) b c = refl
-stopped_by_head past (Log, x) b c = refl
+-- The stop that is armed at a log, as a trace counts it in which so many calls were made
+abbrev pub counted_at : ℕ → Option ArmedStop → Option ℕ
+counted_at m o = option_map (λ s. m + (s.passes + 1)) o
 
-stops_head : (past : List Placed) (x y : Placed) (b c : List Placed) → stops_right (x ∷ b) past y ≡ stops_right (x ∷ c) past y
-stops_head past x (Log, Stopped) b c = ap (λ r. is_called (at_log past) || r) (stopped_by_head past x b c)
-stops_head past x (Log, y) b c = refl
-stops_head past x (Transaction t, Logged) b c = refl
-stops_head past x (Transaction t, Freed) b c = refl
-stops_head past x (Transaction t, y) b c = refl
-stops_head past x (Context a, y) b c = refl
+-- The entry armed no stop, used none up, met none and made no call, and no fault made it.
+pub record IsQuiet (T : List Placed) (x : Placed) : Type 0 where
+  pub armed : armed (at_log (x ∷ T)) ≡ armed (at_log T)
+  pub made : made (x ∷ T) ≡ made T
+  pub unmade : (behind : List Placed) → is_fault_made behind T x ≡ false
+  pub left : (behind : List Placed) (l : Bool) → left_after behind T x l ≡ l
+  pub free : meets_no_stop T x ≡ true
 
--- so of what stands after a trace the first entry alone counts,
-stop_head : (x : Placed) (b c T : List Placed) → stop_right (x ∷ b) T ≡ stop_right (x ∷ c) T
-stop_head x b c [] = refl
-stop_head x b c (y ∷ past) =
-    ap (λ r. r && stop_right (y ∷ x ∷ b) past) (stops_head past x y b c) ∙ ap (λ r. stops_right (x ∷ c) past y && r) (stop_head y (x ∷ b) (x ∷ c) past)
+-- so the faults are those before it, and so is what is left over
+pub broken_on : (b n : ℕ) (old new : Option ArmedStop) (T : List Placed) (x : Placed) → armed (at_log (x ∷ T)) ≡ armed (at_log T) → ((behind : List Placed) → is_fault_made behind T x ≡ false)
+    → ((behind : List Placed) (l : Bool) → left_after behind T x l ≡ l) → is_left new (armed (at_log T)) ≡ is_left old (armed (at_log T))
+    → ((behind : List Placed) → n < LAST → b + one_if (is_left old (armed (at_log T)) && not (is_left_over behind T)) (faults_made behind T) ≤ n)
+    → (behind : List Placed) → n < LAST → b + one_if (is_left new (armed (at_log (x ∷ T))) && not (is_left_over behind (x ∷ T))) (faults_made behind (x ∷ T)) ≤ n
+broken_on b n old new T x a unmade left same k behind less =
+    rw (unmade behind, left behind (is_left_over (x ∷ behind) T), a, same) (k (x ∷ behind) less)
 
-or_more : (a b : Bool) → (a || false) ≡ true → (a || b) ≡ true
-or_more true b h = refl
-or_more false b h = absurd cc
+armed_on : (stop : Option ArmedStop) (T U : List Placed) → armed (at_log U) ≡ armed (at_log T) → made U ≡ made T → IsArmedBy stop T → IsArmedBy stop U
+armed_on stop T U a m (inl e) = inl (a ∙ (e ∙ ap (λ i. counted_at i stop) (sym m)))
+armed_on stop T U a m (inr e) = inr (a ∙ e)
 
-stops_more : (b past : List Placed) (y : Placed) → stops_right [] past y ≡ true → stops_right b past y ≡ true
-stops_more b past (Log, Stopped) k = or_more (is_called (at_log past)) (is_stopped_by past b) k
-stops_more b past (Log, y) k = refl
-stops_more b past (Transaction t, Logged) k = k
-stops_more b past (Transaction t, Freed) k = k
-stops_more b past (Transaction t, y) k = refl
-stops_more b past (Context a, y) k = refl
+pub counted_on : (b n : ℕ) (stop : Option ArmedStop) (T : List Placed) (x : Placed) → AreCounted b n stop (at_log (x ∷ T)) → IsQuiet T x → IsCounted b n stop T → IsCounted b n stop (x ∷ T)
+counted_on b n stop T x count quiet k = record {
+  count = count;
+  broken = broken_on b n stop stop T x quiet.armed quiet.unmade quiet.left refl k.broken;
+  exact = and_both (meets_no_stop T x) (stops_exactly T) quiet.free k.exact;
+  armed = armed_on stop T (x ∷ T) quiet.armed quiet.made k.armed;
+}
 
--- and where the stops of a trace stand as they should by themselves, they do whatever comes after it.
-pub stop_more : (b T : List Placed) → stop_right [] T ≡ true → stop_right b T ≡ true
-stop_more b [] k = refl
-stop_more b (y ∷ past) k =
-    and_both (stops_right b past y) (stop_right (y ∷ b) past) (stops_more b past y (and_left (stops_right [] past y) (stop_right (y ∷ []) past) k))
-    (stop_head y b [] past ∙ and_right (stops_right [] past y) (stop_right (y ∷ []) past) k)
-
--- where the first holds, either holds
-pub or_left : (a b : Bool) → a ≡ true → (a || b) ≡ true
-or_left true b h = refl
-or_left false b h = absurd cc
-
--- one entry more
-pub stop_on : (x : Placed) (T : List Placed) → stops_right [] T x ≡ true → stop_right [] T ≡ true → stop_right [] (x ∷ T) ≡ true
-stop_on x T here k = and_both (stops_right [] T x) (stop_right (x ∷ []) T) here (stop_more (x ∷ []) T k)
-
--- a stop that the act of a transaction met, with the transaction's own entry after it
-pub stop_by : (x y : Placed) (T : List Placed) → stops_right [] (y ∷ T) x ≡ true → stops_right (x ∷ []) T y ≡ true → stop_right [] T ≡ true → stop_right [] (x ∷ y ∷ T) ≡ true
-stop_by x y T first second k =
-    and_both (stops_right [] (y ∷ T) x) (stop_right (x ∷ []) (y ∷ T)) first (and_both (stops_right (x ∷ []) T y) (stop_right (y ∷ x ∷ []) T) second (stop_more (y ∷ x ∷ []) T k))
+-- a stop is left over only where the trace has none armed
+pub left_unarmed : (behind T : List Placed) → is_left_over behind T ≡ true → armed (at_log T) ≡ None
+left_unarmed behind [] l = refl
+left_unarmed behind ((Log, Stopped) ∷ past) l = by (is_called (at_log past)) (left_unarmed ((Log, Stopped) ∷ behind) past) l
+  where
+    by : (c : Bool) → (is_left_over ((Log, Stopped) ∷ behind) past ≡ true → armed (at_log past) ≡ None) → (if c then is_left_over ((Log, Stopped) ∷ behind) past else not (is_unarmed (armed (at_log past)) || is_stopped_by past behind)) ≡ true → (if c then armed (at_log past) else None) ≡ None
+    by true before l = before l
+    by false before l = refl
+left_unarmed behind ((Log, LogWord (Armed n i)) ∷ past) l = absurd cc
+left_unarmed behind ((Log, LogWord (Opened n)) ∷ past) l = left_unarmed ((Log, LogWord (Opened n)) ∷ behind) past l
+left_unarmed behind ((Log, x) ∷ past) l = left_unarmed ((Log, x) ∷ behind) past l
+left_unarmed behind ((Transaction t, x) ∷ past) l = left_unarmed ((Transaction t, x) ∷ behind) past l
+left_unarmed behind ((Context a, x) ∷ past) l = left_unarmed ((Context a, x) ∷ behind) past l
 
 -- Of what stands after a trace its openings count what is found there directly.
 found_more : (x : Placed) (b c : List Placed) → found_behind b ≡ found_behind c → found_behind (x ∷ b) ≡ found_behind (x ∷ c)
@@ -88,10 +82,6 @@ open_same b c (x ∷ past) e =
 -- one entry more, which finds nothing
 pub open_on : (x : Placed) (T : List Placed) → found_behind (x ∷ []) ≡ 0 → opens_right [] x ≡ true → open_right [] T ≡ true → open_right [] (x ∷ T) ≡ true
 open_on x T none here k = and_both (opens_right [] x) (open_right (x ∷ []) T) here (open_same (x ∷ []) [] T none ∙ k)
-
--- The stop that is armed at a log, as a trace counts it in which so many calls were made
-abbrev pub counted_at : ℕ → Option ArmedStop → Option ℕ
-counted_at m o = option_map (λ s. m + (s.passes + 1)) o
 
 some_none : {X : Type 0} (x : X) → Some x ≡ None → ⊥
 some_none x e = cc
@@ -125,10 +115,10 @@ still_armed n None a e = refl
 still_armed n (Some s) (Some k) e = let later : nat_lt s.passes n ≡ false = passed n s e in rw later refl
 still_armed n (Some s) None e = let later : nat_lt s.passes n ≡ false = passed n s e in rw later refl
 
--- and calls in which a stop is reached meet it.
-pub met : (n m : ℕ) (o : Option ArmedStop) → (stop_in n o ≡ None → ⊥) → is_reached (counted_at m o) (m + n) ≡ true
-met n m None e = absurd (e refl)
-met n m (Some s) e = elim (cases_Bool (nat_lt s.passes n)) [
-  | inl now ↦ grind (arith, nat_tests)
-  | inr later ↦ absurd (e (rw later refl))
+-- and where the calls meet none, none is reached in them.
+pub unreached : (n m : ℕ) (o : Option ArmedStop) → is_reached (counted_at m o) (m + n) ≡ false → stop_in n o ≡ None
+unreached n m None e = refl
+unreached n m (Some s) e = elim (cases_Bool (nat_lt s.passes n)) [
+  | inl now ↦ let there : nat_le (m + (s.passes + 1)) (m + n) ≡ true = grind (arith, nat_tests) in absurd (not_both (nat_le (m + (s.passes + 1)) (m + n)) there e)
+  | inr later ↦ rw later refl
 ]

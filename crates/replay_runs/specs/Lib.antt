@@ -1,4 +1,5 @@
 pub mod Ending
+pub mod Exact
 pub mod Lawful
 pub mod LogRun
 pub mod Objects

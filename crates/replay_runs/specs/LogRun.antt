@@ -1,10 +1,9 @@
 -- The log under a run: what of it the trace says, and what stays.
-use Rattle.std.specs.Prelude.{ℕ, ◌+◌, ◌≡◌, ◌<◌, ◌≤◌, ◌⊎◌, Bool, true, List, [], filter, Option, None, IsTrue}
+use Rattle.std.specs.Prelude.{ℕ, ◌+◌, ◌≡◌, ◌<◌, ◌≤◌, ◌⊎◌, Bool, true, ◌&&◌, not, List, filter, Option, None, IsTrue}
 use Rattle.std.specs.Option.{option_map}
 use Rattle.dtx_values.specs.declared.number.TxNo.{TxNo}
 use Rattle.outside.specs.Faults.{Rose}
-use Rattle.dtx_model.specs.Words.{has}
-use Rattle.dtx_model.specs.AtLog.{armed, at_log, made, stop_right}
+use Rattle.dtx_model.specs.AtLog.{armed, at_log, made, one_if}
 use Rattle.dtx_model.specs.Log.{CommitRecord, is_record_of}
 use Rattle.dtx_model.specs.Promotes.{identifier_of}
 use Rattle.dtx_model.specs.Traces.{Placed}
@@ -12,19 +11,25 @@ use Rattle.coordinator_log.specs.Slots.{open_records}
 use Rattle.coordinator_log.specs.State.{LogState}
 use Rattle.coordinator_log.specs.declared.stop.ArmedStop.{ArmedStop}
 use Rattle.tx_world.specs.AtLog.{AreFit, AreLogs}
-use Rattle.turn_parts.specs.Counted.{AreCounted, LAST}
+use Rattle.turn_parts.specs.Counted.{AreCounted, LAST, is_left}
+use Rattle.replay_runs.specs.Exact.{faults_made, is_left_over, stops_exactly}
 
 -- the stop that is armed, as the trace counts it: at which device call since it was armed
 abbrev pub armed_at : List Placed → Option ArmedStop → Option ℕ
 armed_at T o = option_map (λ s. made T + (s.passes + 1)) o
 
--- The faults and the armed stop of a log, where its count of faults was `before` at the start and is `now`, and T is the trace, newest first. The faults that the trace tells of, and one in place of an
--- armed stop that is left over, rose the count, unless it stands at its last value. While it didn't rise, each stop stands exactly where its device call was reached, and what is armed is
--- what the trace has armed.
+-- what the trace has armed is armed at the log, whose own may be left over where the trace has none
+abbrev pub IsArmedBy : Option ArmedStop → List Placed → Type 0
+IsArmedBy stop T = (armed (at_log T) ≡ armed_at T stop) ⊎ (armed (at_log T) ≡ None)
+
+-- The faults and the armed stop of a log, where its count of faults was `before` at the start and is `now`, and T is the trace, newest first, whatever comes behind it. The faults that the trace tells of rose the
+-- count, unless it stands at its last value, and so did one in place of an armed stop that the log has left over; each entry that a fault made did so too. Each stop stands exactly where its device call was
+-- reached, and what the trace has armed is armed.
 pub record IsCounted (before now : ℕ) (stop : Option ArmedStop) (T : List Placed) : Type 0 where
   pub count : AreCounted before now stop (at_log T)
-  pub stops : now ≡ before → now < LAST → stop_right [] T ≡ true
-  pub armed : now ≡ before → now < LAST → armed (at_log T) ≡ armed_at T stop
+  pub broken : (behind : List Placed) → now < LAST → before + one_if (is_left stop (armed (at_log T)) && not (is_left_over behind T)) (faults_made behind T) ≤ now
+  pub exact : stops_exactly T ≡ true
+  pub armed : IsArmedBy stop T
 
 -- the records that are no transaction's of a script are the same
 abbrev pub AreForeignSame : List CommitRecord → List CommitRecord → Type 0

@@ -24,11 +24,10 @@ ghost use Rattle.dtx_model.specs.Grammar.{IsScript, are_named_well, is_in_range}
 ghost use Rattle.coordinator_log.specs.Slots.{open_records};
 ghost use Rattle.turn_parts.specs.Reopening.{is_no_log_answer};
 ghost use Rattle.turn_parts.specs.Runs.{untouched};
-ghost use Rattle.turn_parts.specs.Runs.{AreTied};
+ghost use Rattle.turn_parts.specs.Runs.{AreTied, IsNeverFull};
 ghost use Rattle.replay_runs.specs.Ending.{EndsAs, HasNone};
 ghost use Rattle.replay_runs.specs.Lawful.{IsLawful};
 ghost use Rattle.replay_runs.specs.LogRun.{IsCounted, LogGoes, LogStays};
-ghost use Rattle.replay_runs.specs.Rights.{AreAppendsBacked, AreOutcomesWithheld, HasOneRight};
 ghost use Rattle.replay_runs.specs.Run.{IsRunOf};
 ghost use Rattle.replay_runs.specs.RunState.{AreBelow, AreSettledBelow, HasNoStep, HaveSameCalls, Holds, IsBelow, IsRecordKept, IsRoundAt, IsTied, IsToPlan, RunsOn, Settles, StepsGo, StepsOn, halted, record_in, reopened, state_of};
 ghost use Rattle.script_calls.specs.Scoped.{AreOnce, AreOpen, IsUnopened, calls_given, nothing_open, rollbacks, rolled_at, scopes_at};
@@ -43,7 +42,7 @@ use dtx_values::{
     Script, TxNo,
 };
 use entry_lists::{PlacedEntries, Trace};
-use outcome_law::{appends, crossings, lifting, replay, stops};
+use outcome_law::{crossings, lifting, replay};
 use outside::Disk;
 use scope_context::Context;
 use script_calls::{Gives, Plans, act, call_of, contexts, managers_of};
@@ -51,7 +50,6 @@ use std::alloc::{AllocError, Global};
 use std::marker::Model;
 use turn_parts::{reopened, restart_answer};
 use tx_world::{TxWorld, WorldError};
-use world_laws::{rights, untried};
 
 /// For how many entries of each line the trace has room from the start.
 const ENTRIES_A_LINE: usize = 5;
@@ -588,6 +586,7 @@ fn trace_of<D: Disk>(
     ensures counted { IfOk result (λ T. IsCounted (D.faults log.old.disk) (D.faults log.new.disk) log.new.armed (past_of T)) }
     ensures opens { IsTrue D.honest → open_records log.old.slots ≡ [] → IfOk result (λ T. open_right [] (past_of T) ≡ true) }
     ensures unlike { IsTrue D.honest → IfOk result (λ T. has is_no_log_answer (at_log (past_of T)) ≡ false) }
+    ensures unfilled { IsTrue D.honest → open_records log.old.slots ≡ [] → IfOk result (λ T. IsNeverFull T) }
     ensures tied { IsTrue D.honest → IfOk result (λ T. AreTied T) }
     ensures up { IfOk result (λ T. log.new.is_up ≡ is_log_up (past_of T)) }
     ensures ends { IsTrue D.honest → IfOk result (λ T. EndsAs D.image (open_records log.old.slots) log.new (past_of T)) }
@@ -623,13 +622,10 @@ pub fn run_replay<D: Disk>(
     requires life { log.old.life ≤ 2 ^ 62 }
     requires none { IsTrue D.honest → HasNone (open_records log.old.slots) }
 
-    // The trace: a run of the script in the order of a replay. On an honest disk each restart in it found what may be found; and so is each trace without a restart. Where that is so, it is a settled history,
-    // with one outcome for each transaction, and complete.
+    // The trace: a run of the script in the order of a replay, which is a settled history. On an honest disk each restart in it found what may be found; and so is each trace without a restart. Where that is so, it has one outcome for each
+    // transaction, and is complete.
     ensures replay { IfOk result (λ T. IsRunOf s.now (length resources.old) (D.faults log.old.disk) (D.faults log.new.disk) (D.honest && is_empty (open_records log.old.slots)) T) }
-    ensures lawful { IfOk result (IsLawful D.honest s.now) }
-    ensures rights { IfOk result (λ T. AreTied T → HasOneRight T) }
-    ensures appends { IfOk result (λ T. AreTied T → AreAppendsBacked T) }
-    ensures stops { IfOk result (λ T. AreTied T → AreOutcomesWithheld T) }
+    ensures lawful { IfOk result (IsLawful D.honest (is_empty (open_records log.old.slots)) s.now) }
 
     // The log.
     ensures up { IfOk result (λ T. log.new.is_up ≡ is_log_up (past_of T)) }
@@ -641,10 +637,6 @@ pub fn run_replay<D: Disk>(
     lawful();
     crossings();
     replay();
-    rights();
-    appends();
-    untried();
-    stops();
     match trace_of(alloc, s.lines(), log, resources) {
         Ok(trace) => Ok(trace),
         Err(WorldError::Memory) => Err(AllocError),

@@ -1,12 +1,14 @@
 -- How many calls are left to be entered, as the caller enters them.
-use Rattle.std.proofs.Common.{◌≡◌, ◌⊎◌, ℕ, ◌+◌, ◌-◌, ◌<◌, ◌≤◌, Bool, true, false, ◌&&◌, List, [], ◌∷◌, Option, Some, None, Result, Ok, Err, get_or, length, map, nat_lt, set, take, inl, inr, refl, ap, subst, sym, ◌∙◌, arith}
+use Rattle.std.proofs.Common.{◌≡◌, ◌≢◌, ◌⊎◌, ℕ, ◌+◌, ◌-◌, ◌<◌, ◌≤◌, Bool, true, false, ◌&&◌, List, [], ◌∷◌, Option, Some, None, Result, Ok, Err, get_or, length, map, nat_lt, set, take, inl, inr, refl, ap, subst, sym, ◌∙◌, arith}
 use Rattle.std.specs.Prelude.{IfNone, IfSome, IsSome, MatchOption, OnOk, is_some, if◌then◌else◌}
 use Rattle.std.specs.List.{sum_by}
 use Rattle.std.proofs.lemmas.List.Sums.{get_or-le-sum_by, sum_by-cons, sum_by-set, sum_by_more}
 use Rattle.std.proofs.lemmas.Option.{slice_get_cases, slice_get_read}
+use Rattle.std.proofs.lemmas.Bool.Decides.{nat_tests}
 use Rattle.dtx_values.specs.declared.call.Call.{Call}
 use Rattle.dtx_values.specs.declared.number.ActorNo.{ActorNo}
 use Rattle.dtx_model.specs.Words.{each}
+use Rattle.dtx_model.proofs.SameNumbers.{same_actor}
 use Rattle.history_table.proofs.Tests.{eq_self}
 use Rattle.script_calls.specs.declared.calls.LogCall.{LogCall}
 use Rattle.script_calls.specs.declared.rows.Due.{Due}
@@ -16,6 +18,7 @@ use Rattle.tx_cells.specs.Cell.{Cell}
 use Rattle.tx_cells.specs.Entering.{next_of}
 use Rattle.tx_cells.specs.LogAnswers.{put_off_at_log}
 use Rattle.tx_cells.specs.LogCell.{LogCell}
+use Rattle.tx_cells.specs.LogEntering.{next_at_log}
 use Rattle.tx_cells.specs.declared.turns.Turned.TheVariants.{NotNext}
 use Rattle.run_endings.specs.Finishing.{HaveSameCalls, IsDueAt, left_among, left_in, left_of}
 
@@ -64,6 +67,23 @@ no_next a cells i x none less here =
     let most = get_or-le-sum_by f cells i x less in
     let at : f (get_or cells i x) ≡ f x = ap f (sym here) in
     no_next_in (row_at a x.rows) (omega (arith, most, at, none))
+
+-- and none at the log
+pub no_next_at_log : {D : Type 0} (a : ActorNo) (cells : List Cell) (log : LogCell D) → left_of a cells log ≡ 0 → next_at_log a log ≡ None
+no_next_at_log a cells log none = no_next_in (row_at a log.rows) (omega (arith, none))
+
+-- one actor more has no call left, and those before it have none still
+pub none_more : {D : Type 0} (n : ℕ) (a : ActorNo) (cells mid : List Cell) (log to : LogCell D) → a.value ≡ n → ((b : ActorNo) → b.value < n → left_of b cells log ≡ 0) → left_of a mid to ≡ 0
+    → ((b : ActorNo) → b ≢ a → left_of b mid to ≡ left_of b cells log) → (b : ActorNo) → b.value < n + 1 → left_of b mid to ≡ 0
+none_more n a cells mid log to at before done others b less = by (nat_lt b.value n) refl
+  where
+    by : (q : Bool) → nat_lt b.value n ≡ q → left_of b mid to ≡ 0
+    by true e =
+        let low : b.value < n = grind (arith, nat_tests) in
+        others b (λ (s : b ≡ a). let v : b.value ≡ n = ap (λ (x : ActorNo). x.value) s ∙ at in absurd (omega (arith, low, v))) ∙ before b low
+    by false e =
+        let v : b.value ≡ n = grind (arith, nat_tests) in
+        subst (λ (x : ActorNo). left_of x mid to ≡ 0) (sym (same_actor b a (v ∙ sym at))) done
 
 -- The best place among the first ones: the actor has a next call there; where there is none, it has none left at them.
 pub record IsBest (a : ActorNo) (cells : List Cell) (i : ℕ) (best : Option (ℕ × ℕ)) : Type 0 where

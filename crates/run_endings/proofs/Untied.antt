@@ -1,6 +1,6 @@
 -- Where a turn isn't done since two kept values differ, one of the transactions doesn't tie with the log; and what the test at the end finds.
 use Rattle.std.proofs.Common.{◌≡◌, ℕ, ◌+◌, ◌<◌, ◌↔◌, IsTrue, Bool, true, false, List, Result, Ok, Err, length, set, take, get_or, inl, inr, if◌then◌else◌, refl, ap, sym, subst, ◌∙◌}
-use Rattle.std.specs.Prelude.{Contains, IsErrAnd}
+use Rattle.std.specs.Prelude.{Contains, IfErr, IsErrAnd}
 use Rattle.std.specs.List.{All}
 use Rattle.std.proofs.lemmas.List.{get_or-set_same, length-set}
 use Rattle.std.proofs.lemmas.List.Elements.{All-more}
@@ -14,34 +14,33 @@ use Rattle.tx_cells.specs.declared.error.TurnError.{TurnError}
 use Rattle.tx_cells.specs.declared.error.TurnError.TheVariants.{Memory, Differs as TheyDiffer}
 use Rattle.tx_cells.specs.Turns.{with_tx}
 use Rattle.tx_world.specs.State.{TxState, is_hit_by, is_reached_by}
-use Rattle.run_endings.specs.Stops.{AreAmiss, HasUntied, IsReason, run_stop}
+use Rattle.tx_cells.proofs.Causes.{cause_named}
+use Rattle.run_endings.specs.Stops.{EndsFor, IsReason, IsWrong, StopsFor, run_stop}
 use Rattle.run_endings.specs.declared.stop.RunStop.{RunStop}
 use Rattle.run_endings.specs.declared.stop.RunStop.TheVariants as Stop
 use Rattle.dtx_model.specs.AtLog.{follows}
 
--- the reason why the run stops so is that the two don't tie
-differing : {D : Type 0} (x : TxState) (log : LogState D) (e : TurnError) → IsReason x log e → run_stop e ≡ Stop.Differs → TiesWith x log → ⊥
-differing x log Memory why is = absurd cc
-differing x log (TheyDiffer d) (inl m) is = absurd cc
-differing x log (TheyDiffer d) (inr c) is = c.untied
+-- a turn at one of the transactions isn't done, and the run stops for its reason
+stops_at : {D : Type 0} (cells : List Cell) (y : Cell) (log : LogCell D) (e : TurnError) → Contains cells y → IsReason y.tx log.log e → StopsFor cells log (run_stop e)
+stops_at cells y log Memory among why = tt
+stops_at cells y log (TheyDiffer d) among (inl m) = absurd cc
+stops_at cells y log (TheyDiffer d) among (inr c) = ((y, among, c.untied), cause_named y.tx log.log (TheyDiffer d) c)
 
 -- the error that came through a `?`
-stop_is : {A : Type 0} (r : Result A RunStop) (x : RunStop) → IsErrAnd r (λ y. y ≡ x) → r ≡ Err Stop.Differs → x ≡ Stop.Differs
-stop_is (Ok a) x made is = absurd cc
-stop_is (Err y) x made is = let same : y ≡ Stop.Differs = cc in sym made ∙ same
+pub stop_is : {A : Type 0} (P : RunStop → Type 0) (r : Result A RunStop) (x : RunStop) → IsErrAnd r (λ y. y ≡ x) → P x → IfErr r P
+stop_is P (Ok a) x made p = tt
+stop_is P (Err y) x made p = subst P (sym made) p
 
 -- the turn was done at one of the transactions
-pub untied_at : {A D : Type 0} (cells : List Cell) (i : ℕ) (y : Cell) (log : LogCell D) (e : TurnError) (r : Result A RunStop) → i < length cells → IsReason y.tx log.log e → IsErrAnd r (λ x. x ≡ run_stop e) → r ≡ Err Stop.Differs
-    → HasUntied (set cells i y) log
-untied_at cells i y log e r less why made is = (y, (i, subst (λ n. i < n) (sym (length-set cells i y)) less, get_or-set_same cells i y y less), differing y.tx log.log e why (stop_is r (run_stop e) made is))
+pub untied_at : {A D : Type 0} (cells : List Cell) (i : ℕ) (y : Cell) (log : LogCell D) (e : TurnError) (r : Result A RunStop) → i < length cells → IsReason y.tx log.log e → IsErrAnd r (λ x. x ≡ run_stop e) → IfErr r (StopsFor (set cells i y) log)
+untied_at cells i y log e r less why made =
+    stop_is (StopsFor (set cells i y) log) r (run_stop e) made (stops_at (set cells i y) y log e (i, subst (λ n. i < n) (sym (length-set cells i y)) less, get_or-set_same cells i y y less) why)
 
--- a transaction that isn't right is amiss
-pub amiss_at : {D : Type 0} (s : List Line) (cells : List Cell) (x : Cell) (log : LogCell D) (right : Bool) → Contains cells x → (IsTrue right ↔ (TiesWith x.tx log.log × (follows log.past x.tx.world.past ≡ true))) → right ≡ false → AreAmiss s cells log
-amiss_at s cells x log right among tells wrong = by (follows log.past x.tx.world.past) refl
-  where
-    by : (b : Bool) → follows log.past x.tx.world.past ≡ b → AreAmiss s cells log
-    by true e = inr (inl (x, among, λ ties. let clash : false ≡ true = sym wrong ∙ tells.1 (ties, e) in cc))
-    by false e = inr (inr (x, among, e))
+-- what is wrong with one of the transactions keeps the run from its end
+pub wrong_at : {D : Type 0} (s : List Line) (cells : List Cell) (x : Cell) (log : LogCell D) (e : RunStop) → Contains cells x → IsWrong x log e → EndsFor s cells log e
+wrong_at s cells x log Stop.Memory among wrong = absurd wrong
+wrong_at s cells x log (Stop.Differs d) among wrong = ((x, among, wrong.0), wrong.1)
+wrong_at s cells x log Stop.Astray among wrong = inr (x, among, wrong)
 
 -- what is so of the items before this one, and of it, is so of one more
 pub all_more : {A : Type 0} (P : A → Type 0) (xs : List A) (i : ℕ) (x : A) → i < length xs → x ≡ get_or xs i x → All P (take i xs) → P x → All P (take (i + 1) xs)

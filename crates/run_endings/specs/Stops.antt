@@ -5,7 +5,7 @@ use Rattle.coordinator_log.specs.State.{LogState}
 use Rattle.tx_cells.specs.Board.{transactions_of}
 use Rattle.tx_cells.specs.Cell.{Cell}
 use Rattle.tx_cells.specs.LogCell.{LogCell}
-use Rattle.tx_cells.specs.Ties.{IsCause, TiesWith}
+use Rattle.tx_cells.specs.Ties.{DoDiffer, IsCause, TiesWith}
 use Rattle.tx_world.specs.State.{TxState}
 use Rattle.tx_cells.specs.declared.error.TurnError.{TurnError}
 use Rattle.tx_cells.specs.declared.error.TurnError.TheVariants.{Memory, Differs as TheyDiffer}
@@ -16,7 +16,7 @@ use Rattle.dtx_model.specs.AtLog.{follows}
 -- what a turn that isn't done makes of the run
 abbrev pub run_stop : TurnError → RunStop
 run_stop Memory = Stop.Memory
-run_stop (TheyDiffer d) = Stop.Differs
+run_stop (TheyDiffer d) = Stop.Differs d
 
 -- Why a turn isn't done in this transaction over this log, as the two are then: memory ran out, or they don't tie, and the two that don't are named.
 abbrev pub IsReason : {D : Type 0} → TxState → LogState D → TurnError → Type 0
@@ -34,6 +34,25 @@ HasAstray cells log = (c : Cell) × Contains cells c × (follows log.past c.tx.w
 abbrev pub AreOthers : List Line → List Cell → Type 0
 AreOthers s cells = map (λ c. c.tx.transaction.value) cells ≢ transactions_of s
 
--- What of the cells or the log keeps a run of the script s from its end: the cells aren't those of its transactions, by number; or one of them doesn't tie with the log; or one doesn't follow it.
-abbrev pub AreAmiss : {D : Type 0} → List Line → List Cell → LogCell D → Type 0
-AreAmiss s cells log = AreOthers s cells ⊎ HasUntied cells log ⊎ HasAstray cells log
+-- Why a run stops whose transactions and log are these then: memory ran out; or one of the transactions doesn't tie with the log, and the two values that differ are named.
+abbrev pub StopsFor : {D : Type 0} → List Cell → LogCell D → RunStop → Type 0
+StopsFor cells log Stop.Memory = Unit {0}
+StopsFor cells log (Stop.Differs d) = HasUntied cells log × DoDiffer d
+StopsFor cells log Stop.Astray = ⊥
+
+-- What keeps a run of the script s from its end: the same, or at the end the transactions aren't those of the script, by number, or one of them doesn't follow the log.
+abbrev pub EndsFor : {D : Type 0} → List Line → List Cell → LogCell D → RunStop → Type 0
+EndsFor s cells log Stop.Astray = AreOthers s cells ⊎ HasAstray cells log
+EndsFor s cells log e = StopsFor cells log e
+
+-- why a transaction isn't right at the end
+abbrev pub IsWrong : {D : Type 0} → Cell → LogCell D → RunStop → Type 0
+IsWrong x log Stop.Memory = ⊥
+IsWrong x log (Stop.Differs d) = (TiesWith x.tx log.log → ⊥) × DoDiffer d
+IsWrong x log Stop.Astray = follows log.past x.tx.world.past ≡ false
+
+-- the reason why a run stops is named: memory ran out, two kept values differ, which are named, or what stands at the end isn't what is to stand there
+abbrev pub IsNamed : RunStop → Type 0
+IsNamed Stop.Memory = Unit {0}
+IsNamed (Stop.Differs d) = DoDiffer d
+IsNamed Stop.Astray = Unit {0}

@@ -1,8 +1,8 @@
 //! What the caller does after the threads of a run ended.
-ghost use Rattle.std.specs.Prelude.{◌≡◌, Err, OnOk, length};
+ghost use Rattle.std.specs.Prelude.{◌≡◌, IfErr, OnOk, length};
 ghost use Rattle.run_endings.specs.Finished.{AreFinished};
 ghost use Rattle.run_endings.specs.Finishing.{HaveSameNumbers, MayAsk};
-ghost use Rattle.run_endings.specs.Stops.{AreAmiss};
+ghost use Rattle.run_endings.specs.Stops.{EndsFor};
 
 use crate::stop::RunStop;
 use dtx_values::{Resource, RmNo, Script};
@@ -25,7 +25,9 @@ use testing::test_all;
 ///
 /// # Errors
 ///
-/// [`RunStop::Memory`] where memory ran out, and [`RunStop::Differs`] where the states that are there then aren't those of the script's transactions, by number, or one of them doesn't tie with the log, or doesn't follow it.
+/// - [`RunStop::Memory`] where memory ran out.
+/// - [`RunStop::Differs`] where one of the states doesn't tie with the log.
+/// - [`RunStop::Astray`] where the states that are there then aren't those of the script's transactions, by number, or one of them doesn't follow the log.
 pub fn finish<D: Disk, N: Run>(
     s: &Script,
     managers: &[Option<RmNo>],
@@ -36,7 +38,7 @@ pub fn finish<D: Disk, N: Run>(
     requires named { s.now ≡ N.script }
     requires asked { MayAsk N.script N.objects managers.now (length resources.old) }
     ensures finished { OnOk result (AreFinished N.script states.new log.new) }
-    ensures differs { result ≡ Err RunStop.Differs → AreAmiss N.script states.new log.new }
+    ensures cause { IfErr result (EndsFor N.script states.new log.new) }
     ensures numbers { HaveSameNumbers states.old states.new }
     ensures objects { length resources.new ≡ length resources.old }
 {

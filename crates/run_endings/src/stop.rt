@@ -1,4 +1,5 @@
 //! Why a run on threads gives no trace.
+use dtx_values::Differs;
 use std::alloc::AllocError;
 use tx_cells::TurnError;
 
@@ -7,8 +8,10 @@ use tx_cells::TurnError;
 pub enum RunStop {
     /// Memory ran out.
     Memory,
-    /// What a transaction keeps and what another or the log keeps of it differ.
-    Differs,
+    /// Two kept values differ: the transaction that is wanted and the one that is found in its cell, or the record that a transaction keeps as logged and the one that the log has.
+    Differs(Differs),
+    /// At the end the transactions aren't those of the script, by number, or one of them doesn't follow the log.
+    Astray,
 }
 
 impl From<AllocError> for RunStop {
@@ -31,7 +34,7 @@ impl From<TurnError> for RunStop {
     fn from(error: TurnError) -> RunStop {
         match error {
             TurnError::Memory => RunStop::Memory,
-            TurnError::Differs(_) => RunStop::Differs,
+            TurnError::Differs(differs) => RunStop::Differs(differs),
         }
     }
 }

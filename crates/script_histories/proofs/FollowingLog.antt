@@ -1,6 +1,6 @@
 -- How the transactions of a trace follow the log: each of which the coordinator knows stands stopped exactly where the log is, the others never stopped, and none has more stops and
 -- restarts than the log.
-use Rattle.std.proofs.Common.{◌≡◌, ◌≤◌, ◌==◌, ℕ, suc, Bool, true, false, ◌&&◌, ◌||◌, not, List, [], ◌∷◌, nat_le, if◌then◌else◌, refl, ap, sym, subst, ◌∙◌, arith}
+use Rattle.std.proofs.Common.{◌≡◌, ◌≤◌, ◌==◌, ℕ, suc, Bool, true, false, ◌&&◌, ◌||◌, not, List, [], ◌∷◌, nat_le, refl, ap, sym, subst, ◌∙◌, arith}
 use Rattle.std.proofs.lemmas.Bool.Decides.{nat_tests}
 use Rattle.dtx_values.specs.declared.entry.Entry.{Entry}
 use Rattle.dtx_values.specs.declared.entry.Entry.TheVariants.{LogWord, Restarted, Stopped}
@@ -13,12 +13,12 @@ use Rattle.dtx_model.specs.Words.{each, has, onto, same}
 use Rattle.dtx_model.specs.Wires.{is_stopped}
 use Rattle.dtx_model.specs.Caused.{is_begin_sent}
 use Rattle.dtx_model.specs.Traces.{Placed, history, noted, placed}
-use Rattle.dtx_model.specs.AtLog.{at_log, follow_log, follows_log, is_hit, is_known, is_log, is_log_up, is_opened, is_restart, is_up_by, known, transactions}
-use Rattle.dtx_model.proofs.Bools.{and_both, and_left, and_right, not_both, not_true, or_false, or_first, or_right, or_second}
+use Rattle.dtx_model.specs.AtLog.{at_log, follow_log, follows_log, is_hit, is_known, is_log, is_log_up, is_opened, is_restart, is_up_by, transactions}
+use Rattle.dtx_model.proofs.Bools.{and_both, not_both, or_second}
 use Rattle.dtx_model.proofs.Histories.{entries-other, history-noted, history-other, history-same}
 use Rattle.dtx_model.proofs.Reading.{each-onto, has-onto}
 use Rattle.script_histories.proofs.PutAt.{one_more}
-use Rattle.script_histories.proofs.SteadyBlocks.{is_steady, none_restarts, none_stops, steady_restarts, steady_stopped, steady_stops, steady_unstopped}
+use Rattle.script_histories.proofs.SteadyBlocks.{is_steady, none_stops, steady_restarts, steady_stopped, steady_stops, steady_unstopped}
 use Rattle.dtx_model.specs.Tied.{is_stop}
 
 -- a history follows a log that is up or isn't, with so many stops and openings

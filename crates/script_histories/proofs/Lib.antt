@@ -28,7 +28,6 @@ pub mod ReplaySame
 pub mod ReplayTurns
 pub mod ReplayRuns
 pub mod ReplayNew
-pub mod LocalReplays
 pub mod PutAt
 pub mod OneBegin
 pub mod SteadyBlocks
@@ -44,8 +43,10 @@ pub mod OwnerExample
 pub mod LossExample
 pub mod PromotionExample
 pub mod PlannedReplays
+pub mod SoundLogs
 pub mod Determined
 pub mod OtherTraces
+pub mod PromotedTraces
 pub mod OnTheWay
 pub mod WaitingRuns
 pub mod ClosedTables

@@ -6,15 +6,15 @@ use Rattle.dtx_values.specs.declared.entry.Party.TheVariants.{Client, Enl}
 use Rattle.dtx_values.specs.declared.words.Outcome.TheVariants.{Committed, Aborted}
 use Rattle.dtx_values.specs.declared.words.Vote.TheVariants.{Yes, No}
 use Rattle.dtx_model.specs.Words.{has}
-use Rattle.dtx_model.specs.AtLog.{is_local_trace}
 use Rattle.dtx_model.specs.Traces.{Placed, placed}
 use Rattle.dtx_model.specs.History.{IsHistory, IsReplay}
+use Rattle.script_histories.specs.LogQuiet.{is_log_sound}
 use Rattle.script_histories.proofs.Determined.{history_same}
 use Rattle.script_histories.proofs.ReplayExample.{did, is_history, is_replay, script, stepped, whole}
 use Rattle.dtx_model.proofs.Cast.{a1, e1, t1}
 
--- a replay of the script in which nothing is promoted has that trace and no other
-pub no_other : (T : List Placed) → is_local_trace T ≡ true → IsHistory script 0 0 T → IsReplay script 0 true T → placed t1 whole ≡ T
+-- a replay of the script in which the log is sound has that trace and no other
+pub no_other : (T : List Placed) → is_log_sound T ≡ true → IsHistory script 0 0 T → IsReplay script 0 true T → placed t1 whole ≡ T
 no_other T l h r = history_same script (placed t1 whole) T 0 true is_history is_replay h r refl l
 
 -- an entry says that a `do` did one step, that the outcome isn't told yet, or that e1 votes no

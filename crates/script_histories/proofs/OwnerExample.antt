@@ -24,7 +24,7 @@ use Rattle.dtx_model.specs.Answers.{local_answer}
 use Rattle.dtx_model.specs.Half.{half_of, veto}
 use Rattle.dtx_model.specs.Replies.{all_due, due_of, reply_entries}
 use Rattle.dtx_model.specs.World.{answer_at}
-use Rattle.dtx_model.specs.Steps.{Replies, Acts, ReplyOf, LocalAct, block_at, local_pending, pending}
+use Rattle.dtx_model.specs.Steps.{Replies, ReplyOf, block_at, local_pending, pending}
 use Rattle.dtx_model.specs.Caused.{Caused, IsNamed}
 use Rattle.dtx_model.specs.Replay.{HasSettled, IsReplayed, LinesRan, StepsRan, world_at}
 use Rattle.dtx_values.specs.Owners.{may_own, owner_of}

@@ -1,24 +1,21 @@
 -- What is put at each of some transactions stands in the history of each of them, once; and the transactions of a trace, those of which the coordinator knows and those
 -- that a stop of the log hits, each stand in their list once.
-use Rattle.std.proofs.Common.{◌≡◌, ℕ, zero, suc, ◌==◌, Bool, true, false, ◌&&◌, ◌||◌, not, List, [], ◌∷◌, map, filter, if◌then◌else◌, refl, ap, sym, subst, ◌∙◌, arith}
+use Rattle.std.proofs.Common.{◌≡◌, ℕ, zero, suc, ◌==◌, Bool, true, false, ◌&&◌, ◌||◌, not, List, [], ◌∷◌, filter, if◌then◌else◌, refl, ap, sym, ◌∙◌}
 use Rattle.std.proofs.lemmas.Bool.{eqb-true}
 use Rattle.dtx_values.specs.declared.entry.Entry.{Entry}
-use Rattle.dtx_values.specs.declared.entry.Entry.TheVariants.{Called, Stopped}
-use Rattle.dtx_values.specs.declared.number.ActorNo.{ActorNo}
 use Rattle.dtx_values.specs.declared.number.TxNo.{TxNo}
-use Rattle.dtx_values.specs.declared.trace.Place.{Place}
 use Rattle.dtx_values.specs.declared.trace.Place.TheVariants.{Context, Log, Transaction}
 use Rattle.dtx_values.specs.Table.{how_many}
-use Rattle.dtx_model.specs.Words.{has, onto}
+use Rattle.dtx_model.specs.Words.{has}
 use Rattle.dtx_model.specs.Wires.{is_stopped}
 use Rattle.dtx_model.specs.Caused.{is_begin_sent}
 use Rattle.dtx_model.specs.Traces.{Placed, at_context, history, is_at}
 use Rattle.dtx_model.specs.AtLog.{at_log, hit, is_hit, is_known, known, one_if, transactions, tx_number, with_tx}
 use Rattle.dtx_model.specs.Replay.{others, put_at}
-use Rattle.dtx_model.proofs.Bools.{and_left, and_right, or_false}
+use Rattle.dtx_model.proofs.Bools.{and_left}
 use Rattle.dtx_model.proofs.Counts.{how_many-insert_by}
 use Rattle.dtx_model.proofs.SameNumbers.{same_transaction}
-use Rattle.history_table.proofs.Tests.{eq_self, eq_swap}
+use Rattle.history_table.proofs.Tests.{eq_swap}
 
 -- the transaction has this number
 abbrev pub is_tx : ℕ → TxNo → Bool

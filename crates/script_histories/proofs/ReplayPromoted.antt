@@ -30,32 +30,32 @@ use Rattle.script_histories.proofs.Replays.{replayed_caused}
 use Rattle.dtx_model.proofs.Cast.{a1, t1}
 
 -- the lines `a1 begin t1 0`, `a1 marshal t1` and `a1 do t1 1 2`
-abbrev marshalled : List Line
+abbrev pub marshalled : List Line
 marshalled = record { actor = a1; body = BeginLine t1 (Milliseconds 0) } ∷ record { actor = a1; body = Marshal t1 } ∷ record { actor = a1; body = Do t1 1 2 } ∷ []
 
-abbrev begun : List Entry
+abbrev pub begun : List Entry
 begun = Called 1 a1 Fine ∷ Began 600000 ∷ []
 
 -- the marshal call waits, and a promotion begins
-abbrev waits : List Entry
+abbrev pub waits : List Entry
 waits = begun ++ Called 2 a1 Wait ∷ Promoting MarshalCause ∷ Sent Begin Up BeginBegin ∷ []
 
 -- the steps of the `do`: BEGIN is got, and then BEGUN
-abbrev up : List Entry
+abbrev pub up : List Entry
 up = waits ++ Got Begin Up BeginBegin ∷ Sent Begin Down (BeginBegun 18446744073709551617) ∷ []
 
-abbrev down : List Entry
+abbrev pub down : List Entry
 down = up ++ Got Begin Down (BeginBegun 18446744073709551617) ∷ Sent Voter Up (VoterVoter 18446744073709551617) ∷ []
 
 -- and its call
-abbrev did : List Entry
+abbrev pub did : List Entry
 did = down ++ Called 3 a1 (Did 2) ∷ []
 
 -- in the rounds VOTER is got, and then CREATED: the promotion is over, and the marshal call has its identifier
-abbrev voter : List Entry
+abbrev pub voter : List Entry
 voter = did ++ Got Voter Up (VoterVoter 18446744073709551617) ∷ Sent Voter Down VoterCreated ∷ []
 
-abbrev over : List Entry
+abbrev pub over : List Entry
 over = voter ++ Got Voter Down VoterCreated ∷ Promoted 18446744073709551617 MarshalCause ∷ Answered 2 (Id 18446744073709551617) ∷ []
 
 -- the lines ran so
@@ -86,7 +86,7 @@ rounds = (
 )
 
 -- it is a replay, in which t1 is promoted, and after which nothing is pending at t1
-promoted_replayed : IsReplayed marshalled (at_t1 over)
+pub promoted_replayed : IsReplayed marshalled (at_t1 over)
 promoted_replayed = record { by_lines = at_t1 did; lines = lines_run; turns = (t1, Delivers Voter Down) ∷ (t1, Delivers Voter Up) ∷ []; rounds = rounds }
 
 pub promoted_settled : Settled marshalled (past_of over)

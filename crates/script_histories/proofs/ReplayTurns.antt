@@ -22,10 +22,10 @@ use Rattle.dtx_model.specs.Contexts.{scope_block, scope_calls, scopes_of}
 use Rattle.dtx_model.specs.Traces.{Placed, history, noted, placed}
 use Rattle.dtx_model.specs.declared.waiting.EnteredCall.{EnteredCall}
 use Rattle.dtx_model.specs.World.{World, half}
-use Rattle.dtx_model.specs.Steps.{StoppedNow, Step, Calls, Coordinates, StepName, pending}
+use Rattle.dtx_model.specs.Steps.{StoppedBefore, StoppedNow, Step, Calls, Coordinates, StepName, pending}
 use Rattle.dtx_model.specs.Caused.{HasStepped, IsNamed, MayAnswer, Settled, is_begin_sent}
 use Rattle.dtx_model.specs.AtLog.{hit, is_local_trace, is_log, is_log_line, is_log_up, known}
-use Rattle.dtx_model.specs.Replay.{CallRan, IsReplayed, IsTurn, LineRan, LinesRan, Reopening, Opens, Faults, Differs, RoundsRan, StepsRan, after_calls, after_halt, after_restart, after_scope, after_turn, at_the_log, block_in, last_turn, others, stop_if, stopped_by_restart, world_at}
+use Rattle.dtx_model.specs.Replay.{CallRan, IsReplayed, IsTurn, LineRan, LinesRan, Reopening, Opens, Faults, Differs, RoundsRan, StepsRan, after_calls, after_halt, after_restart, after_scope, after_turn, at_the_log, block_in, is_in_replay, last_turn, others, stop_if, stopped_by_restart, world_at}
 use Rattle.dtx_model.proofs.Bools.{and_both, and_left, and_right, not_false, or_right}
 use Rattle.dtx_model.proofs.Reading.{each-onto}
 use Rattle.script_histories.specs.LogQuiet.{is_log_quiet}
@@ -93,6 +93,18 @@ turn_block s t (Coordinates StoppedNow) T l = absurd (never_now t T l)
 turn_block s t m T l =
     quiet_turn s t m T (quiet_before T (placed t (block_in s t m T)) (stop_before (has is_begin_sent (block_in s t m T) && not (is_log_up T)) t (after_block s t m T) l)) refl
 
+-- the step neither stops the log nor finds it stopped
+abbrev pub goes_on : Step → Bool
+goes_on (Coordinates StoppedNow) = false
+goes_on (Coordinates StoppedBefore) = false
+goes_on _ = true
+
+-- so it is with each of a replay after which the log is quiet
+turn_goes : (s : List Line) (t : TxNo) (m : Step) (T : List Placed) → is_in_replay m ≡ true → IsQuiet (after_turn s t m T) → goes_on m ≡ true
+turn_goes s t (Coordinates StoppedNow) T q l = absurd (never_now t T l)
+turn_goes s t (Coordinates StoppedBefore) T q l = absurd cc
+turn_goes s t _ T q l = refl
+
 -- the log stays quiet with a block at a transaction, or at a context
 at_quiet : (p : Place) (es : List Entry) → is_log p ≡ false → each is_off_log (map (λ e. (p, e)) es) ≡ true
 at_quiet p [] k = refl
@@ -112,7 +124,8 @@ world_with ks t T = record { calls = ks; past = history t.value T }
 abbrev pub StepsDone : List Line → TxNo → ℕ → ℕ → List Placed → List Placed → Type 0
 StepsDone s t k zero start T = T ≡ start
 StepsDone s t k (suc m) start T =
-    (past : List Placed) × StepsDone s t k m start past × (n : StepName) × (step : Step) × (kth (pending (world_at s t past)) k ≡ Some n) × IsNamed (world_at s t past) n step × (T ≡ after_block s t step past)
+    (past : List Placed) × StepsDone s t k m start past × (n : StepName) × (step : Step) × (kth (pending (world_at s t past)) k ≡ Some n) × IsNamed (world_at s t past) n step
+    × (goes_on step ≡ true) × (T ≡ after_block s t step past)
 
 -- as a `do` or an `await` does them
 pub record IsDo (s : List Line) (t : TxNo) (k n m : ℕ) (start before : List Placed) : Type 0 where
@@ -149,7 +162,7 @@ LinesDone s (l ∷ before) T = (past : List Placed) × LinesDone s before past �
 
 abbrev pub RoundsDone : List Line → List Placed → List (TxNo × Step) → List Placed → Type 0
 RoundsDone s start [] T = T ≡ start
-RoundsDone s start (x ∷ xs) T = (past : List Placed) × RoundsDone s start xs past × IsTurn s past (last_turn xs) x.0 x.1 × (T ≡ after_block s x.0 x.1 past)
+RoundsDone s start (x ∷ xs) T = (past : List Placed) × RoundsDone s start xs past × IsTurn s past (last_turn xs) x.0 x.1 × (goes_on x.1 ≡ true) × (T ≡ after_block s x.0 x.1 past)
 
 pub record ReplayDone (s : List Line) (T : List Placed) : Type 0 where
   pub by_lines : List Placed
@@ -195,11 +208,6 @@ await_called s Ran after a i t u m start before T ran settled e =
       ends = e;
     }
 
-pub has_called : (s : List Line) (a : ActorNo) (i : ℕ) (t : TxNo) (c : Call) (start T : List Placed) → CallDone s a i (Some (t, c)) start T → HasCalled s (StepsDone s t) (after_block s t) a i t c start T
-has_called s a i t (Do u k n) start T r = do_called s (StepsDone s t) (after_block s t) a i t u k n r.0 start r.1 T r.2.ran r.2.most r.2.stopped r.3
-has_called s a i t (Await u) start T r = await_called s (StepsDone s t) (after_block s t) a i t u r.0 start r.1 T r.2.ran r.2.settled r.3
-has_called s a i t _ start T r = record { place = 1; count = 0; done = 0; before = start; steps = refl; may = λ ks st same. tt; ends = r }
-
 -- That is what the steps of a quiet trace come to: those of a `do` or an `await`,
 pub steps_before : (s : List Line) (t : TxNo) (k m : ℕ) (start T : List Placed) → IsQuiet T → StepsRan s t k m start T → IsQuiet start
 steps_before s t k zero start T l r = subst IsQuiet r l
@@ -209,7 +217,7 @@ pub steps_done : (s : List Line) (t : TxNo) (k m : ℕ) (start T : List Placed) 
 steps_done s t k zero start T l r = r
 steps_done s t k (suc m) start T l r =
     let turn = subst IsQuiet r.7 l in
-    (r.0, steps_done s t k m start r.0 (turn_before s t r.3 r.0 turn) r.1, r.2, r.3, r.4, r.5, r.7 ∙ turn_block s t r.3 r.0 turn)
+    (r.0, steps_done s t k m start r.0 (turn_before s t r.3 r.0 turn) r.1, r.2, r.3, r.4, r.5, turn_goes s t r.3 r.0 r.6 turn, r.7 ∙ turn_block s t r.3 r.0 turn)
 
 -- a line's call by its own words,
 words_before : (s : List Line) (a : ActorNo) (i : ℕ) (c : Option (TxNo × Call)) (start T : List Placed) → IsQuiet T → CallRan s a i c start T → IsQuiet start
@@ -292,7 +300,7 @@ rounds_done : (s : List Line) (start : List Placed) (xs : List (TxNo × Step)) (
 rounds_done s start [] T l r = r
 rounds_done s start (x ∷ xs) T l r =
     let turn = subst IsQuiet r.3 l in
-    (r.0, rounds_done s start xs r.0 (turn_before s x.0 x.1 r.0 turn) r.1, r.2, r.3 ∙ turn_block s x.0 x.1 r.0 turn)
+    (r.0, rounds_done s start xs r.0 (turn_before s x.0 x.1 r.0 turn) r.1, r.2, turn_goes s x.0 x.1 r.0 r.2.in_replay turn, r.3 ∙ turn_block s x.0 x.1 r.0 turn)
 
 -- a replay in which nothing stands at the log
 pub replay_done : (s : List Line) (T : List Placed) → IsQuiet T → IsReplayed s T → ReplayDone s T

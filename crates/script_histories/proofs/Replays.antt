@@ -1,6 +1,6 @@
 -- What a replay does, stops of the log and restarts included, is caused by its script in each transaction and follows the log, has each line's call once and in order, and makes each
 -- name anew.
-use Rattle.std.proofs.Common.{◌≡◌, ℕ, zero, suc, ◌+◌, ◌-◌, ◌<◌, ◌==◌, Bool, true, false, List, [], ◌∷◌, ◌++◌, length, take, Option, Some, None, inl}
+use Rattle.std.proofs.Common.{◌≡◌, ℕ, suc, ◌+◌, ◌-◌, true, false, List, [], ◌∷◌, ◌++◌, length, take, Option, Some, None, inl}
 use Rattle.std.proofs.Common.{refl, arith, append-nil, ◌∙◌, ap, sym, subst}
 use Rattle.std.specs.List.{slice_get}
 use Rattle.dtx_values.specs.declared.number.ActorNo.{ActorNo}

@@ -1,8 +1,7 @@
 -- A replay with restarts, so that the law of a replay speaks of these too: a fault stops the log, BEGIN is sent while it stands stopped, it is opened again, and stopped and opened once
 -- more. It stands oldest first.
-use Rattle.std.proofs.Common.{◌≡◌, ◌==◌, Bool, true, false, List, [], ◌∷◌, ◌++◌, refl}
+use Rattle.std.proofs.Common.{◌≡◌, true, false, List, [], ◌∷◌, ◌++◌, refl}
 use Rattle.dtx_values.specs.declared.entry.Answer.TheVariants.{Fault, Fine, Wait}
-use Rattle.dtx_values.specs.declared.entry.Entry.{Entry}
 use Rattle.dtx_values.specs.declared.entry.Entry.TheVariants.{Began, Called, LogWord, Promoting, Restarted, Sent, Stopped}
 use Rattle.dtx_values.specs.declared.entry.LogNote.TheVariants.{Opened}
 use Rattle.dtx_values.specs.declared.message.Conn.TheVariants.{Begin}
@@ -19,7 +18,7 @@ use Rattle.dtx_model.specs.Answers.{local_answer}
 use Rattle.dtx_model.specs.World.{answer_at}
 use Rattle.dtx_model.specs.Steps.{block_at}
 use Rattle.dtx_model.specs.AtLog.{follow_log}
-use Rattle.dtx_model.specs.Traces.{Placed, history, placed}
+use Rattle.dtx_model.specs.Traces.{Placed, placed}
 use Rattle.dtx_model.specs.Replay.{Faults, IsReplayed, LinesRan, Opens}
 use Rattle.script_histories.proofs.Replays.{replayed_followed}
 use Rattle.dtx_model.proofs.Cast.{a1, t1}

@@ -1,7 +1,5 @@
 -- Which blocks have no stop and no restart: all but those of a stop, of a restart, and of an act of the coordinator that met a stopped log.
-use Rattle.std.proofs.Common.{◌≡◌, ◌⊎◌, inl, inr, ℕ, Bool, true, false, ◌&&◌, not, List, [], ◌∷◌, is_some, refl, ap, sym, ◌∙◌, if◌then◌else◌}
-use Rattle.dtx_values.specs.declared.call.Call.{Call}
-use Rattle.dtx_values.specs.declared.entry.Answer.{Answer}
+use Rattle.std.proofs.Common.{◌≡◌, ◌⊎◌, inl, inr, ℕ, Bool, true, false, List, [], ◌∷◌, is_some, refl, ap, sym, ◌∙◌, if◌then◌else◌}
 use Rattle.dtx_values.specs.declared.entry.Ask.TheVariants.{Promote, Single as AskSingle}
 use Rattle.dtx_values.specs.declared.entry.Entry.{Entry}
 use Rattle.dtx_values.specs.declared.entry.Entry.TheVariants.{Asked, Called, Cut, Down as Ended, Freed, Got, Logged, LogFull, Recovered as RecoveredEntry, Restarted, Sealed, Sent, Stopped}
@@ -11,22 +9,17 @@ use Rattle.dtx_values.specs.declared.message.Dir.{Dir}
 use Rattle.dtx_values.specs.declared.message.Dir.TheVariants.{Up, Down}
 use Rattle.dtx_values.specs.declared.message.Message.{Message}
 use Rattle.dtx_values.specs.declared.message.Message.TheVariants.{BeginCommit}
-use Rattle.dtx_values.specs.declared.note.Reply.{Reply}
-use Rattle.dtx_values.specs.declared.number.EnlNo.{EnlNo}
-use Rattle.dtx_values.specs.Lines.{has_line}
 use Rattle.dtx_values.specs.Table.{how_many}
-use Rattle.dtx_model.specs.Words.{each, has, latest, onto}
+use Rattle.dtx_model.specs.Words.{each, onto}
 use Rattle.dtx_model.specs.Promotes.{identifier_of}
-use Rattle.dtx_model.specs.Wires.{in_transit, is_stopped, stop_of}
-use Rattle.dtx_model.specs.Coordinated.{Coordinated, core_got, follow, may_log}
+use Rattle.dtx_model.specs.Wires.{in_transit, is_stopped}
+use Rattle.dtx_model.specs.Coordinated.{follow, may_log}
 use Rattle.dtx_model.specs.Half.{Half, sees}
 use Rattle.dtx_model.specs.Arrivals.{local_got}
 use Rattle.dtx_model.specs.Acts.{act_entries}
-use Rattle.dtx_model.specs.Replies.{reply_entries}
-use Rattle.dtx_model.specs.Facts.{facts_if, has_facts}
-use Rattle.dtx_model.specs.World.{World, answer_at, core, facts_at, half}
-use Rattle.dtx_model.specs.Steps.{LogAnswer, Step, Calls, Replies, Acts, Coordinates, Delivers, Stops, Restarts, StoppedNow, StoppedBefore, Done, Full, StepName, ReplyOf, LocalAct, CoordinatorAct, Delivery, block_at, coordinates, delivered, ended_at}
-use Rattle.dtx_model.specs.Caused.{IsNamed, is_begin_sent}
+use Rattle.dtx_model.specs.World.{World, answer_at, core, half}
+use Rattle.dtx_model.specs.Steps.{LogAnswer, Step, Calls, Replies, Acts, Coordinates, Delivers, Stops, Restarts, StoppedNow, StoppedBefore, Done, Full, StepName, ReplyOf, LocalAct, CoordinatorAct, Delivery, block_at, delivered}
+use Rattle.dtx_model.specs.Caused.{IsNamed}
 use Rattle.dtx_model.specs.AtLog.{is_restart}
 use Rattle.dtx_model.specs.Replay.{is_in_replay}
 use Rattle.dtx_model.proofs.Blocks.{of_abort_sends, of_arrived, of_called, of_commit_sends, of_core_down, of_core_got, of_local_down, of_reply, of_whole_act}

@@ -103,17 +103,17 @@ is_run_of s k a b from to honest rs T e f none run =
 
 -- What run_replay says of its trace is what a replay over a log without a record promises, at the disk that is taken back.
 pub is_replay : {D : Type 0} (faults : D → ℕ) (honest : Bool) (image : D → List ℕ → Type 0) (k : ℕ) (s : List Line) (end : D) (old new : LogState D) (T : List Placed) → end ≡ new.disk → open_records old.slots ≡ []
-    → IsRunOf s k (faults old.disk) (faults new.disk) (honest && is_empty (open_records old.slots)) T → IsLawful honest s T → new.is_up ≡ is_log_up (past_of T)
+    → IsRunOf s k (faults old.disk) (faults new.disk) (honest && is_empty (open_records old.slots)) T → IsLawful honest (is_empty (open_records old.slots)) s T → new.is_up ≡ is_log_up (past_of T)
     → (IsTrue honest → EndsAs image (open_records old.slots) new (past_of T)) → IsReplayOf k (faults old.disk) (faults end) honest (image end) s T
 is_replay faults honest image k s end old new T same empty run lawful up ended =
     record {
       run = is_run_of s k (faults old.disk) (faults end) (faults old.disk) (faults new.disk) honest (open_records old.slots) T refl (sym (ap faults same)) empty run;
-      lawful = lawful;
+      lawful = subst (λ (f : Bool). IsLawful honest f s T) (ap is_empty empty) lawful;
       log = λ h. subst (λ d. IsLogOf (image d) T) (sym same) (is_log_of image (open_records old.slots) new T empty up (ended h));
     }
 
 pub is_replay_if : {D : Type 0} (faults : D → ℕ) (honest : Bool) (image : D → List ℕ → Type 0) (k : ℕ) (s : List Line) (end : D) (old new : LogState D) {E : Type 0} (r : Result (List Placed) E) → end ≡ new.disk → open_records old.slots ≡ []
-    → IfOk r (λ T. IsRunOf s k (faults old.disk) (faults new.disk) (honest && is_empty (open_records old.slots)) T) → IfOk r (IsLawful honest s) → IfOk r (λ T. new.is_up ≡ is_log_up (past_of T))
+    → IfOk r (λ T. IsRunOf s k (faults old.disk) (faults new.disk) (honest && is_empty (open_records old.slots)) T) → IfOk r (IsLawful honest (is_empty (open_records old.slots)) s) → IfOk r (λ T. new.is_up ≡ is_log_up (past_of T))
     → (IsTrue honest → IfOk r (λ T. EndsAs image (open_records old.slots) new (past_of T))) → IfOk r (IsReplayOf k (faults old.disk) (faults end) honest (image end) s)
 is_replay_if faults honest image k s end old new (Ok T) same empty run lawful up ended = is_replay faults honest image k s end old new T same empty run lawful up ended
 is_replay_if faults honest image k s end old new (Err e) same empty run lawful up ended = run

@@ -70,17 +70,17 @@ pub replay_on_threads : HasOrder → (s : List Line) (k a from to : ℕ) (honest
 replay_on_threads order s k a from to honest T le run = record {
   rise = run.rise + ((to - a) - run.rise);
   risen = λ less. let r = run.risen less in omega (arith, r, le);
-  caused = λ t. caused_more s k t.value (history t.value (past_of T)) (run.caused t);
   ordered = order s T run.replay.called;
-  history = λ sound. let h = run.history sound in record {
-    caused = λ t. caused_more s k t.value (history t.value (past_of T)) (run.caused t);
-    promotes = h.promotes;
+  history = let h = run.history in record {
+    caused = λ t. caused_more s k t.value (history t.value (past_of T)) (h.caused t);
     wires = h.wires;
     settled = h.settled;
     contexts = h.contexts;
     called = h.called;
+    at_log = h.at_log;
     faulted = omega (arith, h.faulted);
     followed = h.followed;
+    promotes = h.promotes;
   };
 }
 
@@ -89,4 +89,4 @@ pub all_on_threads : HasOrder → {E : Type 0} (r : Result (List Placed) E) (s :
     → ((T : List Placed) → ((t : TxNo) → Caused s 0 t.value (history t.value (past_of T))) → IsLogOf image T → EndsOnThreads s image T) → IfOk r (IsReplayOf 0 from to honest image s) → IfOk r (IsThreadsOf k a to honest image s)
 all_on_threads order r s k a from to honest image le ends =
     if_ok r (IsReplayOf 0 from to honest image s) (IsThreadsOf k a to honest image s)
-    (λ T x. record { run = replay_on_threads order s k a from to honest T le x.run; lawful = x.lawful; log = λ h. ends T x.run.caused (x.log h) })
+    (λ T x. record { run = replay_on_threads order s k a from to honest T le x.run; lawful = x.lawful; log = λ h. ends T x.run.history.caused (x.log h) })

@@ -1,5 +1,5 @@
 -- What the top call promises.
-use Rattle.std.specs.Prelude.{ℕ, ◌≡◌, ◌⊎◌, Bool, false, List, ◌++◌, Option, Some, IsTrue}
+use Rattle.std.specs.Prelude.{ℕ, ◌≡◌, ◌⊎◌, Bool, true, false, List, ◌++◌, Option, Some, IsTrue}
 use Rattle.std.specs.Option.{ForSome}
 use Rattle.dtx_values.specs.declared.script.Line.{Line}
 use Rattle.dtx_model.specs.AtLog.{has_log_line}
@@ -31,18 +31,18 @@ AsksThreads ws = (h : ℕ) × (f : Form) × Asks ws (Threads h f)
 abbrev pub AsksRun : List (List ℕ) → Type 0
 AsksRun ws = AsksReplay ws ⊎ AsksThreads ws
 
--- T is a run of the script s in the order of a replay in which the first k managers have an object, over a disk that is honest or not, whose count of faults was `from` before and is `to` now. Where each restart found what may be found, as on an honest disk and in each run without a restart, it is a
--- settled history of the script. It keeps the laws of every run. Where the disk is honest, the log that each image holds has the records that the trace says.
+-- T is a run of the script s in the order of a replay in which the first k managers have an object, over a disk that is honest or not, whose count of faults was `from` before and is `to` now: it is a settled history of the script, and keeps the
+-- laws of every run. Where the disk is honest, the log that each image holds has the records that the trace says.
 pub record IsReplayOf (k from to : ℕ) (honest : Bool) (image : List ℕ → Type 0) (s : List Line) (T : List Placed) : Type 0 where
   pub run : IsRunOf s k from to honest T
-  pub lawful : IsLawful honest s T
+  pub lawful : IsLawful honest true s T
   pub log : IsTrue honest → IsLogOf image T
 
 -- The same of a run on threads: each actor's calls are in the order of its lines, at each place, and those of two actors come in any order; all else is as in a replay. The log that each image holds has, where the trace leaves it up, one record of
 -- each transaction that has one by the trace; and whether it is up or not, the script's transactions alone, each at most once.
 pub record IsThreadsOf (k from to : ℕ) (honest : Bool) (image : List ℕ → Type 0) (s : List Line) (T : List Placed) : Type 0 where
   pub run : IsRunOnThreads s k from to T
-  pub lawful : IsLawful honest s T
+  pub lawful : IsLawful honest true s T
   pub log : IsTrue honest → EndsOnThreads s image T
 
 -- T is a run of this way: a replay, or one on threads

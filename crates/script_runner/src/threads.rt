@@ -131,6 +131,6 @@ pub fn run_threads<D: Disk + Send, G: Gate + Sync, R: Threads + Wait + Sync>(
     match run {
         Ok(trace) => (Ok(trace), disk),
         Err(RunStop::Memory) => (Err(ThreadsError::Memory), disk),
-        Err(RunStop::Differs) => replayed_anew(alloc, s, disk),
+        Err(RunStop::Differs(_) | RunStop::Astray) => replayed_anew(alloc, s, disk),
     }
 }

@@ -19,7 +19,6 @@ use Rattle.dtx_values.specs.declared.words.Outcome.TheVariants.{Committed, Abort
 use Rattle.dtx_values.specs.Class.{is_promotable}
 use Rattle.dtx_values.specs.Clones.{is_open_block}
 use Rattle.dtx_values.specs.Ends.{tag_of, was_got}
-use Rattle.dtx_values.specs.Owners.{lasting}
 use Rattle.dtx_values.specs.Waves.{name_of, is_over, next_ask, zeros_voted, all_voted}
 use Rattle.dtx_model.specs.declared.waiting.Wanted.TheVariants.{Identifier, Place}
 use Rattle.dtx_model.specs.Words.{has, each, latest}

@@ -17,7 +17,7 @@ use Rattle.dtx_model.specs.Tied.{tied}
 use Rattle.dtx_model.specs.Wires.{opens}
 use Rattle.dtx_model.specs.Coordinated.{coordinate, is_undecided}
 use Rattle.dtx_model.specs.Steps.{deliveries_on}
-use Rattle.dtx_model.specs.Caused.{Caused, IsCallOf, entered_in}
+use Rattle.dtx_model.specs.Caused.{FreelyCaused, IsCallOf, entered_in}
 use Rattle.dtx_model.specs.Grammar.{are_named_well}
 use Rattle.dtx_model.specs.History.{AreAnswered}
 use Rattle.dtx_model.proofs.Bools.{and_both, not_both, not_false, or_false, or_right}
@@ -67,9 +67,9 @@ unasked behind (x ∷ h) = and_both (is_answered false behind x) (are_answered f
     one _ = refl
 
 -- in a history of a script, each that came back was told
-pub answered_returns : (s : List Line) (k t : ℕ) (h : List Entry) → are_named_well s ≡ true → Caused s k t h → tied h ≡ true → AreAnswered s h
-answered_returns s k t h named c d settled =
-    by (ran_returning (IsCallOf s t) t c.freely.1.0 (record { calls = c.freely.0; past = h }) (script_once s t named) c.freely.1.1 d) (is_decided_there h) refl
+pub answered_returns : (s : List Line) (t : ℕ) (h : List Entry) → are_named_well s ≡ true → FreelyCaused (IsCallOf s t) t h → tied h ≡ true → AreAnswered s h
+answered_returns s t h named c d settled =
+    by (ran_returning (IsCallOf s t) t c.1.0 (record { calls = c.0; past = h }) (script_once s t named) c.1.1 d) (is_decided_there h) refl
   where
     open_none : is_undecided (coordinate h).stage ≡ true → is_decided_there h ≡ false
     open_none u = or_false (has is_record h) (coordinator_aborted h) (open_unrecorded h u) (open_unaborted h u)

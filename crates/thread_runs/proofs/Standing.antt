@@ -18,7 +18,7 @@ use Rattle.dtx_model.specs.Replies.{all_due}
 use Rattle.dtx_model.specs.Steps.{local_pending, pending}
 use Rattle.dtx_model.specs.Tied.{is_stop, tied}
 use Rattle.dtx_model.specs.Traces.{Placed, history}
-use Rattle.dtx_model.specs.Words.{each}
+use Rattle.dtx_model.specs.Words.{each, has}
 use Rattle.dtx_model.proofs.Bools.{and_both, and_left, and_right}
 use Rattle.dtx_model.proofs.Lifting.{lift_ran}
 use Rattle.dtx_model.proofs.SameNumbers.{same_transaction}
@@ -26,7 +26,7 @@ use Rattle.script_histories.proofs.ReplaySame.{pending_same}
 use Rattle.script_histories.proofs.ScriptCalls.{ran_calls}
 use Rattle.script_calls.specs.Rows.{are_entered}
 use Rattle.tx_cells.specs.Board.{transactions_of}
-use Rattle.tx_cells.specs.Cell.{Cell}
+use Rattle.tx_cells.specs.Cell.{Cell, is_log_full}
 use Rattle.tx_cells.specs.LogCell.{LogCell}
 use Rattle.tx_cells.specs.Ties.{TiesWith}
 use Rattle.thread_runs.specs.Gathering.{IsCellOf}
@@ -100,6 +100,11 @@ settled_there s k honest log t h (inr f) = subst (Settled s) (sym f.1) (none_set
 pub tied_there : {D : Type 0} (s : List Line) (k : ℕ) (honest : Bool) (log : LogCell D) (t : TxNo) (h : List Entry) → IsTrue honest → Stands s k honest log h t → tied h ≡ true
 tied_there s k honest log t h sure (inl f) = ap tied f.3 ∙ f.2.cell.kept.sound sure
 tied_there s k honest log t h sure (inr f) = ap tied f.1
+
+-- No append in it found the log full, over an honest disk.
+pub unfilled_there : {D : Type 0} (s : List Line) (k : ℕ) (honest : Bool) (log : LogCell D) (t : TxNo) (h : List Entry) → IsTrue honest → Stands s k honest log h t → has is_log_full h ≡ false
+unfilled_there s k honest log t h sure (inl f) = ap (has is_log_full) f.3 ∙ f.2.cell.kept.unfilled sure
+unfilled_there s k honest log t h sure (inr f) = ap (has is_log_full) f.1
 
 -- It follows the log.
 same_follows : (T : List Placed) (t : TxNo) (h l : List Entry) → history t.value T ≡ h → at_log T ≡ l → follows_log T t ≡ follows l h

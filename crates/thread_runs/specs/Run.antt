@@ -3,8 +3,6 @@ use Rattle.std.specs.Prelude.{ℕ, ◌≡◌, Bool, true, false, List, IsTrue, l
 use Rattle.dtx_values.specs.declared.number.TxNo.{TxNo}
 use Rattle.dtx_values.specs.declared.script.Line.{Line}
 use Rattle.dtx_model.specs.AtLog.{at_log, is_log_up}
-use Rattle.dtx_model.specs.Caused.{Caused}
-use Rattle.dtx_model.specs.History.{IsHistory}
 use Rattle.dtx_model.specs.Log.{CommitRecord}
 use Rattle.dtx_model.specs.Tied.{has_mark}
 use Rattle.dtx_model.specs.Traces.{Placed, history}
@@ -13,17 +11,16 @@ use Rattle.coordinator_log.specs.Crash.{AllHold}
 use Rattle.coordinator_log.specs.State.{LogState}
 use Rattle.call_order.specs.InOrder.{AreInActorOrder}
 use Rattle.tx_cells.specs.LogAnswers.{is_no_log_answer}
-pub use Rattle.turn_parts.specs.Runs.{AreTied, EachHolds, IsRise, records_of}
+pub use Rattle.turn_parts.specs.Runs.{AreTied, EachHolds, IsNeverFull, IsRise, IsRunHistory, records_of}
 use Rattle.tx_cells.specs.LogCell.{AreOwn}
 
--- T is a run of the script on threads in which the first k managers have an object, over a disk whose count of faults was `from` before and is `to` now: each transaction's history is one that the script's lines cause; at each place the calls of
--- each actor are those that its lines make there, in order; and where each restart found what may be found, it is a settled history of the script.
+-- T is a run of the script on threads in which the first k managers have an object, over a disk whose count of faults was `from` before and is `to` now: it is a settled history of the script, and at each place the calls of each actor are those
+-- that its lines make there, in order.
 pub record IsRunOnThreads (s : List Line) (k from to : ℕ) (T : List Placed) : Type 0 where
   pub rise : ℕ
   pub risen : IsRise from to rise
-  pub caused : (t : TxNo) → Caused s k t.value (history t.value (past_of T))
+  pub history : IsRunHistory s k rise T
   pub ordered : AreInActorOrder s T
-  pub history : AreTied T → IsHistory s k rise T
 
 -- The records of a log that is up, where T is the trace, newest first: of each transaction there is one where the last of `logged`, `freed`, `restarted found` and `restarted none` is `logged` or `restarted found`, and else none.
 abbrev pub AreMarked : List Placed → List CommitRecord → Type 0
@@ -36,10 +33,11 @@ pub record EndsOnThreads (s : List Line) (image : List ℕ → Type 0) (T : List
   pub own : EachHolds image (AreOwn s)
 
 -- What a run of the script s on threads came to, in which the first k managers have an object, and before which the disk's count of faults was `from`: T is its trace, and `to` the log after it, which is up exactly where the trace says so. On an honest
--- disk each restart in the trace found what may be found, and found a log; and the log ends as the trace says.
+-- disk each restart in the trace found what may be found, and found a log, and no append found the log full; and the log ends as the trace says.
 pub record RanOnThreads {D : Type 0} (faults : D → ℕ) (honest : Bool) (image : D → List ℕ → Type 0) (s : List Line) (k from : ℕ) (to : LogState D) (T : List Placed) : Type 0 where
   pub run : IsRunOnThreads s k from (faults to.disk) T
   pub tied : IsTrue honest → AreTied T
   pub up : to.is_up ≡ is_log_up (past_of T)
   pub ended : IsTrue honest → EndsOnThreads s (image to.disk) T
   pub unlike : IsTrue honest → has is_no_log_answer (at_log (past_of T)) ≡ false
+  pub unfilled : IsTrue honest → IsNeverFull T

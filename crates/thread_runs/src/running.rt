@@ -1,9 +1,10 @@
 //! The run itself.
-ghost use Rattle.std.specs.Prelude.{◌≡◌, ◌≤◌, IfOk, IsTrue, map, vec_len};
+ghost use Rattle.std.specs.Prelude.{◌≡◌, ◌≤◌, IfErr, IfOk, IsTrue, map, vec_len};
 ghost use Rattle.tx_cells.specs.Cell.{IsThreadable};
 ghost use Rattle.tx_cells.specs.Fresh.{IsFresh, MayBegin};
 ghost use Rattle.tx_cells.specs.LogCell.{AreOwn};
 ghost use Rattle.thread_runs.specs.Contexts.{AreContexts};
+ghost use Rattle.run_endings.specs.Stops.{IsNamed};
 ghost use Rattle.thread_runs.specs.Run.{EachHolds, RanOnThreads};
 
 use crate::contexts::outline_of;
@@ -84,6 +85,7 @@ fn threads_over<N: Run + Send + Sync, D: Disk + Send, G: Gate + Sync, R: Threads
     requires objects { vec_len setting.resources ≡ N.objects }
     ensures contexts { IfOk result (λ x. AreContexts N.script (map (λ h. h.items) x.contexts.items)) }
     ensures objects { IfOk result (λ x. vec_len x.resources ≡ N.objects) }
+    ensures named { IfErr result IsNamed }
 {
     let alloc = setting.alloc;
     let plans = Plans::new(alloc, s.lines())?;
@@ -119,7 +121,8 @@ fn trace_of<N: Run, D: Disk>(
     requires named { s.now ≡ N.script }
     requires contexts { AreContexts N.script (map (λ h. h.items) left.contexts.items) }
     requires objects { vec_len left.resources ≡ N.objects }
-    ensures { IfOk result (RanOnThreads D.faults D.honest D.image N.script N.objects N.faults log.new.log) }
+    ensures run { IfOk result (RanOnThreads D.faults D.honest D.image N.script N.objects N.faults log.new.log) }
+    ensures named { IfErr result IsNamed }
 {
     let Left {
         contexts,
@@ -142,6 +145,7 @@ fn run_named<N: Run + Send + Sync, D: Disk + Send, G: Gate + Sync, R: Threads + 
     requires begins { MayBegin N.script N.honest N.faults D.honest D.faults s.now log }
     requires objects { vec_len setting.resources ≡ N.objects }
     ensures run { IfOk result.0 (RanOnThreads D.faults D.honest D.image N.script N.objects N.faults result.1) }
+    ensures named { IfErr result.0 IsNamed }
     ensures grows { N.faults ≤ D.faults result.1.disk }
     ensures images { IsTrue D.honest → EachHolds (D.image result.1.disk) (AreOwn N.script) }
 {
@@ -169,7 +173,7 @@ fn run_named<N: Run + Send + Sync, D: Disk + Send, G: Gate + Sync, R: Threads + 
 ///
 /// # Errors
 ///
-/// [`RunStop::Memory`] where memory ran out, and [`RunStop::Differs`] where what two keep of the same differs, as over a disk that isn't honest. The log is handed back in each case.
+/// [`RunStop::Memory`] where memory ran out, [`RunStop::Differs`] where what two keep of the same differs, as over a disk that isn't honest, and [`RunStop::Astray`] where a transaction doesn't follow the log at the end. The log is handed back in each case.
 pub fn run_on_threads<D: Disk + Send, G: Gate + Sync, R: Threads + Wait + Sync>(
     s: &Script,
     helpers: u8,
@@ -181,6 +185,9 @@ pub fn run_on_threads<D: Disk + Send, G: Gate + Sync, R: Threads + Wait + Sync>(
 
     // The trace, which is a run of the script on threads, and the log after it.
     ensures run { IfOk result.0 (RanOnThreads D.faults D.honest D.image s.now (vec_len setting.entry.resources) (D.faults log.disk) result.1) }
+
+    // After an error memory ran out, or two kept values differ, which are named, or what stands at the end isn't what is to stand there.
+    ensures named { IfErr result.0 IsNamed }
 
     // Also after an error each image that a crash can leave is a log of the script's transactions alone.
     ensures grows { D.faults log.disk ≤ D.faults result.1.disk }

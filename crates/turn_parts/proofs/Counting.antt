@@ -25,7 +25,7 @@ counted_armed b m old s past n a k i c = record { grows = c.grows; told = λ les
 pub not_fewer : (b m n f : ℕ) → m ≤ n → b + f ≤ m → b + f ≤ n
 not_fewer b m n f le was = omega arith
 
-one_more : (b m n f : ℕ) → n < LAST → b + f ≤ m → Rose m n → b + suc f ≤ n
+pub one_more : (b m n f : ℕ) → n < LAST → b + f ≤ m → Rose m n → b + suc f ≤ n
 one_more b m n f less was rose = omega arith
 
 -- What a stop of the log adds to the faults that are told of, and to what is left armed, rose the count.

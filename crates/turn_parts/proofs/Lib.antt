@@ -1,5 +1,7 @@
 pub mod Counting
+pub mod Filling
 pub mod Placing
 pub mod Records
+pub mod Room
 pub mod Settling
 pub mod Turned

@@ -1,13 +1,26 @@
 -- What is said of a run of a script, a replay and one on threads alike: its transactions before their first call, its trace, its disk's faults, and the records of the log after it.
-use Rattle.std.specs.Prelude.{ℕ, ◌-◌, ◌≡◌, ◌<◌, true, false, List, [], None, Ok, filter}
+use Rattle.std.specs.Prelude.{ℕ, ◌-◌, ◌≡◌, ◌<◌, ◌≤◌, Bool, true, false, List, [], None, Ok, filter}
+use Rattle.dtx_values.specs.declared.entry.Entry.{Entry}
+use Rattle.dtx_values.specs.declared.entry.Entry.TheVariants.{LogFull}
+use Rattle.dtx_values.specs.declared.number.ActorNo.{ActorNo}
 use Rattle.dtx_values.specs.declared.number.TxNo.{TxNo}
+use Rattle.dtx_values.specs.declared.script.Line.{Line}
+use Rattle.dtx_values.specs.declared.trace.Place.{Place}
+use Rattle.dtx_values.specs.Table.{how_many}
+use Rattle.dtx_model.specs.AtLog.{at_log, faults, follow_log}
+use Rattle.dtx_model.specs.Caused.{Caused, Settled}
+use Rattle.dtx_model.specs.Contexts.{context}
+use Rattle.dtx_model.specs.History.{is_call_at}
 use Rattle.dtx_model.specs.Log.{CommitRecord, is_record_of, log_has}
-use Rattle.dtx_model.specs.Promotes.{identifier_of}
+use Rattle.dtx_model.specs.Promotes.{identifier_of, promotes}
+use Rattle.dtx_model.specs.Replay.{due_calls}
 use Rattle.dtx_model.specs.Tied.{tied}
-use Rattle.dtx_model.specs.Traces.{Placed, history}
-use Rattle.dtx_model.specs.Words.{past_of}
+use Rattle.dtx_model.specs.Traces.{Placed, at_context, calls, history}
+use Rattle.dtx_model.specs.Wires.{WireRun}
+use Rattle.dtx_model.specs.Words.{has, past_of}
 use Rattle.tx_world.specs.State.{TxState}
 use Rattle.turn_parts.specs.Counted.{LAST}
+use Rattle.turn_parts.specs.LogEvents.{IsLogHistory}
 
 -- a transaction to which nothing came yet
 abbrev pub untouched : TxNo → TxState
@@ -17,9 +30,32 @@ untouched t = record { transaction = t; world = record { calls = []; past = [] }
 abbrev pub AreTied : List Placed → Type 0
 AreTied T = (t : TxNo) → tied (history t.value (past_of T)) ≡ true
 
+-- the log was full for the append
+abbrev pub is_log_full : Entry → Bool
+is_log_full LogFull = true
+is_log_full _ = false
+
+-- in no transaction an append found the log full
+abbrev pub IsNeverFull : List Placed → Type 0
+IsNeverFull T = (t : TxNo) → has is_log_full (history t.value (past_of T)) ≡ false
+
 -- a count of faults that was `from` rose by so many, unless it stands at its last value, where nobody knows by how many
 abbrev pub IsRise : ℕ → ℕ → ℕ → Type 0
 IsRise from to rise = to < LAST → rise ≡ to - from
+
+-- T is a settled history of the script s in which the first k managers have an object, over a disk whose count of faults rose by so many, whatever its restarts found: each transaction's history is one that the script's lines cause, runs over
+-- its connections, and is settled; each context has the entries that its actor's lines make there; each line has its call at each of its places exactly once; what stands at the log came there in turn, the faults that it tells of rose the count,
+-- and each stop and restart is followed. And where each restart found what may be found, each transaction is promoted in order.
+pub record IsRunHistory (s : List Line) (k rise : ℕ) (T : List Placed) : Type 0 where
+  pub caused : (t : TxNo) → Caused s k t.value (history t.value (past_of T))
+  pub wires : (t : TxNo) → WireRun (history t.value (past_of T))
+  pub settled : (t : TxNo) → Settled s (history t.value (past_of T))
+  pub contexts : (a : ActorNo) → at_context a.value (past_of T) ≡ context a.value (past_of s)
+  pub called : (p : Place) (n a : ℕ) → how_many (is_call_at p n a) (calls (past_of T)) ≡ how_many (is_call_at p n a) (due_calls s (past_of s))
+  pub faulted : faults (at_log (past_of T)) ≤ rise
+  pub at_log : IsLogHistory s (at_log (past_of T))
+  pub followed : follow_log (past_of T) ≡ true
+  pub promotes : AreTied T → (t : TxNo) → promotes s t.value (history t.value (past_of T)) ≡ true
 
 -- the records of a transaction of this number, of these
 abbrev pub records_of : ℕ → List CommitRecord → List CommitRecord

@@ -1,7 +1,6 @@
 -- What a cell keeps, at its start, after a step, and after a call.
 use Rattle.std.proofs.Common.{◌≡◌, ℕ, zero, suc, ◌==◌, Bool, true, false, ◌&&◌, ◌||◌, not, List, [], ◌∷◌, Option, Some, None, is_some, refl, ap, sym, subst, ◌∙◌, inl, inr, if◌then◌else◌}
 use Rattle.std.specs.Prelude.{IsTrue}
-use Rattle.std.proofs.lemmas.Bool.{eqb-true}
 use Rattle.dtx_values.specs.declared.call.Call.{Call}
 use Rattle.dtx_values.specs.declared.call.Call.TheVariants.{Await, Do, Durable, Marshal}
 use Rattle.dtx_values.specs.declared.number.ActorNo.{ActorNo}
@@ -10,7 +9,7 @@ use Rattle.dtx_values.specs.declared.script.Body.{Body}
 use Rattle.dtx_values.specs.declared.script.Body.TheVariants.{Complete as CompleteLine, Do as DoLine, Durable as DurableLine, Gone as GoneLine, Marshal as MarshalLine, Reenlist as ReenlistLine}
 use Rattle.dtx_values.specs.declared.script.Line.{Line}
 use Rattle.dtx_model.specs.Words.{always, has, kth}
-use Rattle.dtx_model.specs.Grammar.{Name, OfTransaction, OfEnlistment, OfClone, OfScope, is_made}
+use Rattle.dtx_model.specs.Grammar.{OfTransaction, is_made}
 use Rattle.dtx_model.specs.Calls.{call_of, complete_call, gone_call, reenlist_call, transaction_of, transaction_with}
 use Rattle.dtx_model.specs.Contexts.{lines_before}
 use Rattle.dtx_model.specs.Outcome.{is_empty}
@@ -26,12 +25,13 @@ use Rattle.script_calls.specs.SeenRow.{SeenRow}
 use Rattle.script_calls.proofs.Entered.{next_line_new, next_name_new}
 use Rattle.history_table.proofs.ScopeCalls.{given_call, is_scope_call}
 use Rattle.history_table.proofs.Tests.{eq_self}
-use Rattle.tx_world.specs.State.{TxState, is_maker, is_name, may_enter, sends_begin, turned}
+use Rattle.tx_world.specs.State.{TxState, is_maker, may_enter, sends_begin, turned}
 use Rattle.tx_world.specs.OwnCalls.{is_alone, is_do}
 use Rattle.tx_world.proofs.StillTied.{is_restarting, turned_tied}
-use Rattle.tx_cells.specs.Cell.{IsKept, IsThreadable, is_do_line, untouched}
+use Rattle.tx_cells.specs.Cell.{IsKept, IsThreadable, is_do_line, is_log_full, untouched}
 use Rattle.tx_cells.specs.Entering.{is_promoting, is_promoting_line, later_if, may_promote_at, must_wait, put_off}
 use Rattle.tx_cells.specs.declared.turns.Turned.TheVariants.{NotNext}
+use Rattle.tx_cells.proofs.NeverFull.{finds_full, unfilled_turned}
 use Rattle.script_calls.proofs.RightReplies.{IsReplyRight, right_step, right_stop}
 use Rattle.script_calls.proofs.Scripts.{given_more}
 use Rattle.turn_parts.proofs.Turned.{same_made, turned_calls}
@@ -45,7 +45,7 @@ none_in n a c i = by i.place i.stands
     by (suc k) e = cc
 
 pub kept_new : (s : List Line) (k : ℕ) (honest : Bool) (t : TxNo) (rows : List (SeenRow Call)) → IsThreadable s → is_made s (OfTransaction t.value) ≡ true → IsPrefix s t.value rows [] → IsKept s k honest (untouched t) rows
-kept_new s k honest t rows script named prefix = record { script = script; named = named; given = λ n a c i. absurd (none_in n a c i); in_order = prefix; planned = refl; sound = λ _. refl }
+kept_new s k honest t rows script named prefix = record { script = script; named = named; given = λ n a c i. absurd (none_in n a c i); in_order = prefix; planned = refl; sound = λ _. refl; unfilled = λ _. refl }
 
 -- the replies after a step, with the stop that may follow it
 turned_right : (s : List Line) (k : ℕ) (up : Bool) (t : ℕ) (w : World) (m : Step) → IsReplyRight (plans_of s) (has_object s k) m → always (is_as_planned (plans_of s) (has_object s k)) w.past ≡ true
@@ -57,10 +57,14 @@ turned_right s k up t w m q p = by (sends_begin t w m && not up)
     by true = right_stop (plans_of s) (has_object s k) (after t w m).past (right_step (plans_of s) (has_object s k) t w m q p)
     by false = right_step (plans_of s) (has_object s k) t w m q p
 
--- So after a step that enters no call, and after which what restarts found is tied where it was before,
+-- no append finds the log full in a step that is none
+unfilled_step : (up : Bool) (x y : TxState) (m : Step) → finds_full m ≡ false → y.world ≡ turned up x.transaction.value x.world m → has is_log_full x.world.past ≡ false → has is_log_full y.world.past ≡ false
+unfilled_step up x y m room w before = subst (λ (v : World). has is_log_full v.past ≡ false) (sym w) (unfilled_turned up x.transaction.value x.world m room before)
+
+-- So after a step that enters no call, over an honest disk doesn't find the log full, and after which what restarts found is tied where it was before,
 pub kept_tied : (s : List Line) (k : ℕ) (honest up : Bool) (x y : TxState) (rows : List (SeenRow Call)) (m : Step) → entered m x.world.calls ≡ x.world.calls → IsReplyRight (plans_of s) (has_object s k) m
-    → (IsTrue honest → tied x.world.past ≡ true → tied y.world.past ≡ true) → y.transaction ≡ x.transaction → y.world ≡ turned up x.transaction.value x.world m → IsKept s k honest x rows → IsKept s k honest y rows
-kept_tied s k honest up x y rows m none q still t w kept =
+    → (IsTrue honest → finds_full m ≡ false) → (IsTrue honest → tied x.world.past ≡ true → tied y.world.past ≡ true) → y.transaction ≡ x.transaction → y.world ≡ turned up x.transaction.value x.world m → IsKept s k honest x rows → IsKept s k honest y rows
+kept_tied s k honest up x y rows m none q room still t w kept =
     let calls : y.world.calls ≡ x.world.calls = ap (λ (v : World). v.calls) w ∙ (turned_calls up x.transaction.value x.world m ∙ none) in
     record {
       script = kept.script;
@@ -69,15 +73,16 @@ kept_tied s k honest up x y rows m none q still t w kept =
       in_order = subst (λ (u : TxNo). IsPrefix s u.value rows y.world.calls) (sym t) (subst (IsPrefix s x.transaction.value rows) (sym calls) kept.in_order);
       planned = subst (λ (v : World). always (is_as_planned (plans_of s) (has_object s k)) v.past ≡ true) (sym w) (turned_right s k up x.transaction.value x.world m q kept.planned);
       sound = λ is. still is (kept.sound is);
+      unfilled = λ is. unfilled_step up x y m (room is) w (kept.unfilled is);
     }
 
 -- as after each but a restart,
 pub sound_step : (up : Bool) (x y : TxState) (m : Step) → is_restarting m ≡ false → y.world ≡ turned up x.transaction.value x.world m → tied x.world.past ≡ true → tied y.world.past ≡ true
 sound_step up x y m other w before = subst (λ (v : World). tied v.past ≡ true) (sym w) (turned_tied up x.transaction.value x.world m other before)
 
-pub kept_step : (s : List Line) (k : ℕ) (honest up : Bool) (x y : TxState) (rows : List (SeenRow Call)) (m : Step) → entered m x.world.calls ≡ x.world.calls → IsReplyRight (plans_of s) (has_object s k) m → is_restarting m ≡ false
+pub kept_step : (s : List Line) (k : ℕ) (honest up : Bool) (x y : TxState) (rows : List (SeenRow Call)) (m : Step) → entered m x.world.calls ≡ x.world.calls → IsReplyRight (plans_of s) (has_object s k) m → (IsTrue honest → finds_full m ≡ false) → is_restarting m ≡ false
     → y.transaction ≡ x.transaction → y.world ≡ turned up x.transaction.value x.world m → IsKept s k honest x rows → IsKept s k honest y rows
-kept_step s k honest up x y rows m none q other t w kept = kept_tied s k honest up x y rows m none q (λ is. sound_step up x y m other w) t w kept
+kept_step s k honest up x y rows m none q room other t w kept = kept_tied s k honest up x y rows m none q room (λ is. sound_step up x y m other w) t w kept
 
 -- and after a call that the script gives, with its row one further.
 pub kept_call : (s : List Line) (k : ℕ) (honest up : Bool) (x y : TxState) (rows rows' : List (SeenRow Call)) (n : ℕ) (a : ActorNo) (c : Call) (m : ℕ) → IsCallOf s x.transaction.value n a c
@@ -93,6 +98,7 @@ kept_call s k honest up x y rows rows' n a c m mine prefix t w kept =
       in_order = subst (λ (u : TxNo). IsPrefix s u.value rows' y.world.calls) (sym t) (subst (IsPrefix s x.transaction.value rows') (sym calls) prefix);
       planned = subst (λ (v : World). always (is_as_planned (plans_of s) (has_object s k)) v.past ≡ true) (sym w) (turned_right s k up x.transaction.value x.world (Calls n a c m) tt kept.planned);
       sound = λ is. sound_step up x y (Calls n a c m) refl w (kept.sound is);
+      unfilled = λ is. unfilled_step up x y (Calls n a c m) refl w (kept.unfilled is);
     }
 
 -- A step that sends no BEGIN is done in the same way whether the log is up or not.

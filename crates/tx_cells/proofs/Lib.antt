@@ -1,4 +1,7 @@
 pub mod Asked
+pub mod Calling
+pub mod Causes
+pub mod Coming
 pub mod EitherWay
 pub mod Following
 pub mod Entered
@@ -9,6 +12,7 @@ pub mod LogOrder
 pub mod LogStep
 pub mod MayPromote
 pub mod Nearer
+pub mod NeverFull
 pub mod Numbers
 pub mod Placed
 pub mod Stepped

@@ -22,6 +22,7 @@ use Rattle.script_calls.specs.declared.calls.LogCall.{LogCall}
 use Rattle.tx_cells.specs.LogAnswers.{is_no_log_answer, stop_armed}
 use Rattle.tx_cells.specs.LogCell.{AreCounted, AreOwn, IsLogKept, LAST, LogCell, is_left}
 use Rattle.turn_parts.proofs.Counting.{counted_armed}
+use Rattle.turn_parts.specs.LogEvents.{IsLogHistory}
 use Rattle.turn_parts.specs.Reopening.{IsReopened, restart_answer, restarted}
 
 -- Of what is counted, where as much is told as before,
@@ -131,12 +132,13 @@ lines_restarted b n a false (Err e) past = refl
 
 -- A stop that is armed by the actor's next call keeps what the log's cell keeps,
 pub kept_armed : {D : Type 0} (faults : D → ℕ) (honest : Bool) (image : D → List ℕ → Type 0) (s : List Line) (tells : Bool) (before : ℕ) (old : LogCell D) (log : LogState D) (rows : List (SeenRow LogCall)) (n : ℕ) (a : ActorNo) (k : ℕ) (i : Image) (st : ArmedStop)
-    → log ≡ record old.log { armed = Some st } → IsLogPrefix s rows (stop_armed n a k i old.past) → IsLogKept faults honest image s tells before old
+    → log ≡ record old.log { armed = Some st } → IsLogPrefix s rows (stop_armed n a k i old.past) → IsLogHistory s (stop_armed n a k i old.past) → IsLogKept faults honest image s tells before old
     → IsLogKept faults honest image s tells before (record { log = log; rows = rows; past = stop_armed n a k i old.past })
-kept_armed {D} faults honest image s tells before old log rows n a k i st is order c =
+kept_armed {D} faults honest image s tells before old log rows n a k i st is order events c =
     subst (λ (l : LogState D). IsLogKept faults honest image s tells before (record { log = l; rows = rows; past = stop_armed n a k i old.past })) (sym is) (record {
       script = c.script;
       in_order = order;
+      events = events;
       honest_is = c.honest_is;
       counted = counted_armed before (faults old.log.disk) old.log.armed st old.past n a k i c.counted;
       up = c.up;
@@ -151,11 +153,12 @@ kept_armed {D} faults honest image s tells before old log rows n a k i st is ord
 -- and so does a restart.
 pub kept_restarted : {D : Type 0} (faults : D → ℕ) (honest : Bool) (image : D → List ℕ → Type 0) (seen : D → List ℕ) (s : List Line) (tells : Bool) (before : ℕ) (old : LogCell D) (log : LogState D) (rows : List (SeenRow LogCall)) (n : ℕ) (a : ActorNo) (found : Result ℕ LogRefusal)
     → IsReopened faults honest seen found old.log log → IfErr found IsByFault → faults old.log.disk ≤ faults log.disk → (IsTrue honest → image old.log.disk (seen old.log.disk)) → (IsTrue honest → AreWithin (image old.log.disk) (image log.disk))
-    → IsLogPrefix s rows (restarted n a old.log.is_up found old.past) → IsLogKept faults honest image s tells before old
+    → IsLogPrefix s rows (restarted n a old.log.is_up found old.past) → IsLogHistory s (restarted n a old.log.is_up found old.past) → IsLogKept faults honest image s tells before old
     → IsLogKept faults honest image s tells before (record { log = log; rows = rows; past = restarted n a old.log.is_up found old.past })
-kept_restarted {D} faults honest image seen s tells before old log rows n a found r only grows among within order c = record {
+kept_restarted {D} faults honest image seen s tells before old log rows n a found r only grows among within order events c = record {
   script = c.script;
   in_order = order;
+  events = events;
   honest_is = c.honest_is;
   counted = subst (λ (o : Option ArmedStop). AreCounted before (faults log.disk) o (restarted n a old.log.is_up found old.past)) (sym r.armed)
       (counted_restarted before (faults old.log.disk) (faults log.disk) old.log.armed old.past n a old.log.is_up found grows r.fault only c.counted);

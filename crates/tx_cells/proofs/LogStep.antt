@@ -9,7 +9,7 @@ use Rattle.dtx_values.specs.declared.entry.Entry.{Entry}
 use Rattle.dtx_values.specs.declared.entry.Entry.TheVariants.{Stopped}
 use Rattle.dtx_values.specs.declared.number.TxNo.{TxNo}
 use Rattle.dtx_values.specs.declared.script.Line.{Line}
-use Rattle.dtx_model.specs.AtLog.{armed, faults as faults_told, is_called, is_unarmed, is_up_by, one_if}
+use Rattle.dtx_model.specs.AtLog.{armed, faults as faults_told, is_called, is_up_by, one_if}
 use Rattle.dtx_model.specs.Grammar.{OfTransaction, is_made}
 use Rattle.dtx_model.specs.Log.{CommitRecord, first_of, is_record_of, log_has}
 use Rattle.dtx_model.specs.Promotes.{identifier_of}
@@ -29,8 +29,10 @@ use Rattle.tx_world.specs.State.{TxState}
 use Rattle.tx_world.specs.Stepping.{IsAnswered}
 use Rattle.tx_cells.specs.Board.{transactions_of}
 use Rattle.tx_cells.specs.LogAnswers.{is_no_log_answer}
-use Rattle.tx_cells.specs.LogCell.{AreCounted, AreOwn, IsLogKept, LAST, LogCell, is_left, is_own}
+use Rattle.tx_cells.specs.LogCell.{AreCounted, AreOwn, IsLogKept, LogCell, is_left, is_own}
+use Rattle.tx_cells.proofs.Coming.{one_more}
 use Rattle.turn_parts.proofs.Counting.{counted_stopped, not_fewer}
+use Rattle.turn_parts.specs.LogEvents.{Halts, IsLogHistory}
 use Rattle.turn_parts.specs.Reopening.{stop_noted}
 
 -- Records that are the run's, with those of one of its transactions changed, are still the run's.
@@ -172,10 +174,11 @@ lines_stopped false now past b = refl
 -- What a step leaves of what the log's cell keeps, where the log's entries are those after it.
 kept_as : {D : Type 0} (faults : D → ℕ) (honest : Bool) (image : D → List ℕ → Type 0) (s : List Line) (tells : Bool) (before : ℕ) (x y : TxState) (old : LogCell D) (to : LogState D) (after : List Entry) → StepsOver faults honest image s x y old.log to
     → AreCounted before (faults to.disk) to.armed after → is_up_by after ≡ to.is_up → (IsTrue to.is_up → is_called after ≡ false) → length old.past ≤ length after → has is_no_log_answer after ≡ has is_no_log_answer old.past
-    → ((b : ℕ) → lines_by b after ≡ lines_by b old.past) → IsLogKept faults honest image s tells before old → IsLogKept faults honest image s tells before (record { log = to; rows = old.rows; past = after })
-kept_as faults honest image s tells before x y old to after k counted up uncalled long like lines c = record {
+    → ((b : ℕ) → lines_by b after ≡ lines_by b old.past) → IsLogHistory s after → IsLogKept faults honest image s tells before old → IsLogKept faults honest image s tells before (record { log = to; rows = old.rows; past = after })
+kept_as faults honest image s tells before x y old to after k counted up uncalled long like lines events c = record {
   script = c.script;
   in_order = record { calls = c.in_order.calls; entered = λ a. lines a.value ∙ c.in_order.entered a };
+  events = events;
   honest_is = c.honest_is;
   counted = counted;
   up = up;
@@ -196,11 +199,11 @@ kept_step {D} faults honest image s tells before x y old to k after is c =
     by false now down e =
         let same : to ≡ old.log = step_down faults x old.log to k.step k.answered down in
         kept_as faults honest image s tells before x y old to old.past k (counted_calm before (faults old.log.disk) (faults to.disk) old.log.armed to.armed old.past k.leaves.later.grows k.leaves.later.unarmed c.counted)
-        (c.up ∙ ap (λ (l : LogState D). l.is_up) (sym same)) (λ up. c.uncalled (k.leaves.later.still up)) (le_refl (length old.past)) refl (λ b. refl) c
+        (c.up ∙ ap (λ (l : LogState D). l.is_up) (sym same)) (λ up. c.uncalled (k.leaves.later.still up)) (le_refl (length old.past)) refl (λ b. refl) c.events c
     by true true up e =
         kept_as faults honest image s tells before x y old to old.past k (counted_calm before (faults old.log.disk) (faults to.disk) old.log.armed to.armed old.past k.leaves.later.grows k.leaves.later.unarmed c.counted) (c.up ∙ (up ∙ sym e)) (λ now. c.uncalled up) (le_refl (length old.past)) refl
-        (λ b. refl) c
+        (λ b. refl) c.events c
     by true false up e =
         let why = step_stopped faults x old.log to k.step k.answered up e in
         kept_as faults honest image s tells before x y old to (Stopped ∷ old.past) k (counted_stopped before (faults old.log.disk) (faults to.disk) old.log.armed to.armed old.past (c.uncalled up) k.leaves.later.grows why.0 why.1 k.leaves.later.unarmed c.counted) (sym e)
-        (λ now. refl) (omega arith) refl (λ b. refl) c
+        (λ now. refl) (omega arith) refl (λ b. refl) (one_more s Halts old.past c.events (c.up ∙ up)) c

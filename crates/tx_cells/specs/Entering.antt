@@ -1,12 +1,14 @@
 -- The next call of an actor at a transaction.
-use Rattle.std.specs.Prelude.{ℕ, ◌≡◌, ◌≢◌, ◌==◌, ◌||◌, not, Bool, true, false, List, Option, Some, None, is_some, if◌then◌else◌}
+use Rattle.std.specs.Prelude.{ℕ, ◌≡◌, ◌≢◌, ◌⊎◌, ◌==◌, ◌||◌, not, Bool, true, false, List, Option, Some, None, is_some, if◌then◌else◌}
 use Rattle.dtx_values.specs.declared.call.Call.{Call}
 use Rattle.dtx_values.specs.declared.call.Call.TheVariants.{Await}
 use Rattle.dtx_values.specs.declared.number.ActorNo.{ActorNo}
+use Rattle.dtx_values.specs.declared.number.TxNo.{TxNo}
 use Rattle.dtx_values.specs.declared.script.Body.{Body}
 use Rattle.dtx_values.specs.declared.script.Body.TheVariants.{Durable, Marshal}
 use Rattle.dtx_values.specs.declared.script.Line.{Line}
 use Rattle.dtx_model.specs.Words.{kth}
+use Rattle.dtx_model.specs.Caused.{IsCallOf}
 use Rattle.dtx_model.specs.Outcome.{is_empty}
 use Rattle.dtx_model.specs.World.{World, answer_at, half}
 use Rattle.dtx_model.specs.Steps.{Step, Calls, pending}
@@ -48,6 +50,13 @@ is_promoting None = false
 
 abbrev pub may_promote_at : List Line → ℕ → Bool
 may_promote_at s n = is_promoting (kth s n)
+
+-- what may come of the call of line n by this actor at transaction t, by the script alone: it was entered, and is a call that the line gives the transaction; or the actor's next call there is another line's, or none is left; or it
+-- waits, and is an await
+abbrev pub MayTurn : List Line → ℕ → ActorNo → ℕ → Turned → Type 0
+MayTurn s t a n (Did x) = (c : Call) × IsCallOf s t n a c
+MayTurn s t a n (NotNext m) = (m ≡ 0) ⊎ ((m ≢ n) × (c : Call) × IsCallOf s t m a c)
+MayTurn s t a n Later = (u : TxNo) × IsCallOf s t n a (Await u)
 
 -- The actor's next call here, that of line n, was entered: this was done of that step. It was answered so.
 pub record Enters (does : Step → TxState → TxState → Type 0) (a : ActorNo) (n : ℕ) (answer : Turned) (old new : Cell) : Type 0 where

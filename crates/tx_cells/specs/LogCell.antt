@@ -13,6 +13,7 @@ use Rattle.script_calls.specs.SeenRow.{SeenRow}
 use Rattle.script_calls.specs.declared.calls.LogCall.{LogCall}
 use Rattle.tx_world.specs.AtLog.{AreFit, AreLogs, AtMostOne}
 pub use Rattle.turn_parts.specs.Counted.{AreCounted, LAST, is_left}
+use Rattle.turn_parts.specs.LogEvents.{IsLogHistory}
 use Rattle.tx_cells.specs.Board.{transactions_of}
 use Rattle.tx_cells.specs.Cell.{IsThreadable}
 use Rattle.tx_cells.specs.LogAnswers.{is_no_log_answer}
@@ -33,11 +34,12 @@ pub record AreOwn (s : List Line) (rs : List CommitRecord) : Type 0 where
   pub once : (id : ℕ) → AtMostOne id rs
 
 -- What the log's cell keeps in a run of the script s whose disk tells what it holds where `tells` says so, and whose count of faults was `before` at the start: of each actor's calls there those
--- that were entered are the first ones, in order; each stop has its cause, and each fault that is told of rose the count; the log is up exactly where its entries say so, and a call isn't the last of them then; over an honest disk no
+-- that were entered are the first ones, in order; its entries are those of what came there in turn; each stop has its cause, and each fault that is told of rose the count; the log is up exactly where its entries say so, and a call isn't the last of them then; over an honest disk no
 -- restart found other bytes than a log's; and then the records of the log, where it is up, and of each image that a crash can leave, are only the run's, each at most once, and each such image is a log.
 pub record IsLogKept {D : Type 0} (faults : D → ℕ) (honest : Bool) (image : D → List ℕ → Type 0) (s : List Line) (tells : Bool) (before : ℕ) (x : LogCell D) : Type 0 where
   pub script : IsThreadable s
   pub in_order : IsLogPrefix s x.rows x.past
+  pub events : IsLogHistory s x.past
   pub honest_is : honest ≡ tells
   pub counted : AreCounted before (faults x.log.disk) x.log.armed x.past
   pub up : is_up_by x.past ≡ x.log.is_up

@@ -1,7 +1,10 @@
 -- A call that is entered at the log.
-use Rattle.std.specs.Prelude.{ℕ, ◌-◌, ◌≡◌, ◌≢◌, Bool, List, Option, Some, Result}
+use Rattle.std.specs.Prelude.{ℕ, ◌-◌, ◌≡◌, ◌≢◌, ◌⊎◌, Bool, true, List, Option, Some, Result}
 use Rattle.dtx_values.specs.declared.entry.Answer.TheVariants.{Fine}
 use Rattle.dtx_values.specs.declared.number.ActorNo.{ActorNo}
+use Rattle.dtx_values.specs.declared.script.Line.{Line}
+use Rattle.dtx_model.specs.AtLog.{is_log_line}
+use Rattle.dtx_model.specs.Words.{kth}
 use Rattle.coordinator_log.specs.declared.refusal.LogRefusal.{LogRefusal}
 use Rattle.script_calls.specs.declared.calls.LogCall.{LogCall}
 use Rattle.script_calls.specs.declared.calls.LogCall.TheVariants.{Stop, Restart}
@@ -10,12 +13,22 @@ use Rattle.script_calls.specs.Rows.{further, next_in, row_at}
 use Rattle.tx_cells.specs.LogAnswers.{stop_armed}
 use Rattle.tx_cells.specs.LogCell.{LogCell}
 use Rattle.tx_cells.specs.declared.turns.Turned.{Turned}
-use Rattle.tx_cells.specs.declared.turns.Turned.TheVariants.{Did}
+use Rattle.tx_cells.specs.declared.turns.Turned.TheVariants.{Did, Later, NotNext}
 use Rattle.turn_parts.specs.Reopening.{IsReopened, restart_answer, restarted}
 
 -- the actor's next call at the log
 abbrev pub next_at_log : {D : Type 0} → ActorNo → LogCell D → Option (Due LogCall)
 next_at_log a c = next_in (row_at a c.rows)
+
+-- line n of the script stops the log, or opens it again, and is this actor's
+abbrev pub IsLogLine : List Line → ActorNo → ℕ → Type 0
+IsLogLine s a n = (l : Line) × (kth s n ≡ Some l) × (l.actor ≡ a) × (is_log_line l.body ≡ true)
+
+-- what may come of the call of line n by this actor at the log, by the script alone: it was entered, and the line is a `stop` or a `restart`; or the actor's next call there is that of another such line, or none is left. None waits.
+abbrev pub MayTurnAtLog : List Line → ActorNo → ℕ → Turned → Type 0
+MayTurnAtLog s a n (Did x) = IsLogLine s a n
+MayTurnAtLog s a n (NotNext m) = (m ≡ 0) ⊎ ((m ≢ n) × IsLogLine s a m)
+MayTurnAtLog s a n Later = ⊥
 
 -- the call was made at the log, by line n, and answered so
 abbrev pub IsDoneAtLog : {D : Type 0} → (D → ℕ) → Bool → (D → List ℕ) → ℕ → ActorNo → LogCall → Turned → LogCell D → LogCell D → Type 0

@@ -1,8 +1,8 @@
 -- Whether what a transaction keeps as logged ties with the log that a call is lent.
-use Rattle.std.specs.Prelude.{◌≡◌, Option, IsTrue}
+use Rattle.std.specs.Prelude.{◌≡◌, ◌≢◌, Option, IsTrue}
 use Rattle.std.specs.Option.{option_map}
 use Rattle.dtx_values.specs.declared.record.Differs.{Differs}
-use Rattle.dtx_values.specs.declared.record.Differs.TheVariants.{Log as InLog}
+use Rattle.dtx_values.specs.declared.record.Differs.TheVariants.{Cell as InCell, Log as InLog}
 use Rattle.dtx_values.specs.declared.record.LogRecord.{LogRecord}
 use Rattle.dtx_model.specs.Log.{first_of, record_of}
 use Rattle.coordinator_log.specs.Slots.{open_records}
@@ -29,3 +29,13 @@ pub record DiffersFrom {D : Type 0} (x : TxState) (log : LogState D) (d : Differ
 abbrev pub IsCause : {D : Type 0} → TxState → LogState D → TurnError → Type 0
 IsCause x log Memory = TiesWith x log
 IsCause x log (TheyDiffer d) = DiffersFrom x log d
+
+-- the two kept values that are named differ: the transaction that is wanted and the one that is found in its cell, or the record that a transaction keeps as logged and the one that the log has
+abbrev pub DoDiffer : Differs → Type 0
+DoDiffer (InCell t u) = t ≢ u
+DoDiffer (InLog t ours found) = ours ≢ found
+
+-- a turn isn't done since memory ran out, or since two kept values differ, which are named
+abbrev pub HasCause : TurnError → Type 0
+HasCause Memory = Unit {0}
+HasCause (TheyDiffer d) = DoDiffer d

@@ -4,7 +4,7 @@ ghost use Rattle.dtx_values.specs.declared.note.Note.{Note};
 ghost use Rattle.dtx_model.specs.Steps.{pending};
 ghost use Rattle.dtx_model.specs.Words.{kth};
 ghost use Rattle.tx_cells.specs.Cell.{MayReply};
-ghost use Rattle.tx_cells.specs.Entering.{Enters, IsDone, IsKthDone, may_promote_at, next_of, put_off};
+ghost use Rattle.tx_cells.specs.Entering.{Enters, IsDone, IsKthDone, MayTurn, may_promote_at, next_of, put_off};
 ghost use Rattle.tx_cells.specs.TakingBack.{TakesBack};
 ghost use Rattle.tx_cells.specs.Ties.{IsCause};
 ghost use Rattle.tx_cells.specs.Turns.{with_tx};
@@ -37,8 +37,10 @@ impl<N: Run> CellState<N> {
         requires lent { IfNone log (may_promote_at N.script line ≡ false) }
         ensures entered { put_off self.old.tx.world line (next_of a self.old) ≡ None → IfOk result (λ r. Enters IsDone a line r self.old self.new) }
         ensures put_off { (x : Turned) → put_off self.old.tx.world line (next_of a self.old) ≡ Some x → IfOk result (λ r. (r ≡ x) × (self.new ≡ self.old)) }
+        ensures called { IfOk result (MayTurn N.script self.old.tx.transaction.value a line) }
         ensures cause { IfErr result (λ e. (self.new ≡ self.old) × MatchOption log.entry (e ≡ TurnError.Memory) (λ l. IsCause self.old.tx l.now.log e)) }
     {
+        self.is_kept();
         match log {
             Some(log) => self.enter_with(log, a, line),
             None => self.enter_alone(a, line),

@@ -10,7 +10,7 @@ ghost use Rattle.script_calls.specs.declared.calls.LogCall.{LogCall};
 ghost use Rattle.tx_cells.specs.Fresh.{MayBegin};
 ghost use Rattle.tx_cells.specs.LogAnswers.{put_off_at_log};
 ghost use Rattle.tx_cells.specs.LogCell.{IsLogKept};
-ghost use Rattle.tx_cells.specs.LogEntering.{EntersLog, next_at_log};
+ghost use Rattle.tx_cells.specs.LogEntering.{EntersLog, MayTurnAtLog, next_at_log};
 ghost use Rattle.tx_cells.specs.Ties.{IsCause, TiesWith};
 ghost use Rattle.tx_cells.specs.Turns.{with_tx};
 ghost use Rattle.tx_cells.specs.declared.turns.Turned.{Turned};
@@ -129,6 +129,7 @@ impl<D: Disk, N: Run> LogState<D, N> {
     pub fn enter(&mut self, a: ActorNo, line: u32) -> Result<Turned, TurnError>
         ensures entered { put_off_at_log line (next_at_log a self.old) ≡ None → IfOk result (λ r. EntersLog D.faults D.honest D.seen a line r self.old self.new) }
         ensures put_off { (x : Turned) → put_off_at_log line (next_at_log a self.old) ≡ Some x → IfOk result (λ r. (r ≡ x) × (self.new ≡ self.old)) }
+        ensures called { IfOk result (MayTurnAtLog N.script a line) }
         ensures memory { IfErr result (λ e. (e ≡ TurnError.Memory) × (self.new ≡ self.old)) }
     {
         let Some(due) = self.rows.next(a) else {

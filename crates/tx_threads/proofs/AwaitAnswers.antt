@@ -1,6 +1,7 @@
 -- What an await is answered.
-use Rattle.std.proofs.Common.{◌≡◌, ℕ, zero, suc, Bool, true, false, List, Option, Some, None, slice_get, refl, ap, sym, subst, ◌∙◌, if◌then◌else◌, ◌==◌}
+use Rattle.std.proofs.Common.{◌≡◌, arith, ℕ, zero, suc, Bool, true, false, List, Option, Some, None, slice_get, refl, ap, sym, subst, ◌∙◌, if◌then◌else◌, ◌==◌}
 use Rattle.std.specs.Prelude.{◌&&◌, ◌||◌, not, is_some, IfOk, IsSome, Ok, Result}
+use Rattle.std.proofs.lemmas.Bool.Decides.{nat_tests}
 use Rattle.dtx_values.specs.declared.call.Call.{Call}
 use Rattle.dtx_values.specs.declared.call.Call.TheVariants.{Await}
 use Rattle.dtx_values.specs.declared.entry.Answer.{Answer}
@@ -24,9 +25,8 @@ use Rattle.dtx_model.specs.Words.{latest, put}
 use Rattle.dtx_model.specs.World.{World, answer_at, half}
 use Rattle.history_table.proofs.Tests.{eq_self}
 use Rattle.script_calls.specs.declared.rows.Due.{Due}
-use Rattle.tx_world.specs.OwnCalls.{DoesAlone}
 use Rattle.tx_cells.specs.Cell.{Cell}
-use Rattle.tx_cells.specs.Entering.{Enters, later_if, must_wait, next_of, put_off}
+use Rattle.tx_cells.specs.Entering.{Enters, IsDone, MayTurn, later_if, must_wait, next_of, put_off}
 use Rattle.tx_cells.specs.declared.error.TurnError.{TurnError}
 use Rattle.tx_cells.specs.declared.turns.Turned.{Turned}
 use Rattle.tx_cells.specs.declared.turns.Turned.TheVariants.{Did, Later, NotNext}
@@ -77,17 +77,17 @@ never_did w n (Some d) x e = by (d.line == n) (must_wait w d.call) e
     by false c e = absurd cc
 
 -- what is answered was entered
-pub was_entered : (a : ActorNo) (n : ℕ) (x : Answer) (r : Result Turned TurnError) (old new : Cell) → (put_off old.tx.world n (next_of a old) ≡ None → IfOk r (λ q. Enters DoesAlone a n q old new))
-    → ((y : Turned) → put_off old.tx.world n (next_of a old) ≡ Some y → IfOk r (λ q. (q ≡ y) × (new ≡ old))) → r ≡ Ok (Did x) → Enters DoesAlone a n (Did x) old new
+pub was_entered : (a : ActorNo) (n : ℕ) (x : Answer) (r : Result Turned TurnError) (old new : Cell) → (put_off old.tx.world n (next_of a old) ≡ None → IfOk r (λ q. Enters IsDone a n q old new))
+    → ((y : Turned) → put_off old.tx.world n (next_of a old) ≡ Some y → IfOk r (λ q. (q ≡ y) × (new ≡ old))) → r ≡ Ok (Did x) → Enters IsDone a n (Did x) old new
 was_entered a n x r old new entered off e = by (put_off old.tx.world n (next_of a old)) refl
   where
-    by : (p : Option Turned) → put_off old.tx.world n (next_of a old) ≡ p → Enters DoesAlone a n (Did x) old new
-    by None p = subst (λ (z : Result Turned TurnError). IfOk z (λ q. Enters DoesAlone a n q old new)) e (entered p)
+    by : (p : Option Turned) → put_off old.tx.world n (next_of a old) ≡ p → Enters IsDone a n (Did x) old new
+    by None p = subst (λ (z : Result Turned TurnError). IfOk z (λ q. Enters IsDone a n q old new)) e (entered p)
     by (Some y) p =
         absurd (never_did old.tx.world n (next_of a old) x (p ∙ ap Some (sym (subst (λ (z : Result Turned TurnError). IfOk z (λ q. (q ≡ y) × (new ≡ old))) e (off y p)).0)))
 
 -- the answer of the await of this line
-answered : (s : List Line) (a : ActorNo) (n : ℕ) (x : Answer) (old new : Cell) → is_await_at s n ≡ true → ((d : Due Call) → next_of a old ≡ Some d → IsCallOf s old.tx.transaction.value d.line a d.call) → Enters DoesAlone a n (Did x) old new
+answered : (s : List Line) (a : ActorNo) (n : ℕ) (x : Answer) (old new : Cell) → is_await_at s n ≡ true → ((d : Due Call) → next_of a old ≡ Some d → IsCallOf s old.tx.transaction.value d.line a d.call) → Enters IsDone a n (Did x) old new
     → (u : TxNo) × (answer_at old.tx.transaction.value old.tx.world (Await u) 0 ≡ x)
 answered s a n x old new q ours e =
     let c = await_call s old.tx.transaction.value n a e.call q (ours (record { line = n; call = e.call }) e.next) in
@@ -97,20 +97,20 @@ answered s a n x old new q ours e =
     same y z e = cc
 
 pub entered_told : (s : List Line) (a : ActorNo) (n : ℕ) (o : Outcome) (old new : Cell) → is_await_at s n ≡ true → ((d : Due Call) → next_of a old ≡ Some d → IsCallOf s old.tx.transaction.value d.line a d.call)
-    → Enters DoesAlone a n (Did (OutcomeIs o)) old new → IsSome (latest client_told_of old.tx.world.past)
+    → Enters IsDone a n (Did (OutcomeIs o)) old new → IsSome (latest client_told_of old.tx.world.past)
 entered_told s a n o old new q ours e = let r = answered s a n (OutcomeIs o) old new q ours e in outcome_told old.tx.transaction.value old.tx.world r.0 o r.1
 
 pub entered_open : (s : List Line) (a : ActorNo) (n : ℕ) (old new : Cell) → is_await_at s n ≡ true → ((d : Due Call) → next_of a old ≡ Some d → IsCallOf s old.tx.transaction.value d.line a d.call)
-    → Enters DoesAlone a n (Did StillOpen) old new → latest client_told_of old.tx.world.past ≡ None
+    → Enters IsDone a n (Did StillOpen) old new → latest client_told_of old.tx.world.past ≡ None
 entered_open s a n old new q ours e = let r = answered s a n StillOpen old new q ours e in open_untold old.tx.transaction.value old.tx.world r.0 r.1
 
 -- a call that waits
-pub was_later : (a : ActorNo) (n : ℕ) (r : Result Turned TurnError) (old new : Cell) → (put_off old.tx.world n (next_of a old) ≡ None → IfOk r (λ q. Enters DoesAlone a n q old new))
+pub was_later : (a : ActorNo) (n : ℕ) (r : Result Turned TurnError) (old new : Cell) → (put_off old.tx.world n (next_of a old) ≡ None → IfOk r (λ q. Enters IsDone a n q old new))
     → ((y : Turned) → put_off old.tx.world n (next_of a old) ≡ Some y → IfOk r (λ q. (q ≡ y) × (new ≡ old))) → r ≡ Ok Later → (put_off old.tx.world n (next_of a old) ≡ Some Later) × (new ≡ old)
 was_later a n r old new entered off e = by (put_off old.tx.world n (next_of a old)) refl
   where
     by : (p : Option Turned) → put_off old.tx.world n (next_of a old) ≡ p → (put_off old.tx.world n (next_of a old) ≡ Some Later) × (new ≡ old)
-    by None p = let x = subst (λ (z : Result Turned TurnError). IfOk z (λ q. Enters DoesAlone a n q old new)) e (entered p) in absurd (never x.answered)
+    by None p = let x = subst (λ (z : Result Turned TurnError). IfOk z (λ q. Enters IsDone a n q old new)) e (entered p) in absurd (never x.answered)
       where
         never : {y : Answer} → Later ≡ Did y → ⊥
         never e = absurd cc
@@ -144,3 +144,14 @@ still_quiet (Some x) q e f = absurd cc
 -- the call that was entered was that of the line
 pub of_line : (n : ℕ) (d : Option (Due Call)) (c : Call) → d ≡ Some (record { line = n; call = c }) → is_of_line n d ≡ true
 of_line n d c e = ap (is_of_line n) e ∙ eq_self n
+
+same_line : (m n : ℕ) → (m == n) ≡ true → m ≡ n
+same_line m n e = grind (arith, nat_tests)
+
+-- the await of this line, where it is the actor's next call
+pub later_called : (s : List Line) (t n : ℕ) (a : ActorNo) (d : Option (Due Call)) → is_await_at s n ≡ true → is_of_line n d ≡ true → ((x : Due Call) → d ≡ Some x → IsCallOf s t x.line a x.call) → MayTurn s t a n Later
+later_called s t n a None q of ours = absurd cc
+later_called s t n a (Some x) q of ours =
+    let here : IsCallOf s t n a x.call = subst (λ m. IsCallOf s t m a x.call) (same_line x.line n of) (ours x refl) in
+    let c = await_call s t n a x.call q here in
+    (c.0, subst (IsCallOf s t n a) c.1 here)

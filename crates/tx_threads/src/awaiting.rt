@@ -1,17 +1,17 @@
 //! A call that waits for the outcome.
-ghost use Rattle.std.specs.Prelude.{◌≡◌, ◌&&◌, IfErr, IsSome, None, Ok, Some, false, is_some, length, not, true};
+ghost use Rattle.std.specs.Prelude.{◌≡◌, ◌&&◌, IfErr, IfOk, IsSome, None, Ok, Some, false, is_some, length, not, true};
 ghost use Rattle.dtx_values.specs.declared.entry.Answer.{Answer};
 ghost use Rattle.dtx_values.specs.declared.words.Outcome.{Outcome};
 ghost use Rattle.dtx_model.specs.Entries.{client_told_of};
 ghost use Rattle.dtx_model.specs.Words.{latest};
 ghost use Rattle.tx_cells.specs.Board.{Post, board_of};
-ghost use Rattle.tx_cells.specs.Entering.{Enters};
+ghost use Rattle.tx_cells.specs.Entering.{Enters, IsDone, MayTurn};
+ghost use Rattle.tx_cells.specs.Ties.{HasCause};
 ghost use Rattle.tx_cells.specs.declared.turns.Turned.{Turned};
 ghost use Rattle.tx_threads.specs.Turning.{is_await_at, is_of_line, is_quiet};
-ghost use Rattle.tx_world.specs.OwnCalls.{DoesAlone};
 
 use dtx_values::{ActorNo, Call, Resource, TxNo};
-use lent_turns::{SharedRun, begin_turn, end_turn, is_of, tell};
+use lent_turns::{SharedRun, begin_turn, end_turn, is_of, tell, unlent};
 use outside::{Disk, Gate};
 use script_calls::Due;
 use std::alloc::Global;
@@ -38,9 +38,10 @@ fn is_of_line(next: &Option<Due<Call>>, line: u32) -> bool
 }
 
 /// Enters the actor's await inside the lock of its transaction, unless that goes on: the client wasn't told, and a step is pending or a reply is out. Where the client was told, the board has that then, and the note knows it.
-fn enter_await<N: Run>(
+fn enter_await<D: Disk, N: Run>(
     alloc: Global,
     cell: &TxCell<N>,
+    log: &SharedLog<D, N>,
     note: &mut BoardNote<N>,
     state: &mut CellState<N>,
     a: ActorNo,
@@ -51,9 +52,10 @@ fn enter_await<N: Run>(
     ensures cell { note.new.cell ≡ note.old.cell }
     ensures known { (o : Outcome) → result ≡ Ok (Turned.Did (Answer.OutcomeIs o)) → (x : Post) × (note.new.known ≡ Some x) }
     ensures kept { (x : Post) → note.old.known ≡ Some x → note.new.known ≡ Some x }
-    ensures entered { (x : Answer) → result ≡ Ok (Turned.Did x) → Enters DoesAlone a line (Turned.Did x) state.old state.new }
+    ensures entered { (x : Answer) → result ≡ Ok (Turned.Did x) → Enters IsDone a line (Turned.Did x) state.old state.new }
     ensures open { result ≡ Ok (Turned.Did Answer.StillOpen) → (latest client_told_of state.old.tx.world.past ≡ None) × (is_quiet state.old ≡ true) }
     ensures later { result ≡ Ok Turned.Later → (latest client_told_of state.old.tx.world.past ≡ None) × (is_quiet state.old ≡ false) × (state.new ≡ state.old) }
+    ensures called { IfOk result (MayTurn N.script state.old.tx.transaction.value a line) }
     ensures memory { IfErr result (λ e. (e ≡ TurnError.Memory) × (state.new ≡ state.old)) }
 {
     tell(alloc, cell, state, note)?;
@@ -61,7 +63,7 @@ fn enter_await<N: Run>(
     if goes_on(state) && is_of_line(&next, line) {
         return Ok(Turned::Later);
     }
-    state.enter_alone(a, line)
+    state.enter(unlent(log), a, line)
 }
 
 /// Waits for the outcome of the transaction, and then enters the actor's next call there, which is the await of this line. Until then it does pending steps, one a hold of the lock, and waits while a reply is out. The board
@@ -89,6 +91,8 @@ pub fn await_as<D: Disk, G: Gate, N: Run, R: Wait>(
     ensures cell { note.new.cell ≡ note.old.cell }
     ensures known { (o : Outcome) → result ≡ Ok (Turned.Did (Answer.OutcomeIs o)) → (x : Post) × (note.new.known ≡ Some x) }
     ensures kept { (x : Post) → note.old.known ≡ Some x → note.new.known ≡ Some x }
+    ensures called { IfOk result (MayTurn N.script t.value a line) }
+    ensures cause { IfErr result HasCause }
 {
     let run = SharedRun::new(cells, log, gate, resources);
     let cell = cells.cell(t);
@@ -96,7 +100,7 @@ pub fn await_as<D: Disk, G: Gate, N: Run, R: Wait>(
     for _ in rt.forever() {
         let mut state = cell.state().lock(rt);
         is_of(&state, t)?;
-        let turned = enter_await(alloc, cell, note, &mut state, a, line)?;
+        let turned = enter_await(alloc, cell, log, note, &mut state, a, line)?;
         if turned != Turned::Later {
             return Ok(turned);
         }

@@ -2,15 +2,16 @@
 ghost use Rattle.std.specs.Prelude.{◌≡◌, IfErr, IfOk, IsSome, None, Some, length};
 ghost use Rattle.dtx_model.specs.Words.{has};
 ghost use Rattle.tx_cells.specs.Board.{board_of};
-ghost use Rattle.tx_cells.specs.Entering.{Enters, IsDone, next_of, put_off};
+ghost use Rattle.tx_cells.specs.Entering.{Enters, IsDone, MayTurn, next_of, put_off};
 ghost use Rattle.tx_cells.specs.LogAnswers.{put_off_at_log};
-ghost use Rattle.tx_cells.specs.LogEntering.{EntersLog, next_at_log};
+ghost use Rattle.tx_cells.specs.LogEntering.{EntersLog, MayTurnAtLog, next_at_log};
+ghost use Rattle.tx_cells.specs.Ties.{HasCause};
 ghost use Rattle.tx_cells.specs.declared.turns.Turned.{Turned};
 ghost use Rattle.tx_threads.specs.Turning.{MayFail, is_answer_to, is_moved, is_other};
 
 use dtx_values::{ActorNo, Answer, Entry, Resource, TxNo};
 use entry_lists::Entries;
-use lent_turns::{SharedRun, begin_turn, end_turn, go_round, is_of, tell};
+use lent_turns::{SharedRun, begin_turn, end_turn, go_round, is_of, tell, unlent};
 use outside::{Disk, Gate};
 use std::alloc::Global;
 use std::sync::{Mutex, Wait};
@@ -18,7 +19,6 @@ use std::thread;
 use tx_cells::{CellState, Cells, LogState, Run, SharedLog, TurnError, Turned, TxCell};
 
 /// Enters the actor's next call inside the lock of its transaction, where it is of this line. Where it isn't, or waits, nothing is done. A line that may begin a promotion takes the lock of the log for as long.
-#[tactic(auto, using(tx_cells::proofs::EitherWay::enters_alone, tx_cells::proofs::EitherWay::enters_over))]
 fn enter<D: Disk, N: Run, R: Wait>(
     rt: &R,
     cells: &Cells<N>,
@@ -29,13 +29,14 @@ fn enter<D: Disk, N: Run, R: Wait>(
 ) -> Result<Turned, TurnError>
     ensures entered { put_off state.old.tx.world line (next_of a state.old) ≡ None → IfOk result (λ r. Enters IsDone a line r state.old state.new) }
     ensures put_off { (x : Turned) → put_off state.old.tx.world line (next_of a state.old) ≡ Some x → IfOk result (λ r. (r ≡ x) × (state.new ≡ state.old)) }
+    ensures called { IfOk result (MayTurn N.script state.old.tx.transaction.value a line) }
     ensures cause { IfErr result (λ e. MayFail D state.old.tx e × (state.new ≡ state.old)) }
 {
     if !cells.needs_log(line) {
-        return state.enter_alone(a, line);
+        return state.enter(unlent(log), a, line);
     }
     let held = log.state().lock(rt);
-    state.enter_with(&held, a, line)
+    state.enter(Some(&held), a, line)
 }
 
 /// Whether the entry answers the call of this line.
@@ -69,6 +70,7 @@ fn wait_for_answer<D: Disk, G: Gate, N: Run, R: Wait>(
     line: u32,
 ) -> Result<(), TurnError>
     requires { length run.now.resources.now ≡ N.objects }
+    ensures { IfErr result HasCause }
 {
     for _ in rt.forever() {
         let mut state = cell.state().lock(rt);
@@ -105,6 +107,8 @@ pub fn call_as<D: Disk, G: Gate, N: Run, R: Wait>(
 ) -> Result<Turned, TurnError>
     requires transaction { IsSome (board_of cells.now t.value) }
     requires resources { length resources.now ≡ N.objects }
+    ensures called { IfOk result (MayTurn N.script t.value a line) }
+    ensures cause { IfErr result HasCause }
 {
     let cell = cells.cell(t);
     let mut state = cell.state().lock(rt);
@@ -125,6 +129,7 @@ fn enter_at_log<D: Disk, N: Run>(
     a: ActorNo,
     line: u32,
 ) -> Result<(Turned, bool), TurnError>
+    ensures called { IfOk result (λ r. MayTurnAtLog N.script a line r.0) }
     ensures entered { put_off_at_log line (next_at_log a log.old) ≡ None → IfOk result (λ r. EntersLog D.faults D.honest D.seen a line r.0 log.old log.new) }
     ensures put_off { (x : Turned) → put_off_at_log line (next_at_log a log.old) ≡ Some x → IfOk result (λ r. (r.0 ≡ x) × (log.new ≡ log.old)) }
     ensures moved { IfOk result (λ r. r.1 ≡ is_moved log.old.log log.new.log) }
@@ -156,7 +161,10 @@ pub fn call_at_log<D: Disk, N: Run, R: Wait>(
     log: &SharedLog<D, N>,
     a: ActorNo,
     line: u32,
-) -> Result<Turned, TurnError> {
+) -> Result<Turned, TurnError>
+    ensures called { IfOk result (MayTurnAtLog N.script a line) }
+    ensures cause { IfErr result HasCause }
+{
     let mut held = log.state().lock(rt);
     let (turned, is_moved) = enter_at_log(&mut held, a, line)?;
     drop(held);

@@ -1,6 +1,7 @@
 //! A step of a transaction, or a reply that is asked for and brought back, where a thread has nothing of its own to do.
-ghost use Rattle.std.specs.Prelude.{◌≡◌, IsSome, length};
+ghost use Rattle.std.specs.Prelude.{◌≡◌, IfErr, IsSome, length};
 ghost use Rattle.tx_cells.specs.Board.{board_of};
+ghost use Rattle.tx_cells.specs.Ties.{HasCause};
 
 use dtx_values::{Resource, TxNo};
 use lent_turns::{SharedRun, begin_turn, end_turn, is_of};
@@ -26,6 +27,7 @@ pub fn help_one<D: Disk, G: Gate, N: Run, R: Wait>(
 ) -> Result<bool, TurnError>
     requires transaction { IsSome (board_of cells.now t.value) }
     requires resources { length resources.now ≡ N.objects }
+    ensures { IfErr result HasCause }
 {
     let cell = cells.cell(t);
     let mut state = cell.state().lock(rt);

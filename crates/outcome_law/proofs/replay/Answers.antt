@@ -1,5 +1,6 @@
 use Rattle.script_histories.proofs.Replays.{line_new, ran_new, replayed_called, replayed_caused, replayed_followed, replayed_noted}
 use Rattle.script_histories.proofs.Determined.{history_same}
+use Rattle.script_histories.proofs.SoundLogs.{local_sound}
 use Rattle.outcome_law.proofs.replay.Goals as goal
 
 pub returns-clause-caused : goal.returns-clause-caused
@@ -22,3 +23,6 @@ returns-clause-fresh c = ran_new
 
 pub returns-clause-determined : goal.returns-clause-determined
 returns-clause-determined c = history_same
+
+pub returns-clause-sound : goal.returns-clause-sound
+returns-clause-sound c = local_sound

@@ -1,12 +1,12 @@
 //! Entering the calls that the threads left.
-ghost use Rattle.std.specs.Prelude.{◌≡◌, ◌≢◌, ◌+◌, ◌⊎◌, Err, IfErr, IfNone, IfSome, IsSome, MatchOption, None, Ok, OnOk, Some, false, length, nat_lt, true};
+ghost use Rattle.std.specs.Prelude.{◌≡◌, ◌≢◌, ◌+◌, ◌⊎◌, IfErr, IfNone, IfSome, IsSome, MatchOption, None, Ok, OnOk, Some, false, length, nat_lt, true};
 ghost use Rattle.dtx_values.specs.declared.number.ActorNo.{ActorNo};
 ghost use Rattle.dtx_model.specs.Words.{each};
 ghost use Rattle.dtx_values.specs.declared.call.Call.{Call};
 ghost use Rattle.script_calls.specs.declared.rows.Due.{Due};
 ghost use Rattle.script_calls.specs.Rows.{are_entered, further, row_at};
 ghost use Rattle.run_endings.specs.Finishing.{HaveSameNumbers, IsDueAt, MayAsk, is_await, left_among, left_of};
-ghost use Rattle.run_endings.specs.Stops.{HasUntied, IsReason};
+ghost use Rattle.run_endings.specs.Stops.{IsReason, StopsFor};
 ghost use Rattle.tx_cells.specs.Entering.{next_of};
 ghost use Rattle.tx_cells.specs.LogEntering.{next_at_log};
 
@@ -119,7 +119,7 @@ fn enter_at<D: Disk, N: Run>(
     ensures less { OnOk result (left_of a states.new log.new + 1 ≡ left_of a states.old log.old) }
     ensures others { OnOk result ((b : ActorNo) → b ≢ a → left_of b states.new log.new ≡ left_of b states.old log.old) }
     ensures numbers { HaveSameNumbers states.old states.new }
-    ensures differs { result ≡ Err RunStop.Differs → HasUntied states.new log.new }
+    ensures cause { IfErr result (StopsFor states.new log.new) }
 {
     let was_up = log.is_up();
     enter(managers, resources, &mut states[i], log, a)?;
@@ -136,7 +136,7 @@ fn enter_at_log<D: Disk, N: Run>(
     ensures less { result ≡ Ok true → left_of a states.new log.new + 1 ≡ left_of a states.old log.old }
     ensures others { OnOk result ((b : ActorNo) → b ≢ a → left_of b states.new log.new ≡ left_of b states.old log.old) }
     ensures numbers { HaveSameNumbers states.old states.new }
-    ensures differs { result ≡ Err RunStop.Differs → HasUntied states.new log.new }
+    ensures cause { IfErr result (StopsFor states.new log.new) }
 {
     let Some(due) = log.next(a) else {
         return Ok(false);
@@ -159,7 +159,7 @@ fn enter_next<D: Disk, N: Run>(
     ensures less { result ≡ Ok true → left_of a states.new log.new + 1 ≡ left_of a states.old log.old }
     ensures others { OnOk result ((b : ActorNo) → b ≢ a → left_of b states.new log.new ≡ left_of b states.old log.old) }
     ensures numbers { HaveSameNumbers states.old states.new }
-    ensures differs { result ≡ Err RunStop.Differs → HasUntied states.new log.new }
+    ensures cause { IfErr result (StopsFor states.new log.new) }
 {
     let Some((i, line)) = next_place(states, a) else {
         return enter_at_log(states, log, a);
@@ -183,7 +183,7 @@ fn enter_actor<D: Disk, N: Run>(
     ensures none { OnOk result (left_of a states.new log.new ≡ 0) }
     ensures others { OnOk result ((b : ActorNo) → b ≢ a → left_of b states.new log.new ≡ left_of b states.old log.old) }
     ensures numbers { HaveSameNumbers states.old states.new }
-    ensures differs { result ≡ Err RunStop.Differs → HasUntied states.new log.new }
+    ensures cause { IfErr result (StopsFor states.new log.new) }
 {
     loop {
         if !enter_next(managers, resources, states, log, a)? {
@@ -213,7 +213,7 @@ pub(super) fn enter_all<D: Disk, N: Run>(
     ensures entered { OnOk result (each (λ c. are_entered c.rows) states.new ≡ true) }
     ensures at_log { OnOk result (are_entered log.new.rows ≡ true) }
     ensures numbers { HaveSameNumbers states.old states.new }
-    ensures differs { result ≡ Err RunStop.Differs → HasUntied states.new log.new }
+    ensures cause { IfErr result (StopsFor states.new log.new) }
 {
     for n in 1..ActorNo::MAX + 1 {
         let a = ActorNo::new(n).unwrap();

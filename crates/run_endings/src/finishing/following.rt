@@ -1,7 +1,7 @@
 //! What each transaction hears of the log's state.
-ghost use Rattle.std.specs.Prelude.{◌≡◌, Err, OnOk};
+ghost use Rattle.std.specs.Prelude.{◌≡◌, IfErr, OnOk};
 ghost use Rattle.run_endings.specs.Finishing.{HaveSameCalls, HaveSameNumbers};
-ghost use Rattle.run_endings.specs.Stops.{HasUntied};
+ghost use Rattle.run_endings.specs.Stops.{StopsFor};
 
 use crate::stop::RunStop;
 use outside::Disk;
@@ -18,7 +18,7 @@ pub(super) fn follow_all<D: Disk, N: Run>(
 ) -> Result<(), RunStop>
     ensures calls { OnOk result (HaveSameCalls states.old states.new) }
     ensures numbers { HaveSameNumbers states.old states.new }
-    ensures differs { result ≡ Err RunStop.Differs → HasUntied states.new log.now }
+    ensures cause { IfErr result (StopsFor states.new log.now) }
 {
     for i in 0..states.len() {
         states[i].follow_log(log)?;
@@ -35,7 +35,7 @@ pub(super) fn follow_stop<D: Disk, N: Run>(
     ensures calls { OnOk result (HaveSameCalls states.old states.new) }
     ensures same { log.now.log.is_up ≡ was_up → states.new ≡ states.old }
     ensures numbers { HaveSameNumbers states.old states.new }
-    ensures differs { result ≡ Err RunStop.Differs → HasUntied states.new log.now }
+    ensures cause { IfErr result (StopsFor states.new log.now) }
 {
     if was_up && !log.is_up() {
         follow_all(states, log)?;

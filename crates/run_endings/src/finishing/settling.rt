@@ -1,10 +1,10 @@
 //! Settling the transactions, as a replay does.
-ghost use Rattle.std.specs.Prelude.{◌≡◌, ◌<◌, [], Err, IfErr, IfSome, IsTrue, Ok, OnOk, false, length, true};
+ghost use Rattle.std.specs.Prelude.{◌≡◌, ◌<◌, [], IfErr, IfSome, IsTrue, Ok, OnOk, Some, false, length, true};
 ghost use Rattle.dtx_model.specs.Outcome.{is_empty};
 ghost use Rattle.dtx_model.specs.Steps.{pending};
 ghost use Rattle.dtx_model.specs.Words.{each};
 ghost use Rattle.run_endings.specs.Finishing.{HaveSameCalls, HaveSameNumbers, MayAsk};
-ghost use Rattle.run_endings.specs.Stops.{HasUntied, IsReason};
+ghost use Rattle.run_endings.specs.Stops.{IsReason, StopsFor};
 ghost use Rattle.tx_cells.specs.Cell.{MayReply};
 ghost use Rattle.world_laws.specs.Left.{steps_left};
 
@@ -24,7 +24,8 @@ fn ask<N: Run>(
     n: Note,
 ) -> Option<Reply>
     requires { MayAsk N.script N.objects managers.now (length resources.old) }
-    ensures { IfSome result (λ r. MayReply N.script N.objects e n r) }
+    ensures right { IfSome result (λ r. MayReply N.script N.objects e n r) }
+    ensures given { IfSome result (λ r. (object : _) × (after : _) × gives object t e n (Some r) after) }
 {
     let rm = (*managers.get(e.index())?)?;
     let object = resources.get_mut(rm.index())?;
@@ -93,7 +94,7 @@ fn settle_round<D: Disk, N: Run>(
     ensures numbers { HaveSameNumbers states.old states.new }
     ensures log_rows { OnOk result (log.new.rows ≡ log.old.rows) }
     ensures still { OnOk result (IsTrue log.new.log.is_up → IsTrue log.old.log.is_up) }
-    ensures differs { result ≡ Err RunStop.Differs → HasUntied states.new log.new }
+    ensures cause { IfErr result (StopsFor states.new log.new) }
 {
     for i in 0..states.len() {
         let was_up = log.is_up();
@@ -115,7 +116,7 @@ pub(super) fn settle_all<D: Disk, N: Run>(
     ensures calls { OnOk result (HaveSameCalls states.old states.new) }
     ensures numbers { HaveSameNumbers states.old states.new }
     ensures log_rows { OnOk result (log.new.rows ≡ log.old.rows) }
-    ensures differs { result ≡ Err RunStop.Differs → HasUntied states.new log.new }
+    ensures cause { IfErr result (StopsFor states.new log.new) }
 {
     let was_up = log.is_up();
     settle_round(managers, resources, states, log)?;

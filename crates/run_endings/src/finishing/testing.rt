@@ -6,7 +6,7 @@ ghost use Rattle.dtx_model.specs.AtLog.{follows, is_opened, is_restart, is_up_by
 ghost use Rattle.dtx_model.specs.Caused.{is_begin_sent};
 ghost use Rattle.dtx_model.specs.Wires.{is_stopped, stop_of};
 ghost use Rattle.dtx_model.specs.Words.{each, has, past_of};
-ghost use Rattle.run_endings.specs.Stops.{AreAmiss};
+ghost use Rattle.run_endings.specs.Stops.{EndsFor, IsWrong};
 ghost use Rattle.tx_cells.specs.Board.{transactions_of};
 ghost use Rattle.tx_cells.specs.Ties.{TiesWith};
 ghost use Rattle.dtx_model.specs.Tied.{is_stop};
@@ -175,18 +175,26 @@ fn are_by_number<N: Run>(s: &[Line], states: &[CellState<N>]) -> bool
     rest.is_empty()
 }
 
-/// Whether what the transaction keeps ties with the log, and follows it.
-fn is_right<D: Disk, N: Run>(state: &CellState<N>, log: &LogState<D, N>) -> bool
-    ensures { IsTrue result ↔ (TiesWith state.now.tx log.now.log × (follows log.now.past state.now.tx.world.past ≡ true)) }
+/// That what the transaction keeps ties with the log, and follows it.
+fn is_right<D: Disk, N: Run>(state: &CellState<N>, log: &LogState<D, N>) -> Result<(), RunStop>
+    ensures tied { OnOk result (TiesWith state.now.tx log.now.log) }
+    ensures followed { OnOk result (follows log.now.past state.now.tx.world.past ≡ true) }
+    ensures cause { IfErr result (IsWrong state.now log.now) }
 {
-    state.ties(log).is_ok() && follows(log.entries(), state.history())
+    if let Err(differs) = state.ties(log) {
+        return Err(RunStop::Differs(differs));
+    }
+    if !follows(log.entries(), state.history()) {
+        return Err(RunStop::Astray);
+    }
+    Ok(())
 }
 
 /// That the states are those of the script's transactions, by number, and that each ties with the log, and follows it.
 ///
 /// # Errors
 ///
-/// [`RunStop::Differs`] where that isn't so.
+/// [`RunStop::Differs`] where one doesn't tie with the log, and [`RunStop::Astray`] where they are others or one doesn't follow it.
 pub(super) fn test_all<D: Disk, N: Run>(
     s: &Script,
     states: &[CellState<N>],
@@ -195,15 +203,13 @@ pub(super) fn test_all<D: Disk, N: Run>(
     ensures named { OnOk result (map (λ c. c.tx.transaction.value) states.now ≡ transactions_of s.now) }
     ensures tied { OnOk result (All (λ c. TiesWith c.tx log.now.log) states.now) }
     ensures followed { OnOk result (each (λ c. follows log.now.past c.tx.world.past) states.now ≡ true) }
-    ensures differs { IfErr result (λ x. (x ≡ RunStop.Differs) × AreAmiss s.now states.now log.now) }
+    ensures cause { IfErr result (EndsFor s.now states.now log.now) }
 {
     if !are_by_number(s.lines(), states) {
-        return Err(RunStop::Differs);
+        return Err(RunStop::Astray);
     }
     for state in states {
-        if !is_right(state, log) {
-            return Err(RunStop::Differs);
-        }
+        is_right(state, log)?;
     }
     Ok(())
 }

@@ -1,12 +1,15 @@
 //! The calls before the threads of a run, and the threads.
-ghost use Rattle.std.specs.Prelude.{◌≡◌, ◌≤◌, length};
+ghost use Rattle.std.specs.Prelude.{◌≡◌, ◌≤◌, IfErr, IfOk, OnOk, false, length};
+ghost use Rattle.std.specs.List.{All};
 ghost use Rattle.dtx_values.specs.declared.number.ActorNo.{ActorNo};
 ghost use Rattle.dtx_model.specs.Words.{has};
-ghost use Rattle.thread_runs.specs.Threads.{come_to, found_differing, lacked_memory};
+ghost use Rattle.run_endings.specs.Stops.{IsNamed};
+ghost use Rattle.tx_cells.specs.Ties.{HasCause};
+ghost use Rattle.thread_runs.specs.Threads.{differing, found_differing, lacked_memory};
 
 use crate::contexts::ToDo;
 use crate::running::turns::{Shared, act, call, help};
-use dtx_values::{ActorNo, Body, Line};
+use dtx_values::{ActorNo, Body, Differs, Line};
 use outside::{Disk, Gate};
 use run_endings::RunStop;
 use std::alloc::{AllocError, Global};
@@ -41,12 +44,17 @@ pub(super) fn highest_in(to_do: &[ToDo]) -> usize
     highest
 }
 
-/// Whether a thread found two kept values that differ.
-fn any_differs(ends: &[Result<(), TurnError>]) -> bool
-    ensures { result ≡ has found_differing ends.now }
+/// The two kept values that a thread found to differ.
+fn differing(end: Result<(), TurnError>) -> Option<Differs>
+    ensures { result ≡ differing end }
 {
-    ends.iter()
-        .any(|end| matches!(end, Err(TurnError::Differs(_))))
+    let Err(error) = end else {
+        return None;
+    };
+    match error {
+        TurnError::Differs(differs) => Some(differs),
+        TurnError::Memory => None,
+    }
 }
 
 /// Whether memory ran out for a thread.
@@ -58,10 +66,14 @@ fn any_lacks(ends: &[Result<(), TurnError>]) -> bool
 
 /// What the threads came to.
 fn come_to(ends: &[Result<(), TurnError>]) -> Result<(), RunStop>
-    ensures { result ≡ come_to ends.now }
+    requires { All (λ e. IfErr e HasCause) ends.now }
+    ensures done { OnOk result ((has found_differing ends.now ≡ false) × (has lacked_memory ends.now ≡ false)) }
+    ensures named { IfErr result IsNamed }
 {
-    if any_differs(ends) {
-        return Err(RunStop::Differs);
+    for i in 0..ends.len() {
+        if let Some(differs) = differing(ends[i]) {
+            return Err(RunStop::Differs(differs));
+        }
     }
     if any_lacks(ends) {
         return Err(RunStop::Memory);
@@ -80,6 +92,7 @@ fn work<N: Run, D: Disk, G: Gate, R: Wait>(
     requires named { x.now.lines.now ≡ N.script }
     requires objects { length x.now.resources.now ≡ N.objects }
     requires actors { x.now.actors ≤ ActorNo.MAX }
+    ensures { IfErr result HasCause }
 {
     if j >= x.actors {
         return help(rt, alloc, x);
@@ -103,6 +116,7 @@ fn ends_of<N: Run + Send + Sync, D: Disk + Send, G: Gate + Sync, R: Threads + Wa
     requires named { x.now.lines.now ≡ N.script }
     requires objects { length x.now.resources.now ≡ N.objects }
     requires actors { x.now.actors ≤ ActorNo.MAX }
+    ensures { IfOk result (λ v. All (λ e. IfErr e HasCause) v.items) }
 {
     thread::map_indices(
         rt,
@@ -110,6 +124,7 @@ fn ends_of<N: Run + Send + Sync, D: Disk + Send, G: Gate + Sync, R: Threads + Wa
         threads,
         &|j: usize| -> Result<(), TurnError>
             requires { (x.now.lines.now ≡ N.script) × (length x.now.resources.now ≡ N.objects) × (x.now.actors ≤ ActorNo.MAX) }
+            ensures { IfErr result HasCause }
         { work(rt, alloc, x, to_do, j) },
     )
 }
@@ -135,6 +150,7 @@ pub(super) fn call_all<
     requires named { x.now.lines.now ≡ N.script }
     requires objects { length x.now.resources.now ≡ N.objects }
     requires actors { x.now.actors ≤ ActorNo.MAX }
+    ensures { IfErr result IsNamed }
 {
     for due in alone {
         call(rt, alloc, x, *due)?;

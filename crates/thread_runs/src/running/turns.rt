@@ -1,5 +1,6 @@
 //! What each thread of a run does.
-ghost use Rattle.std.specs.Prelude.{◌≡◌, length};
+ghost use Rattle.std.specs.Prelude.{◌≡◌, IfErr, length};
+ghost use Rattle.tx_cells.specs.Ties.{HasCause};
 ghost use Rattle.tx_threads.specs.Turning.{is_await_at};
 
 use crate::contexts::{ToDo, What};
@@ -54,6 +55,7 @@ pub(super) fn call<D: Disk, G: Gate, N: Run, R: Wait>(
 ) -> Result<(), TurnError>
     requires named { x.now.lines.now ≡ N.script }
     requires objects { length x.now.resources.now ≡ N.objects }
+    ensures { IfErr result HasCause }
 {
     let (a, line) = (due.actor, due.line);
     match due.what {
@@ -104,6 +106,7 @@ pub(super) fn act<D: Disk, G: Gate, N: Run, R: Wait>(
 ) -> Result<(), TurnError>
     requires named { x.now.lines.now ≡ N.script }
     requires objects { length x.now.resources.now ≡ N.objects }
+    ensures { IfErr result HasCause }
 {
     for due in to_do {
         if due.actor == a {
@@ -137,6 +140,7 @@ pub(super) fn help<D: Disk, G: Gate, N: Run, R: Wait>(
     x: &Shared<D, G, N>,
 ) -> Result<(), TurnError>
     requires objects { length x.now.resources.now ≡ N.objects }
+    ensures { IfErr result HasCause }
 {
     let transactions = transactions(alloc, x.cells)?;
     let count = transactions.len();

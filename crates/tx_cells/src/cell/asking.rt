@@ -89,7 +89,7 @@ impl<N: Run> CellState<N> {
     /// # Errors
     ///
     /// [`TurnError::Memory`] where memory ran out, and then only the mark went.
-    pub fn take_back_alone(&mut self, e: EnlNo, n: Note, r: Reply) -> Result<bool, TurnError>
+    pub(crate) fn take_back_alone(&mut self, e: EnlNo, n: Note, r: Reply) -> Result<bool, TurnError>
         requires right { MayReply N.script N.objects e n r }
         requires alone { same_note n Note.Promote ≡ false }
         ensures taken { TakesBack DoesAlone e n r result self.old self.new }

@@ -49,7 +49,7 @@ impl<N: Run> CellState<N> {
     /// # Errors
     ///
     /// [`TurnError::Memory`] where memory ran out, and then nothing was done.
-    pub fn enter_alone(&mut self, a: ActorNo, line: u32) -> Result<Turned, TurnError>
+    pub(crate) fn enter_alone(&mut self, a: ActorNo, line: u32) -> Result<Turned, TurnError>
         requires alone { may_promote_at N.script line ≡ false }
         ensures entered { put_off self.old.tx.world line (next_of a self.old) ≡ None → IfOk result (λ r. Enters DoesAlone a line r self.old self.new) }
         ensures put_off { (x : Turned) → put_off self.old.tx.world line (next_of a self.old) ≡ Some x → IfOk result (λ r. (r ≡ x) × (self.new ≡ self.old)) }

@@ -3,9 +3,9 @@ ghost use Rattle.std.specs.Prelude.{◌≡◌, ◌<◌, None, Ok, IfErr, IfOk, O
 ghost use Rattle.coordinator_log.specs.Slots.{open_records};
 ghost use Rattle.dtx_model.specs.Steps.{pending};
 ghost use Rattle.dtx_model.specs.Words.{kth};
+ghost use Rattle.tx_cells.specs.LogCell.{AreOwn};
 ghost use Rattle.tx_cells.specs.Ties.{IsCause, TiesWith};
 ghost use Rattle.tx_cells.specs.Turns.{with_tx};
-ghost use Rattle.tx_world.specs.AtLog.{AtMostOne, id_of};
 ghost use Rattle.tx_world.specs.Leaves.{IsLater, Leaves};
 ghost use Rattle.tx_world.specs.OwnCalls.{DoesKthAlone};
 ghost use Rattle.tx_world.specs.Stepping.{DoesKth, needs_log};
@@ -30,7 +30,7 @@ impl<N: Run> CellState<N> {
     /// # Errors
     ///
     /// [`TurnError::Memory`] where memory ran out, and then nothing was done.
-    pub fn do_step_alone(&mut self, k: u32) -> Result<bool, TurnError>
+    pub(crate) fn do_step_alone(&mut self, k: u32) -> Result<bool, TurnError>
         requires alone { needs_log self.old.tx.world k ≡ false }
         ensures none { result ≡ Ok false → (kth (pending self.old.tx.world) k ≡ None) × (self.new ≡ self.old) }
         ensures some { result ≡ Ok true → DoesKthAlone k self.old.tx self.new.tx }
@@ -56,7 +56,8 @@ impl<N: Run> CellState<N> {
         log: &mut Log<D>,
         k: u32,
     ) -> Result<bool, TurnError>
-        requires one { IsTrue D.honest → IsTrue log.old.is_up → AtMostOne (id_of self.old.tx) (open_records log.old.slots) }
+        requires honest { D.honest ≡ N.honest }
+        requires own { IsTrue D.honest → IsTrue log.old.is_up → AreOwn N.script (open_records log.old.slots) }
         ensures tied { IfOk result (λ b. TiesWith self.old.tx log.old) }
         ensures none { result ≡ Ok false → (kth (pending self.old.tx.world) k ≡ None) × (self.new ≡ self.old) × (log.new ≡ log.old) }
         ensures some { result ≡ Ok true → DoesKth D.faults k self.old.tx log.old self.new.tx log.new }

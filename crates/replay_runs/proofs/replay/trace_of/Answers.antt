@@ -14,9 +14,11 @@ use Rattle.coordinator_log.specs.Slots.{open_records}
 use Rattle.coordinator_log.specs.State.{LogState}
 use Rattle.scope_context.specs.Standing.{Standing}
 use Rattle.turn_parts.specs.Reopening.{is_no_log_answer}
+use Rattle.turn_parts.specs.Runs.{is_log_full}
 use Rattle.replay_runs.specs.LogRun.{IsCounted}
 use Rattle.replay_runs.specs.RunState.{AreBelow, AreSettledBelow, Holds, IsRoundAt, IsToPlan, RunState, Tells}
 use Rattle.script_calls.specs.Scoped.{AreOpen}
+use Rattle.replay_runs.proofs.NeverFull.{full_nowhere}
 use Rattle.replay_runs.proofs.Going.{goes_then, stays_then}
 use Rattle.script_calls.proofs.Openings.{open_none}
 use Rattle.replay_runs.proofs.Recorded.{ends_as, holds_at_start, tells_at_start}
@@ -118,6 +120,11 @@ pub returns-clause-unlike : goal.returns-clause-unlike
 returns-clause-unlike g c h =
     let end = told_at_end g (goal.at.returns-clause-unlike g c).In_ok-settle_all in
     ap (λ (T : List Placed). has is_no_log_answer (at_log (past_of T))) c.into_trace.ensures.trace ∙ end.unlike h
+
+pub returns-clause-unfilled : goal.returns-clause-unfilled
+returns-clause-unfilled g c h empty t =
+    let end = told_at_end g (goal.at.returns-clause-unfilled g c).In_ok-settle_all in
+    ap (λ (T : List Placed). has is_log_full (history t.value (past_of T))) c.into_trace.ensures.trace ∙ full_nowhere (past_of c.settle_all.new.self.trace) (end.unfilled h empty) t.value
 
 pub returns-clause-tied : goal.returns-clause-tied
 returns-clause-tied g c h t =

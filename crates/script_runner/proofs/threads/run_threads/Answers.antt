@@ -1,4 +1,4 @@
-use Rattle.std.proofs.Common.{ℕ, ◌≤◌, inl, inr, subst, sym}
+use Rattle.std.proofs.Common.{ℕ, ◌≤◌, true, inl, inr, subst, sym}
 use Rattle.std.specs.Prelude.{IsTrue, vec_len}
 use Rattle.thread_runs.specs.Run.{RanOnThreads}
 use Rattle.replay_runs.specs.Ending.{AreOwnLogs}
@@ -18,7 +18,7 @@ returns-in-Ok-clause-run g c =
     subst (λ d. IsThreadsOf k from (g.D.Disk.faults d) g.D.Disk.honest (g.D.Disk.image d) s c.in-Ok.trace) (sym c.into_disk-disk.ensures.disk)
     (record {
       run = ran.run;
-      lawful = c.lawful.ensures g.D.Disk.honest s k c.in-Ok.trace c.requires.script.script.named ran.run.caused (λ sound. (ran.run.history sound).settled) ran.tied ran.unlike;
+      lawful = c.lawful.ensures g.D.Disk.honest true s k c.in-Ok.trace c.requires.script.script.named ran.run.history.caused (λ sound. ran.run.history.settled) ran.tied ran.unlike (λ h fresh. ran.unfilled h);
       log = ran.ended;
     })
 

@@ -12,9 +12,10 @@ use Rattle.call_order.specs.InOrder.{AreInActorOrder}
 use Rattle.script_calls.specs.Prefix.{lines_by}
 use Rattle.tx_cells.specs.LogAnswers.{is_no_log_answer}
 use Rattle.thread_runs.proofs.Ended.{ends_there, is_gathered, lines_there, put_together, up_there}
+use Rattle.turn_parts.specs.LogEvents.{IsLogHistory}
 use Rattle.turn_parts.proofs.Counting.{rise_known, rise_of, rise_told}
 use Rattle.thread_runs.proofs.Laying.{laid_all}
-use Rattle.thread_runs.proofs.Standing.{all_follow, caused_there, followed_there, settled_there, tied_there}
+use Rattle.thread_runs.proofs.Standing.{all_follow, caused_there, followed_there, settled_there, tied_there, unfilled_there}
 use Rattle.thread_runs.proofs.gathering.gathered.Goals as goal
 
 pub returns-clause-run : goal.returns-clause-run
@@ -40,23 +41,24 @@ returns-clause-run g c =
       run = record {
         rise = rise_of from to (faults_told (at_log T));
         risen = rise_known from to (faults_told (at_log T));
-        caused = caused;
         ordered = ordered;
-        history = λ sound. record {
+        history = record {
           caused = caused;
-          promotes = λ t. c.crossings.ensures.promotes s t.value (history t.value T) c.is_kept.ensures.script.script.named (caused t).freely (sound t);
           wires = λ t. c.crossings.ensures.wires s t.value (history t.value T) (caused t).freely;
           settled = λ t. settled_there s k g.N.Run.honest log t (history t.value T) (all.stands t);
           contexts = λ a. all.contexts a ∙ c.requires.contexts a;
           called = c.call_order.ensures.called s c.new.result ordered;
+          at_log = subst (IsLogHistory s) (sym all.at_the_log) c.is_kept.ensures.events;
           faulted = rise_told from to log.log.armed log.past (at_log T) all.at_the_log c.is_kept.ensures.counted;
           followed = all_follow T (λ t. followed_there s k g.N.Run.honest log T t all.at_the_log (all.stands t));
+          promotes = λ sound t. c.crossings.ensures.promotes s t.value (history t.value T) c.is_kept.ensures.script.script.named (caused t).freely (sound t);
         };
       };
       tied = λ h t. tied_there s k g.N.Run.honest log t (history t.value T) (sym c.is_kept.ensures.honest_is ∙ h) (all.stands t);
       up = up_there g.D.Disk.faults g.D.Disk.honest image s k g.N.Run.honest from ess log T all;
       ended = λ h. ends_there g.D.Disk.faults g.D.Disk.honest image s k g.N.Run.honest from ess log c.new.result h (held h) all;
       unlike = λ h. ap (has is_no_log_answer) all.at_the_log ∙ c.is_kept.ensures.unlike h;
+      unfilled = λ h t. unfilled_there s k g.N.Run.honest log t (history t.value T) (sym c.is_kept.ensures.honest_is ∙ h) (all.stands t);
     }
 
 pub returns-clause-laid : goal.returns-clause-laid

@@ -4,22 +4,22 @@ use Rattle.dtx_model.specs.Entries.{client_told_of}
 use Rattle.dtx_model.specs.Words.{latest}
 use Rattle.tx_cells.specs.Entering.{next_of}
 use Rattle.tx_threads.specs.Turning.{is_quiet}
-use Rattle.tx_threads.proofs.AwaitAnswers.{entered_open, entered_told, later_goes, of_line, still_quiet, was_entered, was_later}
+use Rattle.tx_threads.proofs.AwaitAnswers.{entered_open, entered_told, later_called, later_goes, of_line, still_quiet, was_entered, was_later}
 use Rattle.tx_threads.proofs.awaiting.enter_await.Goals as goal
 use Rattle.tx_threads.proofs.awaiting.enter_await.Goals.{else-goes_on-via-then-goes_on+else-is_of_line, else-goes_on-via-else-goes_on}
 
 pub returns-clause-known : goal.returns-clause-known
 returns-clause-known g c o e =
-    let entered = was_entered c.args.a c.args.line (OutcomeIs o) c.enter_alone.result c.args.state.now c.enter_alone.new.self c.enter_alone.ensures.entered c.enter_alone.ensures.put_off e in
-    c.in_ok-tell.ensures.known (entered_told g.N.Run.script c.args.a c.args.line o c.args.state.now c.enter_alone.new.self c.requires.awaits (λ d n. c.next-next.ensures.ours d (c.next-next.ensures.next ∙ n)) entered)
+    let entered = was_entered c.args.a c.args.line (OutcomeIs o) c.enter.result c.args.state.now c.enter.new.self c.enter.ensures.entered c.enter.ensures.put_off e in
+    c.in_ok-tell.ensures.known (entered_told g.N.Run.script c.args.a c.args.line o c.args.state.now c.enter.new.self c.requires.awaits (λ d n. c.next-next.ensures.ours d (c.next-next.ensures.next ∙ n)) entered)
 
 pub returns-clause-entered : goal.returns-clause-entered
-returns-clause-entered g c x e = was_entered c.args.a c.args.line x c.enter_alone.result c.args.state.now c.enter_alone.new.self c.enter_alone.ensures.entered c.enter_alone.ensures.put_off e
+returns-clause-entered g c x e = was_entered c.args.a c.args.line x c.enter.result c.args.state.now c.enter.new.self c.enter.ensures.entered c.enter.ensures.put_off e
 
 pub returns-clause-open : goal.returns-clause-open
 returns-clause-open g c e =
-    let entered = was_entered c.args.a c.args.line StillOpen c.enter_alone.result c.args.state.now c.enter_alone.new.self c.enter_alone.ensures.entered c.enter_alone.ensures.put_off e in
-    let untold = entered_open g.N.Run.script c.args.a c.args.line c.args.state.now c.enter_alone.new.self c.requires.awaits (λ d n. c.next-next.ensures.ours d (c.next-next.ensures.next ∙ n)) entered in (
+    let entered = was_entered c.args.a c.args.line StillOpen c.enter.result c.args.state.now c.enter.new.self c.enter.ensures.entered c.enter.ensures.put_off e in
+    let untold = entered_open g.N.Run.script c.args.a c.args.line c.args.state.now c.enter.new.self c.requires.awaits (λ d n. c.next-next.ensures.ours d (c.next-next.ensures.next ∙ n)) entered in (
       untold,
       elim c.else-goes_on.branch [
         | else-goes_on-via-then-goes_on+else-is_of_line w ↦
@@ -30,6 +30,10 @@ returns-clause-open g c e =
 
 pub returns-clause-later : goal.returns-clause-later
 returns-clause-later g c e =
-    let later = was_later c.args.a c.args.line c.enter_alone.result c.args.state.now c.enter_alone.new.self c.enter_alone.ensures.entered c.enter_alone.ensures.put_off e in
+    let later = was_later c.args.a c.args.line c.enter.result c.args.state.now c.enter.new.self c.enter.ensures.entered c.enter.ensures.put_off e in
     let goes = later_goes c.args.state.now c.args.line (next_of c.args.a c.args.state.now) later.0 in
     (goes.0, goes.1, later.1)
+
+pub returns-then-is_of_line-clause-called : goal.returns-then-is_of_line-clause-called
+returns-then-is_of_line-clause-called g c =
+    later_called g.N.Run.script c.args.state.now.tx.transaction.value c.args.line c.args.a c.next-next.result c.requires.awaits (sym c.if-is_of_line.ensures) c.next-next.ensures.ours

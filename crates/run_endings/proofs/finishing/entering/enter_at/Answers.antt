@@ -42,9 +42,9 @@ returns-clause-others g c =
     omega (arith, one, kept))
     c.follow_stop.ensures.calls
 
-pub returns-in_err-enter-clause-differs : goal.returns-in_err-enter-clause-differs
-returns-in_err-enter-clause-differs g c = λ differs.
-    untied_at c.args.states.now c.args.i c.enter.new.state c.enter.new.log c.in_err-enter.field-0.0 c.from_residual.result (slice_get_within c.args.states.now c.args.i c.requires.next.0 c.requires.next.1) c.in_err-enter.ensures.cause c.from_residual.ensures.1 differs
+pub returns-in_err-enter-clause-cause : goal.returns-in_err-enter-clause-cause
+returns-in_err-enter-clause-cause g c =
+    untied_at c.args.states.now c.args.i c.enter.new.state c.enter.new.log c.in_err-enter.field-0.0 c.from_residual.result (slice_get_within c.args.states.now c.args.i c.requires.next.0 c.requires.next.1) c.in_err-enter.ensures.cause c.from_residual.ensures.1
 
 pub returns-in_err-enter-clause-numbers : goal.returns-in_err-enter-clause-numbers
 returns-in_err-enter-clause-numbers g c = map-set_same (λ (z : Cell). z.tx.transaction) c.args.states.now c.args.i c.enter.new.state c.index-states-i.result c.enter.ensures.transaction

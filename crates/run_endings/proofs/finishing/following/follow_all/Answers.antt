@@ -22,9 +22,9 @@ returns-in_err-follow_log-clause-numbers g c =
     let y = c.follow_log.new.self in
     map-set_same (λ (z : Cell). z.tx.transaction) c.loop-i.states c.loop-i.i y x (ap (λ (z : Cell). z.tx.transaction) c.in_err-follow_log.ensures.cause.1) ∙ c.loop-i.invariant.numbers
 
-pub returns-in_err-follow_log-clause-differs : goal.returns-in_err-follow_log-clause-differs
-returns-in_err-follow_log-clause-differs g c = λ differs.
+pub returns-in_err-follow_log-clause-cause : goal.returns-in_err-follow_log-clause-cause
+returns-in_err-follow_log-clause-cause g c =
     let e = c.in_err-follow_log.field-0.0 in
     let why = c.in_err-follow_log.ensures.cause in
     untied_at c.loop-i.states c.loop-i.i c.follow_log.new.self c.args.log.now e c.from_residual.result (omega arith)
-    (inr (subst (λ (z : Cell). IsCause z.tx c.args.log.now.log e) (sym why.1) why.0)) c.from_residual.ensures.1 differs
+    (inr (subst (λ (z : Cell). IsCause z.tx c.args.log.now.log e) (sym why.1) why.0)) c.from_residual.ensures.1

@@ -29,9 +29,9 @@ loop-i-preserved g c =
       still = λ up. was.still (did.still up);
     }
 
-pub returns-in_err-settle-clause-differs : goal.returns-in_err-settle-clause-differs
-returns-in_err-settle-clause-differs g c = λ differs.
-    untied_at c.loop-i.states c.loop-i.i c.settle.new.state c.settle.new.log c.in_err-settle.field-0.0 c.from_residual.result (omega arith) c.in_err-settle.ensures.cause c.from_residual.ensures.1 differs
+pub returns-in_err-settle-clause-cause : goal.returns-in_err-settle-clause-cause
+returns-in_err-settle-clause-cause g c =
+    untied_at c.loop-i.states c.loop-i.i c.settle.new.state c.settle.new.log c.in_err-settle.field-0.0 c.from_residual.result (omega arith) c.in_err-settle.ensures.cause c.from_residual.ensures.1
 
 pub returns-in_err-settle-clause-numbers : goal.returns-in_err-settle-clause-numbers
 returns-in_err-settle-clause-numbers g c =

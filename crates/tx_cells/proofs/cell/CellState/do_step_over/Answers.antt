@@ -7,5 +7,6 @@ pub invariant_of-self-2 : goal.invariant_of-self-2
 invariant_of-self-2 g c =
     let does = c.step.ensures.some (c.in_ok-step.was ∙ ap Ok c.if-not-branch.false) in (
       c.self.invariant.0 ∙ sym does.done.transaction,
-      kept_over g.D.Disk.faults c.args.log.now c.step.new.log g.N.Run.script g.N.Run.objects g.N.Run.honest c.self.inside.world c.step.new.self c.self.inside.rows c.args.k c.self.invariant.1 c.is_own_run.ensures.run does,
+      kept_over g.D.Disk.faults c.args.log.now c.step.new.log g.N.Run.script g.N.Run.objects g.N.Run.honest c.self.inside.world c.step.new.self c.self.inside.rows c.args.k c.self.invariant.1 c.is_own_run.ensures.run
+          (λ is. c.requires.own (c.requires.honest ∙ is)) does,
     )

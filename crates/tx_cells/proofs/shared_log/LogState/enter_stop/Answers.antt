@@ -9,9 +9,11 @@ use Rattle.script_calls.specs.declared.calls.LogCall.TheVariants.{Stop}
 use Rattle.tx_cells.specs.LogAnswers.{stop_armed}
 use Rattle.tx_cells.specs.LogCell.{IsLogKept, LogCell}
 use Rattle.tx_cells.specs.LogEntering.{next_at_log}
+use Rattle.tx_cells.proofs.Coming.{one_more, stop_line}
 use Rattle.tx_cells.proofs.LogKept.{kept_armed}
 use Rattle.tx_cells.proofs.LogOrder.{prefix_next, stop_first, two_more}
 use Rattle.tx_cells.proofs.shared_log.LogState.enter_stop.Goals as goal
+use Rattle.turn_parts.specs.LogEvents.{Arms}
 
 pub arm-requires : goal.arm-requires
 arm-requires g c =
@@ -33,5 +35,6 @@ invariant_of-self-2 g c =
     kept_armed g.D.Disk.faults g.D.Disk.honest g.D.Disk.image g.N.Run.script g.N.Run.honest g.N.Run.faults (record { log = c.self.inside.log; rows = c.self.inside.rows; past = past }) c.arm.new.self c.advance.new.self c.args.line c.args.a
     c.args.k c.args.image (record { passes = c.args.k - 1; image = c.args.image }) c.arm.ensures
     (prefix_next g.N.Run.script c.self.inside.rows c.advance.new.self past (stop_armed c.args.line c.args.a c.args.k c.args.image past) c.args.a c.args.line (Stop c.args.k c.args.image) Fine next c.advance.ensures.here c.advance.ensures.others (λ b. refl)
-    c.self.invariant.in_order) c.self.invariant
+    c.self.invariant.in_order)
+    (one_more g.N.Run.script (Arms c.args.line c.args.a c.args.k c.args.image) past c.self.invariant.events (stop_line g.N.Run.script c.self.inside.rows past c.args.a c.args.line c.args.k c.args.image c.self.invariant.in_order next)) c.self.invariant
     )
