@@ -2,10 +2,35 @@
 use crate::fault::Fault;
 use clap::error::ErrorKind;
 use clap::{Arg, ArgAction, Command};
+use outside::read_range;
 use std::alloc::Global;
+use std::fs;
+use std::fs::File;
+use std::rt::Files;
 
 /// The beginning of the word that names the log's file.
 const OPTION: &str = "--log=";
+
+/// With what a log's head begins.
+const LETTERS: &[u8; 8] = b"DTXLOG1\n";
+
+/// Whether the log may stand in the file at this path: there is none yet, or it is a regular file that is empty or begins as a log does. Any other file is somebody's, and what is no file, as a pipe, can't keep a log.
+pub fn may_be_log<R: Files<File = File>>(rt: &R, path: &str) -> bool {
+    let Ok(found) = fs::metadata(rt, path) else {
+        // It isn't there; or it can't be opened either, and who opens it says so.
+        return true;
+    };
+    found.is_file() && (found.len() == 0 || begins_as_log(rt, path))
+}
+
+/// Whether the file at this path begins as a log does.
+fn begins_as_log<R: Files<File = File>>(rt: &R, path: &str) -> bool {
+    let Ok(mut file) = File::open(rt, path) else {
+        return false;
+    };
+    let mut first = [0; 8];
+    read_range(&mut file, 0, &mut first).is_ok() && first == *LETTERS
+}
 
 /// Takes the last word off where it is `--log=PATH`, and gives the path.
 pub fn take_path(alloc: Global, words: &mut Vec<String>) -> Result<Option<String>, Fault> {
