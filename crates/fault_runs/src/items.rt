@@ -12,6 +12,7 @@ pub enum Key {
     Write,
     Piece,
     Recorded,
+    Lost,
     All,
     Bytes,
     First,
@@ -23,7 +24,7 @@ pub enum Key {
     Log,
 }
 
-const KEYS: [(&str, Key); 18] = [
+const KEYS: [(&str, Key); 19] = [
     ("words", Key::Words),
     ("script", Key::Script),
     ("unended", Key::Unended),
@@ -33,6 +34,7 @@ const KEYS: [(&str, Key); 18] = [
     ("write", Key::Write),
     ("piece", Key::Piece),
     ("recorded", Key::Recorded),
+    ("lost", Key::Lost),
     ("all", Key::All),
     ("bytes", Key::Bytes),
     ("first", Key::First),
@@ -60,7 +62,7 @@ pub fn number(text: &str) -> u64 {
     text.parse::<u64>().unwrap_or(0)
 }
 
-/// A run: its words, its input, or the number that it is made of, the number of the call that fails, 0 for none, the size of a piece, and whether the input ends without a newline, there was a record before, and the log is opened after it.
+/// A run: its words, its input, or the number that it is made of, the number of the call that fails, 0 for none, the size of a piece, and whether the input ends without a newline, there was a record before, and the disk loses what wasn't synced and the log is opened after it.
 #[derive(Clone, Copy)]
 pub struct Case<'a> {
     pub words: &'a str,
@@ -72,6 +74,7 @@ pub struct Case<'a> {
     pub piece: usize,
     pub is_unended: bool,
     pub is_recorded: bool,
+    pub is_lost: bool,
     pub is_opened: bool,
 }
 
@@ -88,6 +91,7 @@ impl<'a> Case<'a> {
             piece: 1_000_000,
             is_unended: false,
             is_recorded: false,
+            is_lost: false,
             is_opened: false,
         };
         for item in line.split("; ") {
@@ -110,6 +114,7 @@ impl<'a> Case<'a> {
             Key::Piece => self.piece = number(rest) as usize,
             Key::Unended => self.is_unended = true,
             Key::Recorded => self.is_recorded = true,
+            Key::Lost => self.is_lost = true,
             Key::Log => self.is_opened = true,
             _ => (),
         }

@@ -11,6 +11,7 @@
 //! | `disk N`, `read N`, `write N` | the N-th call of the disk, the source or the sink fails |
 //! | `piece N` | a read and a write take N bytes at most |
 //! | `recorded` | before the run the disk has a log with one record, made in eight calls |
+//! | `lost` | after the run the disk loses what wasn't synced |
 //! | `all` | prints what was written |
 //! | `bytes` | prints how many bytes that are |
 //! | `first N` | prints its first N lines |

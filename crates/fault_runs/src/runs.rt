@@ -4,7 +4,7 @@ ghost use Rattle.std.specs.Prelude.{◌≡◌, ◌≤◌, length, IfOk};
 use crate::items::Case;
 use coordinator_log::{Log, LogRefusal, is_identifier};
 use dtx_values::{EnlNo, LogRecord, RmNo};
-use outside::{Disk, MemDisk, MemSink, MemSource, OpenGate};
+use outside::{Disk, Image, MemDisk, MemSink, MemSource, OpenGate};
 use script_maker::make_script;
 use script_runner::{Exit, LOG_BYTES, run_program};
 use std::alloc::{AllocError, Global};
@@ -140,7 +140,10 @@ pub fn ran<R: Threads + Wait + Sync>(
     if disk.len() < LOG_BYTES {
         return Err(AllocError);
     }
-    let (exit, disk) = run_over(rt, alloc, &words, &mut source, &mut sink, disk);
+    let (exit, mut disk) = run_over(rt, alloc, &words, &mut source, &mut sink, disk);
+    if case.is_lost {
+        disk.crash(Image::Lose);
+    }
     Ok(Ending {
         exit,
         written: Vec::from_slice(alloc, sink.bytes())?,

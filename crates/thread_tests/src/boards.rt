@@ -1,6 +1,7 @@
 //! Entering calls under the locks, in order and out of it, and what the board tells.
-ghost use Rattle.std.specs.Prelude.{◌≡◌};
+ghost use Rattle.std.specs.Prelude.{◌≡◌, true};
 ghost use Rattle.tx_cells.specs.Fresh.{MayBegin};
+ghost use Rattle.tx_threads.specs.Turning.{is_await_at};
 
 use crate::scripts::is_await;
 use crate::stages::{Stage, Start, sure_start};
@@ -40,19 +41,15 @@ fn entered<N: Run, D: Disk + Drop, R: Wait>(
 }
 
 /// What the turns of the test say, in order: the entries of each line, what is on the board before and after, and the await.
-fn said<N: Run, D: Disk + Drop, R: Wait + Abort>(start: Start<D, R>) -> Result<(), Fail>
+fn said<N: Run, D: Disk + Drop, R: Wait + Abort>(stage: &Stage<N, D, R>) -> Result<(), Fail>
     requires objects { N.objects ≡ 0 }
-    requires begins { MayBegin N.script N.honest N.faults D.honest D.faults start.script start.log }
+    requires awaits { is_await_at N.script 4 ≡ true }
 {
-    let rt = start.rt;
-    if !is_await(start.script.lines(), 4) {
-        return Err("no await".into());
-    }
-    let stage = Stage::<N, D, R>::open(start)?;
+    let rt = stage.rt;
     let a = ActorNo::new(1).ok_or("no actor")?;
     let t = TxNo::new(1).ok_or("no transaction")?;
     for (line, turned) in TURNS {
-        assert_eq!(rt; entered(&stage, a, line, t), Ok(turned), "at line {line}");
+        assert_eq!(rt; entered(stage, a, line, t), Ok(turned), "at line {line}");
     }
     if !stage.cells.has(t) {
         return Err("no cell".into());
@@ -72,7 +69,19 @@ fn said<N: Run, D: Disk + Drop, R: Wait + Abort>(start: Start<D, R>) -> Result<(
     Ok(())
 }
 
+/// What is said where a run begins so.
+fn said_from<N: Run, D: Disk + Drop, R: Wait + Abort>(start: Start<D, R>) -> Result<(), Fail>
+    requires objects { N.objects ≡ 0 }
+    requires begins { MayBegin N.script N.honest N.faults D.honest D.faults start.script start.log }
+{
+    if !is_await(start.script.lines(), 4) {
+        return Err("no await".into());
+    }
+    let stage = Stage::<N, D, R>::open(start)?;
+    said(&stage)
+}
+
 #[test]
 fn calls_are_entered_in_order_and_the_board_tells(rt: HostRuntime) -> Result<(), Fail> {
-    said::<Brand, SureDisk, _>(sure_start(&rt, rt.alloc(), WAITS)?)
+    said_from::<Brand, SureDisk, _>(sure_start(&rt, rt.alloc(), WAITS)?)
 }

@@ -47,16 +47,22 @@ impl Gate for Both {
 const TWO: &[u8] = b"a1 begin t1 default\na1 volatile t1 e1 none yes\na2 begin t2 default\n\
     a2 volatile t2 e2 none yes\na1 par\na1 commit t1\na1 await t1\na2 commit t2\na2 await t2\n";
 
+/// One client with two transactions, each with a volatile that votes. It waits for the outcome of the first alone: the reply of the second is called for by a helper.
+const HELPED: &[u8] = b"a1 begin t1 default\na1 volatile t1 e1 none yes\na1 begin t2 default\n\
+    a1 volatile t2 e2 none yes\na1 par\na1 commit t2\na1 commit t1\na1 await t1\n";
+
 #[test]
 fn replies_overlap(rt: HostRuntime) -> Result<(), Fail> {
-    let gate = Both {
-        first: AtomicBool::new(false),
-        second: AtomicBool::new(false),
-        met: AtomicU64::new(0),
-    };
-    let (exit, _) = program(&rt, rt.alloc(), &["threads", "2"], TWO, &[], &gate)?;
-    assert_eq!(rt; exit, Exit::Fine);
-    assert_eq!(rt; gate.met.load(Ordering::SeqCst), 2);
+    for text in [TWO, HELPED] {
+        let gate = Both {
+            first: AtomicBool::new(false),
+            second: AtomicBool::new(false),
+            met: AtomicU64::new(0),
+        };
+        let (exit, _) = program(&rt, rt.alloc(), &["threads", "2"], text, &[], &gate)?;
+        assert_eq!(rt; exit, Exit::Fine);
+        assert_eq!(rt; gate.met.load(Ordering::SeqCst), 2);
+    }
     Ok(())
 }
 
@@ -76,17 +82,15 @@ fn brought<N: Run, D: Disk + Drop, G: Gate, R: Wait>(
 
 /// A transaction that is promoted, so that its commit is logged, and another that needs no log.
 const LOGS: &[u8] = b"a1 begin t1 default\na1 durable t1 e1 r1 two yes\na1 commit t1\n\
-    a2 begin t2 default\na2 volatile t2 e2 none yes\n";
+    a2 begin t2 default\na2 volatile t2 e2 none yes\na2 commit t2\n";
 
-/// One thread brings the first transaction to its write at the log, while another begins the second one.
+/// One thread brings the first transaction to its write at the log, while another begins and commits the second one, whose steps need no log.
 fn both_ways<N: Run + Send + Sync, D: Disk + Drop + Send, R: Threads + Wait + Abort + Sync>(
-    start: Start<D, R>,
+    stage: &Stage<N, D, R>,
     flags: &WriteFlags,
 ) -> Result<(), Fail>
-    requires objects { N.objects ≡ 0 }
-    requires begins { MayBegin N.script N.honest N.faults D.honest D.faults start.script start.log }
+    requires { N.objects ≡ 0 }
 {
-    let stage = Stage::<N, D, R>::open(start)?;
     let rt = stage.rt;
     let (a, b) = (ActorNo::new(1).ok_or("a1")?, ActorNo::new(2).ok_or("a2")?);
     let (t, u) = (TxNo::new(1).ok_or("t1")?, TxNo::new(2).ok_or("t2")?);
@@ -95,12 +99,13 @@ fn both_ways<N: Run + Send + Sync, D: Disk + Drop + Send, R: Threads + Wait + Ab
         rt,
         || -> Result<bool, TurnError>
             requires { N.objects ≡ 0 }
-        { brought(&stage, &OpenGate, a, t) },
+        { brought(stage, &OpenGate, a, t) },
         || -> Result<bool, TurnError>
             requires { N.objects ≡ 0 }
         {
             let is_writing = looked(&flags.writing);
-            let is_in = stage.entered(&OpenGate, b, &[4, 5], u)?;
+            let is_in = stage.entered(&OpenGate, b, &[4, 5, 6], u)?;
+            stage.helped(&OpenGate, u)?;
             flags.go_on.store(true, Ordering::SeqCst);
             Ok(is_writing && is_in)
         },
@@ -108,6 +113,18 @@ fn both_ways<N: Run + Send + Sync, D: Disk + Drop + Send, R: Threads + Wait + Ab
     assert_eq!(rt; first, Ok(true));
     assert_eq!(rt; second, Ok(true));
     Ok(())
+}
+
+/// Both ways where a run begins so.
+fn both_ways_from<N: Run + Send + Sync, D: Disk + Drop + Send, R: Threads + Wait + Abort + Sync>(
+    start: Start<D, R>,
+    flags: &WriteFlags,
+) -> Result<(), Fail>
+    requires objects { N.objects ≡ 0 }
+    requires begins { MayBegin N.script N.honest N.faults D.honest D.faults start.script start.log }
+{
+    let stage = Stage::<N, D, R>::open(start)?;
+    both_ways(&stage, flags)
 }
 
 #[test]
@@ -123,7 +140,7 @@ fn a_write_at_the_log_holds_no_other_transaction(rt: HostRuntime) -> Result<(), 
         script: threadable(rt.alloc(), LOGS)?,
         log: empty_log(rt.alloc(), disk)?,
     };
-    both_ways::<Brand, Slow<'_>, _>(start, &flags)?;
+    both_ways_from::<Brand, Slow<'_>, _>(start, &flags)?;
     assert!(rt; flags.seen.load(Ordering::SeqCst));
     Ok(())
 }
@@ -176,17 +193,13 @@ fn awaited<N: Run, D: Disk + Drop, G: Gate, R: Wait>(
 
 /// While the reply of the first transaction is held, another thread looks at its board, commits the second one, and looks at its board.
 fn peeked<N: Run + Send + Sync, D: Disk + Drop + Send, R: Threads + Wait + Abort + Sync>(
-    start: Start<D, R>,
+    stage: &Stage<N, D, R>,
     gate: &Hold,
 ) -> Result<(), Fail>
     requires objects { N.objects ≡ 0 }
-    requires begins { MayBegin N.script N.honest N.faults D.honest D.faults start.script start.log }
+    requires awaits { is_await_at N.script 7 ≡ true }
 {
-    let rt = start.rt;
-    if !is_await(start.script.lines(), 7) {
-        return Err("not this script".into());
-    }
-    let stage = Stage::<N, D, R>::open(start)?;
+    let rt = stage.rt;
     let (a, b) = (ActorNo::new(1).ok_or("a1")?, ActorNo::new(2).ok_or("a2")?);
     let (t, u) = (TxNo::new(1).ok_or("t1")?, TxNo::new(2).ok_or("t2")?);
     if !stage.cells.has(t) {
@@ -197,14 +210,14 @@ fn peeked<N: Run + Send + Sync, D: Disk + Drop + Send, R: Threads + Wait + Abort
         rt,
         || -> Result<bool, TurnError>
             requires { N.objects ≡ 0 }
-        { brought(&stage, gate, a, t) },
+        { brought(stage, gate, a, t) },
         || -> Result<(bool, Option<(TxNo, Outcome)>), TurnError>
-            requires { (N.objects ≡ 0) × (is_await_at N.script 7 ≡ true) × (board_of stage.cells t.value ≡ Some note.cell) }
+            requires { (N.objects ≡ 0) × (is_await_at N.script 7 ≡ true) × (board_of stage.now.cells t.value ≡ Some note.cell) }
         {
             let is_asked = looked(&gate.asked);
             let is_none = peek_outcome(&stage.cells, t, &mut note).is_none();
             let is_in = stage.entered(gate, b, &[4, 5, 6], u)?;
-            let told = awaited(&stage, gate, b, 7, u)?;
+            let told = awaited(stage, gate, b, 7, u)?;
             gate.go_on.store(true, Ordering::SeqCst);
             Ok((is_asked && is_none && is_in, told))
         },
@@ -212,6 +225,21 @@ fn peeked<N: Run + Send + Sync, D: Disk + Drop + Send, R: Threads + Wait + Abort
     assert_eq!(rt; first, Ok(true));
     assert_eq!(rt; second, Ok((true, Some((u, Outcome::Committed)))));
     Ok(())
+}
+
+/// What is seen where a run begins so.
+fn peeked_from<N: Run + Send + Sync, D: Disk + Drop + Send, R: Threads + Wait + Abort + Sync>(
+    start: Start<D, R>,
+    gate: &Hold,
+) -> Result<(), Fail>
+    requires objects { N.objects ≡ 0 }
+    requires begins { MayBegin N.script N.honest N.faults D.honest D.faults start.script start.log }
+{
+    if !is_await(start.script.lines(), 7) {
+        return Err("not this script".into());
+    }
+    let stage = Stage::<N, D, R>::open(start)?;
+    peeked(&stage, gate)
 }
 
 #[test]
@@ -222,7 +250,7 @@ fn looks_at_a_board_wait_for_nobody(rt: HostRuntime) -> Result<(), Fail> {
         go_on: AtomicBool::new(false),
         seen: AtomicBool::new(false),
     };
-    peeked::<Brand, SureDisk, _>(start, &gate)?;
+    peeked_from::<Brand, SureDisk, _>(start, &gate)?;
     assert!(rt; gate.seen.load(Ordering::SeqCst));
     Ok(())
 }

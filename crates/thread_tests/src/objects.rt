@@ -10,17 +10,22 @@ use std::sync::{Arc, Wait};
 use std::test::Fail;
 use std::thread::Threads;
 
-/// Gives Prepare this answer and any other note none, and keeps what it heard: a digit for each note, the newest last.
+/// Gives Prepare this answer and any other note none, and keeps what it heard: a digit for each note, the newest last; and counts what it heard of another transaction or enlistment than those of its number.
 #[derive(Drop)]
 struct Recorder {
     answer: Option<Reply>,
+    number: u32,
     heard: Arc<AtomicU64, Global>,
+    strange: Arc<AtomicU64, Global>,
 }
 
 impl Resource for Recorder {
     ghost gives = { λ old t e n r new. Unit {0} };
 
-    fn on(&mut self, _t: TxNo, _e: EnlNo, n: Note) -> Option<Reply> {
+    fn on(&mut self, t: TxNo, e: EnlNo, n: Note) -> Option<Reply> {
+        if t.get() != self.number || e.get() != self.number {
+            self.strange.fetch_add(1, Ordering::SeqCst);
+        }
         let digit = match n {
             Note::Prepare => 1,
             Note::Promote => 2,
@@ -40,15 +45,19 @@ impl Resource for Recorder {
     }
 }
 
-/// An object that gives this answer, and what it will have heard.
+/// An object of the enlistment of this number that gives this answer, and what it will have heard.
 fn recording(
     alloc: Global,
     answer: Option<Reply>,
+    number: u32,
+    strange: &Arc<AtomicU64, Global>,
 ) -> Result<(Recorder, Arc<AtomicU64, Global>), AllocError> {
     let heard = Arc::new(alloc, AtomicU64::new(0))?;
     let recorder = Recorder {
         answer,
+        number,
         heard: Arc::try_clone(&heard)?,
+        strange: Arc::try_clone(strange)?,
     };
     Ok((recorder, heard))
 }
@@ -57,7 +66,8 @@ fn recording(
 fn replayed(alloc: Global, text: &str, answer: Option<Reply>) -> Result<(Trace, u64), Fail> {
     let script = threadable(alloc, text.as_bytes())?;
     let mut log = sure_log(alloc)?;
-    let (recorder, heard) = recording(alloc, answer)?;
+    let strange = Arc::new(alloc, AtomicU64::new(0))?;
+    let (recorder, heard) = recording(alloc, answer, 1, &strange)?;
     let mut objects: Vec<Box<dyn Resource + Send>> = Vec::new(alloc);
     objects.push(Box::new(alloc, recorder)?)?;
     let trace = run_replay(alloc, &script, &mut log, objects.as_mut_slice())?;
@@ -74,7 +84,8 @@ fn ran<R: Threads + Wait + Sync>(
 ) -> Result<(Trace, u64), Fail> {
     let script = threadable(alloc, text.as_bytes())?;
     let log = sure_log(alloc)?;
-    let (recorder, heard) = recording(alloc, Some(Reply::Vote(vote)))?;
+    let strange = Arc::new(alloc, AtomicU64::new(0))?;
+    let (recorder, heard) = recording(alloc, Some(Reply::Vote(vote)), 1, &strange)?;
     let mut objects: Vec<Box<dyn Resource + Send>> = Vec::new(alloc);
     objects.push(Box::new(alloc, recorder)?)?;
     let (trace, _disk) = run_threads(rt, alloc, &script, helpers, log, &OpenGate, objects);
@@ -167,6 +178,42 @@ fn objects_vote_on_threads(rt: HostRuntime) -> Result<(), Fail> {
             assert_eq!(rt; heard, 1);
             assert!(rt; has(&trace, Entry::Told(Party::Client, Outcome::Aborted)));
         }
+    }
+    Ok(())
+}
+
+/// Two transactions, each with a durable of its own manager.
+const TWO_MANAGERS: &str = "a1 begin t1 default\na1 durable t1 e1 r1 two yes\na1 begin t2 default\n\
+    a1 durable t2 e2 r2 two yes\na1 commit t1\na1 commit t2\n";
+
+/// Runs them on threads, where the object of manager 1 votes no and that of manager 2 yes: what each heard, and how often one heard of the other's enlistment.
+fn two_managers<R: Threads + Wait + Sync>(
+    rt: &R,
+    alloc: Global,
+    helpers: u8,
+) -> Result<(u64, u64, u64), Fail> {
+    let script = threadable(alloc, TWO_MANAGERS.as_bytes())?;
+    let log = sure_log(alloc)?;
+    let strange = Arc::new(alloc, AtomicU64::new(0))?;
+    let (first, no) = recording(alloc, Some(Reply::Vote(Vote::No)), 1, &strange)?;
+    let (second, yes) = recording(alloc, Some(Reply::Vote(Vote::Yes)), 2, &strange)?;
+    let mut objects: Vec<Box<dyn Resource + Send>> = Vec::new(alloc);
+    objects.push(Box::new(alloc, first)?)?;
+    objects.push(Box::new(alloc, second)?)?;
+    let (trace, _disk) = run_threads(rt, alloc, &script, helpers, log, &OpenGate, objects);
+    if trace.is_err() {
+        return Err("no trace".into());
+    }
+    let (no, yes) = (no.load(Ordering::SeqCst), yes.load(Ordering::SeqCst));
+    Ok((no, yes, strange.load(Ordering::SeqCst)))
+}
+
+#[test]
+fn each_object_hears_of_its_own_enlistments(rt: HostRuntime) -> Result<(), Fail> {
+    // Without helpers the caller asks, after the threads ended.
+    for helpers in [0, 2] {
+        let heard = two_managers(&rt, rt.alloc(), helpers)?;
+        assert_eq!(rt; heard, (1, 15, 0), "with {helpers}");
     }
     Ok(())
 }

@@ -10,7 +10,7 @@ use std::marker::Brand;
 use std::process::Abort;
 use std::sync::Wait;
 use std::test::Fail;
-use tx_threads::{CellState, LogState, Run, TurnError, Turned, peek_outcome};
+use tx_threads::{CellState, LogState, Run, TurnError, Turned, call_at_log, peek_outcome};
 
 /// A transaction to which nothing comes, and a restart of the log.
 const RESTARTS: &[u8] = b"a1 begin t1 default\na1 restart\n";
@@ -44,13 +44,11 @@ fn does_nothing<N: Run, D: Disk, R: Abort>(
 }
 
 /// Restarts the log of a run in which nothing else is done.
-fn restarted<N: Run, D: Disk + Drop, R: Wait + Abort>(start: Start<D, R>) -> Result<(), Fail>
-    requires objects { N.objects ≡ 0 }
-    requires begins { MayBegin N.script N.honest N.faults D.honest D.faults start.script start.log }
-{
-    let stage = Stage::<N, D, R>::open(start)?;
+fn restarted<N: Run, D: Disk + Drop, R: Wait + Abort>(
+    stage: &Stage<N, D, R>,
+    t: TxNo,
+) -> Result<(), Fail> {
     let (rt, alloc) = (stage.rt, stage.alloc);
-    let t = TxNo::new(1).ok_or("no transaction")?;
     if !stage.cells.has(t) {
         return Err("no cell".into());
     }
@@ -62,7 +60,19 @@ fn restarted<N: Run, D: Disk + Drop, R: Wait + Abort>(start: Start<D, R>) -> Res
     does_nothing(rt, alloc, &mut state, &mut held)?;
     drop(held);
     drop(state);
-    let states = stage.cells.into_states(alloc)?;
+    Ok(())
+}
+
+/// The same where the run begins so; afterwards its states are that of the one transaction.
+fn restarted_from<N: Run, D: Disk + Drop, R: Wait + Abort>(start: Start<D, R>) -> Result<(), Fail>
+    requires objects { N.objects ≡ 0 }
+    requires begins { MayBegin N.script N.honest N.faults D.honest D.faults start.script start.log }
+{
+    let t = TxNo::new(1).ok_or("no transaction")?;
+    let stage = Stage::<N, D, R>::open(start)?;
+    let rt = stage.rt;
+    restarted(&stage, t)?;
+    let states = stage.cells.into_states(stage.alloc)?;
     assert_eq!(rt; states.len(), 1);
     for state in states {
         assert_eq!(rt; state.t(), t);
@@ -72,7 +82,66 @@ fn restarted<N: Run, D: Disk + Drop, R: Wait + Abort>(start: Start<D, R>) -> Res
 
 #[test]
 fn a_restart_is_entered_at_the_log_alone(rt: HostRuntime) -> Result<(), Fail> {
-    restarted::<Brand, SureDisk, _>(sure_start(&rt, rt.alloc(), RESTARTS)?)
+    restarted_from::<Brand, SureDisk, _>(sure_start(&rt, rt.alloc(), RESTARTS)?)
+}
+
+/// A durable and a second one, which promotes, so that its call waits; another transaction that is promoted; and a restart.
+const WAITS: &[u8] = b"a1 begin t1 default\na1 durable t1 e1 r1 single yes committed\n\
+    a1 durable t1 e2 r2 two yes\na1 begin t2 default\na1 durable t2 e3 r1 two yes\na1 restart\n";
+
+/// Whether the history of the transaction has this entry, and its last entry.
+fn seen<N: Run, D: Disk + Drop, R: Wait>(
+    stage: &Stage<N, D, R>,
+    t: TxNo,
+    wanted: Entry,
+) -> (bool, Option<Entry>) {
+    let (mut is_there, mut last) = (false, None);
+    if !stage.cells.has(t) {
+        return (is_there, last);
+    }
+    let state = stage.cells.cell(t).state().lock(stage.rt);
+    for i in 0..state.history().len() {
+        let entry = state.history().at(i);
+        is_there |= entry == wanted;
+        last = Some(entry);
+    }
+    (is_there, last)
+}
+
+/// The call that waits is answered when it returns; and after the restart each history ends with what was found.
+fn waits_and_restarts<N: Run, D: Disk + Drop, R: Wait + Abort>(
+    stage: &Stage<N, D, R>,
+) -> Result<(), Fail>
+    requires { N.objects ≡ 0 }
+{
+    let (rt, log) = (stage.rt, &stage.log);
+    let a = ActorNo::new(1).ok_or("a1")?;
+    let (t, u) = (TxNo::new(1).ok_or("t1")?, TxNo::new(2).ok_or("t2")?);
+    assert_eq!(rt; stage.entered(&OpenGate, a, &[1, 2, 3], t), Ok(true));
+    let answer = Entry::Answered(3, Answer::Fine);
+    assert!(rt; seen(stage, t, answer).0);
+    assert_eq!(rt; stage.entered(&OpenGate, a, &[4, 5], u), Ok(true));
+    let restarted = call_at_log(rt, stage.alloc, &stage.cells, log, a, 6);
+    assert_eq!(rt; restarted, Ok(Turned::Did(Answer::Fine)));
+    for each in [t, u] {
+        let (_, last) = seen(stage, each, answer);
+        assert!(rt; last == Some(Entry::Restarted(false)));
+    }
+    Ok(())
+}
+
+/// The same where the run begins so.
+fn waits_from<N: Run, D: Disk + Drop, R: Wait + Abort>(start: Start<D, R>) -> Result<(), Fail>
+    requires objects { N.objects ≡ 0 }
+    requires begins { MayBegin N.script N.honest N.faults D.honest D.faults start.script start.log }
+{
+    let stage = Stage::<N, D, R>::open(start)?;
+    waits_and_restarts(&stage)
+}
+
+#[test]
+fn a_call_that_waits_is_answered_and_a_restart_is_heard(rt: HostRuntime) -> Result<(), Fail> {
+    waits_from::<Brand, SureDisk, _>(sure_start(&rt, rt.alloc(), WAITS)?)
 }
 
 /// How many transactions the large run has.
@@ -149,13 +218,11 @@ fn all_entered<N: Run, D: Disk + Drop, R: Wait>(stage: &Stage<N, D, R>) -> Resul
 }
 
 /// Runs the large script on one thread, and then looks at each board.
-fn ran<N: Run, D: Disk + Drop, R: Wait + Abort>(start: Start<D, R>) -> Result<(), Fail>
-    requires objects { N.objects ≡ 0 }
-    requires begins { MayBegin N.script N.honest N.faults D.honest D.faults start.script start.log }
+fn ran<N: Run, D: Disk + Drop, R: Wait + Abort>(stage: &Stage<N, D, R>) -> Result<(), Fail>
+    requires { N.objects ≡ 0 }
 {
-    let stage = Stage::<N, D, R>::open(start)?;
     let rt = stage.rt;
-    assert_eq!(rt; all_entered(&stage), Ok(640));
+    assert_eq!(rt; all_entered(stage), Ok(640));
     for k in 1..=MANY {
         let t = TxNo::new(k).ok_or("no transaction")?;
         assert_eq!(rt; stage.helped(&OpenGate, t), Ok(()), "at transaction {k}");
@@ -169,9 +236,18 @@ fn ran<N: Run, D: Disk + Drop, R: Wait + Abort>(start: Start<D, R>) -> Result<()
     Ok(())
 }
 
+/// The large run where it begins so.
+fn ran_from<N: Run, D: Disk + Drop, R: Wait + Abort>(start: Start<D, R>) -> Result<(), Fail>
+    requires objects { N.objects ≡ 0 }
+    requires begins { MayBegin N.script N.honest N.faults D.honest D.faults start.script start.log }
+{
+    let stage = Stage::<N, D, R>::open(start)?;
+    ran(&stage)
+}
+
 #[test]
 fn a_large_run_on_one_thread_ties(rt: HostRuntime) -> Result<(), Fail> {
     let start = sure_start(&rt, rt.alloc(), large(rt.alloc())?.as_bytes())?;
     assert_eq!(rt; start.script.lines().len(), 641);
-    ran::<Brand, SureDisk, _>(start)
+    ran_from::<Brand, SureDisk, _>(start)
 }
