@@ -99,6 +99,9 @@ each-volatile p xs = each_past_item volatiles p (some_by_entry enlisted_of (λ x
 pub has-volatile : (p : EnlNo × Class → Bool) (xs : List Entry) → has p (volatiles (past_of xs)) ≡ has (λ x. has p (volatiles (x ∷ []))) xs
 has-volatile p xs = has_past_item volatiles p (some_by_entry enlisted_of (λ x. is_volatile x.1)) xs
 
+pub has-durable : (p : EnlNo × Class → Bool) (xs : List Entry) → has p (durables (past_of xs)) ≡ has (λ x. has p (durables (x ∷ []))) xs
+has-durable p xs = has_past_item durables p (some_by_entry enlisted_of (λ x. not (is_volatile x.1))) xs
+
 pub each-durable : (p : EnlNo × Class → Bool) (xs : List Entry) → each p (durables (past_of xs)) ≡ each (λ x. each p (durables (x ∷ []))) xs
 each-durable p xs = each_past_item durables p (some_by_entry enlisted_of (λ x. not (is_volatile x.1))) xs
 
@@ -108,12 +111,12 @@ each-voter p h = elim (has is_promoted h) as (λ b. each p (cond b (volatiles h 
 
 -- who the owner is, where it is known which durable was enlisted last
 owner_of : (h : List Entry) (x z : EnlNo × Class) (zs : List (EnlNo × Class)) → z ≡ x
-    → owner_committed h (z ∷ zs) ≡ (each (λ y. x.0.value == y.0.value) (z ∷ zs) && can_own x.1 && has (is_hand x.0.value) h && has (is_owner x.0.value Committed) h)
-owner_of h x z zs e = subst (λ (w : EnlNo × Class). owner_committed h (z ∷ zs) ≡ (each (λ y. w.0.value == y.0.value) (z ∷ zs) && can_own w.1 && has (is_hand w.0.value) h && has (is_owner w.0.value Committed) h)) e (rw (eq-eqb z.0.value z.0.value refl) refl)
+    → owner_committed h (z ∷ zs) ≡ (each (λ y. x.0.value == y.0.value) (z ∷ zs) && has (λ y. can_own y.1) (z ∷ zs) && has (is_hand x.0.value) h && has (is_owner x.0.value Committed) h)
+owner_of h x z zs e = subst (λ (w : EnlNo × Class). owner_committed h (z ∷ zs) ≡ (each (λ y. w.0.value == y.0.value) (z ∷ zs) && has (λ y. can_own y.1) (z ∷ zs) && has (is_hand w.0.value) h && has (is_owner w.0.value Committed) h)) e (rw (eq-eqb z.0.value z.0.value refl) refl)
 
 -- the one durable that is in question, by the one that was enlisted last
 pub owner-first : (h : List Entry) (ds : List (EnlNo × Class)) (x : EnlNo × Class) → slice_get ds 0 ≡ Some x
-    → owner_committed h ds ≡ (each (λ y. x.0.value == y.0.value) ds && can_own x.1 && has (is_hand x.0.value) h && has (is_owner x.0.value Committed) h)
+    → owner_committed h ds ≡ (each (λ y. x.0.value == y.0.value) ds && has (λ y. can_own y.1) ds && has (is_hand x.0.value) h && has (is_owner x.0.value Committed) h)
 owner-first h [] x e = absurd cc
 owner-first h (z ∷ zs) x e = owner_of h x z zs cc
 
@@ -121,4 +124,4 @@ pub no_owner : (h : List Entry) (ds : List (EnlNo × Class)) → slice_get ds 0 
 no_owner h [] e = refl
 no_owner h (z ∷ zs) e = absurd cc
 
-pub ruleset reading = (has-past, each-clone, has-clone, has-handed, each-volatile, has-volatile, each-durable, each-voter)
+pub ruleset reading = (has-past, each-clone, has-clone, has-handed, each-volatile, has-volatile, has-durable, each-durable, each-voter)

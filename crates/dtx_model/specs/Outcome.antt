@@ -63,10 +63,10 @@ can_own DurableSingle = true
 can_own Promotable = true
 can_own _ = false
 
--- the durables and promotables are this one enlistment, it can own the commit, was handed it and answered committed
+-- the durables and promotables are this one enlistment, which can own the commit by some class that it was enlisted in; it was handed the commit, and answered committed
 abbrev pub owner_committed : List Entry → List (EnlNo × Class) → Bool
 owner_committed h [] = false
-owner_committed h (x ∷ xs) = each (λ y. x.0.value == y.0.value) xs && can_own x.1 && has (is_hand x.0.value) h && has (is_owner x.0.value Committed) h
+owner_committed h (x ∷ xs) = each (λ y. x.0.value == y.0.value) xs && has (λ y. can_own y.1) (x ∷ xs) && has (is_hand x.0.value) h && has (is_owner x.0.value Committed) h
 
 -- evidence by the owner, where nothing was promoted
 unfoldable pub by_owner : List Entry → Bool

@@ -126,13 +126,31 @@ fn is_only_durable(h: &[Entry], e: EnlNo) -> bool
     h.iter().all(|x| is_no_other_durable(e, x))
 }
 
-/// Whether e is the only durable or promotable, can own the commit by its class, was handed it and answered committed.
+/// Whether the entry enlists in a class that can own the commit.
 #[tactic(auto, using(crate::proofs::Reading::reading))]
-fn is_owner_committed(h: &[Entry], e: EnlNo, c: Class) -> bool
-    ensures { result ≡ (each (λ y. e.value == y.0.value) (durables (past_of h.now)) && can_own c && has (is_hand e.value) (past_of h.now) && has (is_owner e.value Committed) (past_of h.now)) }
+fn is_owner_class_given(x: &Entry) -> bool
+    ensures { result ≡ has (λ y. can_own y.1) (durables (x.now ∷ [])) }
+{
+    matches!(
+        *x,
+        Entry::Enlisted(_, Class::DurableSingle | Class::Promotable)
+    )
+}
+
+/// Whether somebody was enlisted in a class that can own the commit.
+fn has_owner_class(h: &[Entry]) -> bool
+    ensures { result ≡ has (λ x. has (λ y. can_own y.1) (durables (x ∷ []))) h.now }
+{
+    h.iter().any(is_owner_class_given)
+}
+
+/// Whether e is the only durable or promotable, can own the commit by one of its classes, was handed it and answered committed.
+#[tactic(auto, using(crate::proofs::Reading::reading))]
+fn is_owner_committed(h: &[Entry], e: EnlNo) -> bool
+    ensures { result ≡ (each (λ y. e.value == y.0.value) (durables (past_of h.now)) && has (λ y. can_own y.1) (durables (past_of h.now)) && has (is_hand e.value) (past_of h.now) && has (is_owner e.value Committed) (past_of h.now)) }
 {
     is_only_durable(h, e)
-        && matches!(c, Class::DurableSingle | Class::Promotable)
+        && has_owner_class(h)
         && has_hand(h, e)
         && has_owner(h, e, Outcome::Committed)
 }
@@ -144,7 +162,7 @@ fn has_owner_committed(h: &[Entry]) -> bool
 {
     match newest_durable(h) {
         None => false,
-        Some((e, c)) => is_owner_committed(h, e, c),
+        Some((e, _)) => is_owner_committed(h, e),
     }
 }
 

@@ -102,10 +102,10 @@ drop_no false b k = k
 owner_back : (e : EnlNo) (h : List Entry) (ds : List (EnlNo × Class)) → owner_committed (OwnerAnswered e Aborted ∷ h) ds ≡ true → owner_committed h ds ≡ true
 owner_back e h [] t = t
 owner_back e h (x ∷ xs) t =
-    and_both (each (λ y. x.0.value == y.0.value) xs && can_own x.1 && has (is_hand x.0.value) h) (has (is_owner x.0.value Committed) h)
-    (and_left (each (λ y. x.0.value == y.0.value) xs && can_own x.1 && has (is_hand x.0.value) h) (((x.0.value == e.value) && false) || has (is_owner x.0.value Committed) h) t)
+    and_both (each (λ y. x.0.value == y.0.value) xs && has (λ y. can_own y.1) (x ∷ xs) && has (is_hand x.0.value) h) (has (is_owner x.0.value Committed) h)
+    (and_left (each (λ y. x.0.value == y.0.value) xs && has (λ y. can_own y.1) (x ∷ xs) && has (is_hand x.0.value) h) (((x.0.value == e.value) && false) || has (is_owner x.0.value Committed) h) t)
     (drop_no (x.0.value == e.value) (has (is_owner x.0.value Committed) h)
-    (and_right (each (λ y. x.0.value == y.0.value) xs && can_own x.1 && has (is_hand x.0.value) h) (((x.0.value == e.value) && false) || has (is_owner x.0.value Committed) h) t))
+    (and_right (each (λ y. x.0.value == y.0.value) xs && has (λ y. can_own y.1) (x ∷ xs) && has (is_hand x.0.value) h) (((x.0.value == e.value) && false) || has (is_owner x.0.value Committed) h) t))
 
 owner_swap : (a s p m o q l : Bool) → (o ≡ true → q ≡ true) → (a && ((s && not p && m) || (not p && o) || (p && l))) ≡ true → (a && ((s && not p && m) || (not p && q) || (p && l))) ≡ true
 owner_swap a s p m true q l f t = let same : q ≡ true = f refl in rw same t

@@ -38,7 +38,7 @@ pub owner_handed : (h : List Entry) (ds : List (EnlNo × Class)) → owner_commi
 owner_handed h [] t = absurd cc
 owner_handed h (x ∷ xs) t =
     has_more (is_hand x.0.value) is_any_hand (hand_any x.0.value) h
-    (third_of_four (each (λ y. x.0.value == y.0.value) xs) (can_own x.1) (has (is_hand x.0.value) h) (has (is_owner x.0.value Committed) h) t)
+    (third_of_four (each (λ y. x.0.value == y.0.value) xs) (has (λ y. can_own y.1) (x ∷ xs)) (has (is_hand x.0.value) h) (has (is_owner x.0.value Committed) h) t)
 
 -- evidence stands only where it is sealed
 pub sealed_if_evident : (h : List Entry) → Keeps h → evidence h ≡ true → has is_sealed h ≡ true

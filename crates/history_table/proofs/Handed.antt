@@ -47,7 +47,7 @@ owner_alone a s p l h e [] b q o k = absurd cc
 owner_alone a s p l h e (x ∷ []) b q o k =
     let same : e ≡ x.0.value = eqb-true e x.0.value (and_left (e == x.0.value) (can_own x.1) o) in
     let hand : has (is_hand x.0.value) h ≡ true = subst (λ n. has (is_hand n) h ≡ true) same k in
-    step a s p l (can_own x.1) (has (is_hand x.0.value) h) (has (is_owner x.0.value Committed) h) b q (and_right (e == x.0.value) (can_own x.1) o) hand
+    step a s p l (can_own x.1 || false) (has (is_hand x.0.value) h) (has (is_owner x.0.value Committed) h) b q (or_left (can_own x.1) false (and_right (e == x.0.value) (can_own x.1) o)) hand
     ∙ ap (λ n. has (is_owner n Committed) h) (sym same)
   where
     step : (a s p l c k o : Bool) → a ≡ true → p ≡ false → c ≡ true → k ≡ true → (a && ((s && not p && false) || (not p && (true && c && k && o)) || (p && l))) ≡ o

@@ -129,7 +129,7 @@ owner_answered : (h : List Entry) (ds : List (EnlNo × Class)) → owner_committ
 owner_answered h [] t = absurd cc
 owner_answered h (x ∷ xs) t =
     has_more (is_owner x.0.value Committed) is_answer (λ y. any_answer x.0.value y) h
-    (and_right (each (λ y. x.0.value == y.0.value) xs && can_own x.1 && has (is_hand x.0.value) h) (has (is_owner x.0.value Committed) h) t)
+    (and_right (each (λ y. x.0.value == y.0.value) xs && has (λ y. can_own y.1) (x ∷ xs) && has (is_hand x.0.value) h) (has (is_owner x.0.value Committed) h) t)
   where
     any_answer : (e : ℕ) (y : Entry) → is_owner e Committed y ≡ true → is_answer y ≡ true
     any_answer e (OwnerAnswered f p) k = refl

@@ -112,9 +112,9 @@ owner_answer e o _ k = k
 pub uncommitted : (h : List Entry) (ds : List (EnlNo × Class)) → has is_answer h ≡ false → owner_committed h ds ≡ false
 uncommitted h [] u = refl
 uncommitted h (x ∷ xs) u =
-    ap (λ b. each (λ y. x.0.value == y.0.value) xs && can_own x.1 && has (is_hand x.0.value) h && b)
+    ap (λ b. each (λ y. x.0.value == y.0.value) xs && has (λ y. can_own y.1) (x ∷ xs) && has (is_hand x.0.value) h && b)
     (has_less (is_owner x.0.value Committed) is_answer (owner_answer x.0.value Committed) h u)
-    ∙ and_never (each (λ y. x.0.value == y.0.value) xs && can_own x.1 && has (is_hand x.0.value) h)
+    ∙ and_never (each (λ y. x.0.value == y.0.value) xs && has (λ y. can_own y.1) (x ∷ xs) && has (is_hand x.0.value) h)
 
 -- where nothing is promoted and no owner committed, evidence is by the seal
 pub seal_alone : (a s p l e o : Bool) → p ≡ false → o ≡ false → (a && ((s && not p && e) || (not p && o) || (p && l))) ≡ (a && (s && e))

@@ -120,6 +120,21 @@ pub owner_committed_it : just_in (handed_e2 ++ OwnerAnswered e2 Committed ∷ De
 unfolding justified may_tell evidence ready by_seal by_owner by_log
 owner_committed_it = refl
 
+-- it was enlisted again, in a class that couldn't own the commit: it is enough that some of its classes can
+pub owner_by_either_class : just_in (Began 600000 ∷ Enlisted e2 DurableSingle ∷ Enlisted e2 DurableTwo ∷ CommitAsked ∷ Sealed ∷ Handed e2 ∷ OwnerAnswered e2 Committed ∷ Told Client Committed ∷ []) ≡ true
+unfolding justified may_tell evidence ready by_seal by_owner by_log
+owner_by_either_class = refl
+
+-- whose class never could is no owner, whatever it answers
+pub no_owner_by_class : just_in (Began 600000 ∷ Enlisted e2 DurableTwo ∷ Enlisted e2 DurableTwo ∷ CommitAsked ∷ Sealed ∷ Handed e2 ∷ OwnerAnswered e2 Committed ∷ Told Client Committed ∷ []) ≡ false
+unfolding justified may_tell evidence ready by_seal by_owner by_log
+no_owner_by_class = refl
+
+-- and where another durable is enlisted, nobody owns the commit
+pub two_durables_no_owner : just_in (Began 600000 ∷ Enlisted e2 DurableSingle ∷ Enlisted e1 DurableTwo ∷ CommitAsked ∷ Sealed ∷ Handed e2 ∷ OwnerAnswered e2 Committed ∷ Told Client Committed ∷ []) ≡ false
+unfolding justified may_tell evidence ready by_seal by_owner by_log
+two_durables_no_owner = refl
+
 -- a timeout after the handing doesn't justify an abort
 pub timeout_behind_handing : just_in (handed_e2 ++ TimedOut ∷ Told Client Aborted ∷ []) ≡ false
 unfolding justified may_tell evidence ready by_seal by_owner by_log vetoed

@@ -7,4 +7,4 @@ use Rattle.dtx_model.proofs.evidence.has_owner_committed.Goals as goal
 pub returns-in-Some : goal.returns-in-Some
 returns-in-Some c =
     let h = past_of c.args.h.now in
-    c.is_owner_committed.ensures ∙ sym (owner-first h (durables h) (c.in-Some.e, c.in-Some.c) (sym c.newest_durable.ensures ∙ c.in-Some.is))
+    c.is_owner_committed.ensures ∙ sym (owner-first h (durables h) (c.in-Some.e, c.in-Some.field-0-1) (sym c.newest_durable.ensures ∙ c.in-Some.is))
