@@ -93,6 +93,12 @@ module _ (b : List ℕ) (image : List ℕ → Type 0) (ss : Held) (agrees : Agre
   log_by_test x true rs c is has = log_with x c has ∙ ap (λ (l : List CommitRecord). Ok l) is
   log_by_test x false rs c is has = log_same c has
 
+  -- the same, where the test says that the slots are as before
+  pub log_unless_test : (x : Option CommitRecord) (test : Bool) (rs : List CommitRecord) (c : List ℕ) → open_records (set ss k x) ≡ rs → HasSlots b (cond test (slots_of b) (set (slots_of b) k (formed x))) c
+      → log_has c ≡ Ok (cond test (open_records ss) rs)
+  log_unless_test x true rs c is has = log_same c has
+  log_unless_test x false rs c is has = log_with x c has ∙ ap (λ (l : List CommitRecord). Ok l) is
+
 -- a log as before or after is a log
 pub either_whole : (x : Result (List CommitRecord) ℕ) (a b : List CommitRecord) → (x ≡ Ok a) ⊎ (x ≡ Ok b) → is_ok x ≡ true
 either_whole x a b (inl e) = ap is_ok e

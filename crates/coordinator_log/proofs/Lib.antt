@@ -9,3 +9,4 @@ mod Loops
 mod Again
 mod Stops
 mod Results
+mod Wishes

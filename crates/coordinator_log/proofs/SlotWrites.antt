@@ -108,7 +108,7 @@ gate_kept k b c e =
     ∙ get_or-take (513 + 512 * k) b (512 + 512 * k) 0 (omega arith) ∙ sym (gate_of k b)
 
 -- a slot that is set to what it holds changes nothing
-set_same : (k : ℕ) (b : List ℕ) (s : Slot) → get_or (slots_of b) k (Err 0) ≡ s → set (slots_of b) k s ≡ slots_of b
+pub set_same : (k : ℕ) (b : List ℕ) (s : Slot) → get_or (slots_of b) k (Err 0) ≡ s → set (slots_of b) k s ≡ slots_of b
 set_same k b s e = ap (set (slots_of b) k) (sym e) ∙ set-get_or (slots_of b) k (Err 0)
 
 -- behind a closed gate any bytes may stand
@@ -156,7 +156,7 @@ pub same_bytes : (b c : List ℕ) → c ≡ b → HasSlots b (slots_of b) c
 same_bytes b c e = record { same_head = ap (take 512) e; slots = ap slots_of e }
 
 -- two steps
-then_same : (b b1 c : List ℕ) (s : List Slot) → HasSlots b (slots_of b) b1 → HasSlots b1 s c → HasSlots b s c
+pub then_same : (b b1 c : List ℕ) (s : List Slot) → HasSlots b (slots_of b) b1 → HasSlots b1 s c → HasSlots b s c
 then_same b b1 c s x y = record { same_head = y.same_head ∙ x.same_head; slots = y.slots }
 
 -- what has these slots has them along an equation
@@ -188,7 +188,7 @@ written_behind k at b b1 bytes r lt a closed room is spelled long again =
     }
 
 -- a record's bytes that are written behind a gate change no more than these
-torn_at : (k at : ℕ) (b c bytes : List ℕ) → k < 1024 → at ≡ 513 + 512 * k → 524800 ≤ length b → length bytes ≡ 511 → c ≡ overwritten b at bytes → IsTorn (513 + 512 * k) 511 b c
+pub torn_at : (k at : ℕ) (b c bytes : List ℕ) → k < 1024 → at ≡ 513 + 512 * k → 524800 ≤ length b → length bytes ≡ 511 → c ≡ overwritten b at bytes → IsTorn (513 + 512 * k) 511 b c
 torn_at k at b c bytes lt a room long is = IsTorn-overwritten b (513 + 512 * k) 511 bytes c (is ∙ ap (λ (j : ℕ). overwritten b j bytes) a) long (omega arith)
 
 -- with each image, a stop at the write of a record leaves the slots as they were
@@ -246,14 +246,18 @@ clear_stage k at b old new lt a open_at only follows c left =
       | inr yes_gate ↦ inl (record { same_head = yes_gate.same_head; slots = yes_gate.slots ∙ set_same k b (Ok (Some r)) open_at.1 })
     ]
 
+-- once any byte but 1 is the gate the slot holds none
+pub shut_stage : (gate k at : ℕ) (b c : List ℕ) → (gate ≡ 1 → ⊥) → k < 1024 → at ≡ 512 + 512 * k → c ≡ overwritten b at (gate ∷ []) → at + 1 ≤ length b → HasSlots b (set (slots_of b) k (Ok None)) c
+shut_stage gate k at b c not lt a written_is room =
+    let torn = subst (λ (j : ℕ). IsTorn j 1 b c) a (IsTorn-overwritten b at 1 (gate ∷ []) c written_is refl room) in
+    let here : length (take at b) ≡ at = omega (arith, length-take at b) in
+    let is_gate : get_or (slot k c) 0 0 ≡ gate = gate_of k c ∙ ap (λ (j : ℕ). get_or c j 0) (sym a) ∙ ap (λ (x : List ℕ). get_or x at 0) (written_is ∙ append_assoc (take at b) (gate ∷ []) (drop (at + 1) b)) ∙ get_or_at (take at b) gate (drop (at + 1) b) 0 at here in
+    let has = only_slot k b c lt torn.before (drop_less (512 + 512 * k + 1) (1024 + 512 * k) c b (omega arith) torn.after) in
+    record { same_head = has.same_head; slots = has.slots ∙ ap (set (slots_of b) k) (closed_slot (slot k c) (λ is. not (sym is_gate ∙ is))) }
+
 -- once the gate is closed the slot holds none
 pub cleared_stage : (k at : ℕ) (b c : List ℕ) → k < 1024 → at ≡ 512 + 512 * k → c ≡ overwritten b at (0 ∷ []) → at + 1 ≤ length b → HasSlots b (set (slots_of b) k (Ok None)) c
-cleared_stage k at b c lt a written_is room =
-    let torn = subst (λ (j : ℕ). IsTorn j 1 b c) a (IsTorn-overwritten b at 1 (0 ∷ []) c written_is refl room) in
-    let here : length (take at b) ≡ at = omega (arith, length-take at b) in
-    let zero_gate : get_or (slot k c) 0 0 ≡ 0 = gate_of k c ∙ ap (λ (j : ℕ). get_or c j 0) (sym a) ∙ ap (λ (x : List ℕ). get_or x at 0) (written_is ∙ append_assoc (take at b) (0 ∷ []) (drop (at + 1) b)) ∙ get_or_at (take at b) 0 (drop (at + 1) b) 0 at here in
-    let has = only_slot k b c lt torn.before (drop_less (512 + 512 * k + 1) (1024 + 512 * k) c b (omega arith) torn.after) in
-    record { same_head = has.same_head; slots = has.slots ∙ ap (set (slots_of b) k) (closed_slot (slot k c) (λ is. omega arith)) }
+cleared_stage k at b c lt a written_is room = shut_stage 0 k at b c (λ is. omega arith) lt a written_is room
 
 -- a log has 1,024 slots
 pub length-slots_of : (b : List ℕ) → length (slots_of b) ≡ 1024

@@ -1,5 +1,5 @@
 -- The armed stop of a log, and the device calls that it counts.
-use Rattle.std.specs.Prelude.{◌≡◌, ◌≤◌, ◌+◌, ◌-◌, ℕ, nat_lt, nat_le, Bool, List, Option, Some, None, Result, OnErr, OnOk, if◌then◌else◌}
+use Rattle.std.specs.Prelude.{◌≡◌, ◌≤◌, ◌+◌, ◌-◌, ℕ, nat_lt, nat_le, Bool, true, false, List, Option, Some, None, Result, OnErr, OnOk, if◌then◌else◌}
 use Rattle.dtx_values.specs.declared.Image.{Image}
 use Rattle.dtx_values.specs.declared.Image.TheVariants.{Lose, Keep, Torn}
 use Rattle.outside.specs.Disk.{overwritten}
@@ -50,3 +50,15 @@ abbrev pub at_write : Image → List ℕ → ℕ → List ℕ → List ℕ
 at_write Lose old at bytes = old
 at_write Keep old at bytes = overwritten old at bytes
 at_write Torn old at bytes = overwritten old at bytes
+
+-- whether the record of an append is found after a stop that so many of its calls passed: with Keep at its third and fourth call
+abbrev pub is_found_after_append : Image → ℕ → Bool
+is_found_after_append Lose passes = false
+is_found_after_append Keep passes = nat_le 2 passes
+is_found_after_append Torn passes = false
+
+-- whether the record of a free is found after a stop at either of its calls: with Lose alone
+abbrev pub is_found_after_free : Image → Bool
+is_found_after_free Lose = true
+is_found_after_free Keep = false
+is_found_after_free Torn = false

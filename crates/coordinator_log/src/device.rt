@@ -2,11 +2,12 @@
 ghost use Rattle.std.specs.Prelude.{◌≡◌, ◌⊎◌, ◌≤◌, ◌<◌, ◌+◌, List, ℕ, length, set, true, Some, None, Ok, OnErr, OnOk, IsTrue, if◌then◌else◌};
 ghost use Rattle.outside.specs.Disk.{AreWithin, Follows, IsOnly, IsTorn, overwritten};
 ghost use Rattle.outside.specs.Faults.{Rose};
+ghost use Rattle.outside.specs.Images.{AreSame, after_sync, after_write, wished};
 ghost use Rattle.dtx_values.specs.declared.Image.{Image};
 ghost use Rattle.dtx_model.specs.Log.{record_of, slots_of};
 ghost use Rattle.dtx_values.specs.RecoveryInfo.{is_id};
 ghost use Rattle.coordinator_log.specs.Slots.{HasSlots, IsClosed, IsEither, IsOpen};
-ghost use Rattle.coordinator_log.specs.Stop.{BreaksOff, Counts, after_calls, at_write, is_done, stop_in};
+ghost use Rattle.coordinator_log.specs.Stop.{BreaksOff, Counts, after_calls, at_write, is_done, is_found_after_append, is_found_after_free, stop_in};
 ghost use Rattle.coordinator_log.specs.declared.stop.ArmedStop.{ArmedStop};
 
 use crate::law::records_are_read_again;
@@ -30,6 +31,8 @@ impl From<Failed> for Broken {
 fn write_before<D: Disk>(disk: &mut D, image: Image, at: u64, from: &[u8])
     requires { at + length from.now ≤ D.size disk.old }
     ensures done { IsTrue D.honest → Rose (D.faults disk.old) (D.faults disk.new) ⊎ (D.seen disk.new ≡ at_write image (D.seen disk.old) at from.now) }
+    ensures ready { IsTrue D.obeys → Rose (D.faults disk.old) (D.faults disk.new)
+        ⊎ (wished image (D.images disk.new) ≡ wished image (after_write at from.now (D.images disk.old))) }
     ensures images { IsTrue D.honest → Follows (IsTorn at (length from.now)) (D.image disk.old) (D.image disk.new) }
     ensures size { D.size disk.new ≡ D.size disk.old }
     ensures grows { D.faults disk.old ≤ D.faults disk.new }
@@ -47,6 +50,7 @@ fn write_before<D: Disk>(disk: &mut D, image: Image, at: u64, from: &[u8])
 // What is synced before the crash of a stop at a sync.
 fn sync_before<D: Disk>(disk: &mut D, image: Image)
     ensures done { IsTrue D.honest → image ≡ Image.Keep → Rose (D.faults disk.old) (D.faults disk.new) ⊎ IsOnly (D.seen disk.old) (D.image disk.new) }
+    ensures ready { IsTrue D.obeys → Rose (D.faults disk.old) (D.faults disk.new) ⊎ (wished image (D.images disk.new) ≡ wished image (D.images disk.old)) }
     ensures seen { IsTrue D.honest → D.seen disk.new ≡ D.seen disk.old }
     ensures images { IsTrue D.honest → AreWithin (D.image disk.old) (D.image disk.new) }
     ensures size { D.size disk.new ≡ D.size disk.old }
@@ -74,6 +78,9 @@ fn write<D: Disk>(
     ensures counts { Counts D.size D.faults disk.old disk.new armed.old armed.new result }
     ensures crashed { IsTrue D.honest → (image : Image) → stop_in 1 armed.old ≡ Some image → (d : D) × D.leaves image d (D.seen disk.new)
         × (Rose (D.faults disk.old) (D.faults disk.new) ⊎ (D.seen d ≡ at_write image (D.seen disk.old) at from.now)) }
+    ensures put { IsTrue D.obeys → OnOk result (D.images disk.new ≡ after_write at from.now (D.images disk.old)) }
+    ensures found { IsTrue D.obeys → (image : Image) → stop_in 1 armed.old ≡ Some image
+        → Rose (D.faults disk.old) (D.faults disk.new) ⊎ (D.seen disk.new ≡ wished image (after_write at from.now (D.images disk.old))) }
 {
     match reached(armed) {
         None => {
@@ -97,6 +104,9 @@ fn sync<D: Disk>(disk: &mut D, armed: &mut Option<ArmedStop>) -> Result<(), Brok
     ensures crashed { IsTrue D.honest → (image : Image) → stop_in 1 armed.old ≡ Some image
         → (d : D) × D.leaves image d (D.seen disk.new) × (D.seen d ≡ D.seen disk.old) }
     ensures kept { IsTrue D.honest → stop_in 1 armed.old ≡ Some Image.Keep → Rose (D.faults disk.old) (D.faults disk.new) ⊎ IsOnly (D.seen disk.old) (D.image disk.new) }
+    ensures synced { IsTrue D.obeys → OnOk result (D.images disk.new ≡ after_sync (D.images disk.old)) }
+    ensures found { IsTrue D.obeys → (image : Image) → stop_in 1 armed.old ≡ Some image
+        → Rose (D.faults disk.old) (D.faults disk.new) ⊎ (D.seen disk.new ≡ wished image (D.images disk.old)) }
 {
     match reached(armed) {
         None => {
@@ -142,6 +152,10 @@ pub fn store<D: Disk>(
     ensures kept { IsTrue D.honest → IsOnly (D.seen disk.old) (D.image disk.old) → IsClosed k (D.seen disk.old)
         → (s : ArmedStop) → armed.old ≡ Some s → armed.new ≡ None → s.passes ≡ 3 → s.image ≡ Image.Keep → Rose (D.faults disk.old) (D.faults disk.new)
         ⊎ ((c : List ℕ) → D.image disk.new c → HasSlots (D.seen disk.old) (set (slots_of (D.seen disk.old)) k (Ok (Some (record_of r.now)))) c) }
+    ensures synced { IsTrue D.obeys → OnOk result (AreSame (D.images disk.new)) }
+    ensures found { IsTrue D.obeys → AreSame (D.images disk.old) → IsClosed k (D.seen disk.old) → (s : ArmedStop) → armed.old ≡ Some s → armed.new ≡ None
+        → Rose (D.faults disk.old) (D.faults disk.new)
+        ⊎ HasSlots (D.seen disk.old) (if is_found_after_append s.image s.passes then set (slots_of (D.seen disk.old)) k (Ok (Some (record_of r.now))) else slots_of (D.seen disk.old)) (D.seen disk.new) }
 {
     // This does nothing when it runs. It brings in that what is written of a record is read as that record.
     records_are_read_again();
@@ -183,6 +197,10 @@ pub fn clear<D: Disk>(disk: &mut D, armed: &mut Option<ArmedStop>, k: usize) -> 
     ensures kept { IsTrue D.honest → IsOnly (D.seen disk.old) (D.image disk.old) → IsOpen k (D.seen disk.old)
         → (s : ArmedStop) → armed.old ≡ Some s → armed.new ≡ None → s.passes ≡ 1 → s.image ≡ Image.Keep → Rose (D.faults disk.old) (D.faults disk.new)
         ⊎ ((c : List ℕ) → D.image disk.new c → HasSlots (D.seen disk.old) (set (slots_of (D.seen disk.old)) k (Ok None)) c) }
+    ensures synced { IsTrue D.obeys → OnOk result (AreSame (D.images disk.new)) }
+    ensures found { IsTrue D.obeys → AreSame (D.images disk.old) → (s : ArmedStop) → armed.old ≡ Some s → armed.new ≡ None
+        → Rose (D.faults disk.old) (D.faults disk.new)
+        ⊎ HasSlots (D.seen disk.old) (if is_found_after_free s.image then slots_of (D.seen disk.old) else set (slots_of (D.seen disk.old)) k (Ok None)) (D.seen disk.new) }
 {
     let gate = slot_at(k);
     // One byte is enough: a record with a closed gate isn't looked at. Its bytes stay until the slot is used again.

@@ -2,6 +2,7 @@
 ghost use Rattle.std.specs.Prelude.{◌≡◌, ◌≤◌, ℕ, length, replicate, take, IfOk, OnErr, OnOk, None, Ok, IsTrue};
 ghost use Rattle.outside.specs.Disk.{IsOnly};
 ghost use Rattle.outside.specs.Faults.{Rose};
+ghost use Rattle.outside.specs.Images.{AreSame};
 ghost use Rattle.dtx_model.specs.Log.{head, slots_of};
 
 use crate::layout::{HEAD_BYTES, LETTERS, LOG_BYTES, SLOTS};
@@ -38,6 +39,7 @@ pub fn blank<D: Disk>(disk: &mut D, zeros: &[u8]) -> Result<(), Failed>
     ensures at_head { IsTrue D.honest → OnOk result (take HEAD_BYTES (D.seen disk.new) ≡ head) }
     ensures slots { IsTrue D.honest → OnOk result ((n : ℕ) → n ≡ SLOTS → slots_of (D.seen disk.new) ≡ replicate n (Ok None)) }
     ensures durable { IsTrue D.honest → OnOk result (IsOnly (D.seen disk.new) (D.image disk.new)) }
+    ensures synced { IsTrue D.obeys → OnOk result (AreSame (D.images disk.new)) }
     ensures cause { OnErr result (Rose (D.faults disk.old) (D.faults disk.new)) }
     ensures size { D.size disk.new ≡ D.size disk.old }
     ensures smooth { OnOk result (D.faults disk.new ≡ D.faults disk.old) }

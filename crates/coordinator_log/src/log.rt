@@ -4,11 +4,12 @@ ghost use Rattle.std.specs.List.{insert};
 ghost use Rattle.std.specs.Option.{option_map};
 ghost use Rattle.outside.specs.Disk.{AreWithin};
 ghost use Rattle.outside.specs.Faults.{Rose};
+ghost use Rattle.outside.specs.Images.{AreSame};
 ghost use Rattle.dtx_model.specs.Log.{first_of, log_has, record_of, without_first_of};
 ghost use Rattle.dtx_values.specs.RecoveryInfo.{is_id};
 ghost use Rattle.coordinator_log.specs.Crash.{AllHold, AllHoldEither, Appends, Frees, IsLeftOf, IsOpened, with_record};
 ghost use Rattle.coordinator_log.specs.Slots.{Agrees, lowest_closed, open_records};
-ghost use Rattle.coordinator_log.specs.Stop.{BreaksOff, after_calls, is_done, stop_in};
+ghost use Rattle.coordinator_log.specs.Stop.{BreaksOff, after_calls, is_done, is_found_after_append, is_found_after_free, stop_in};
 ghost use Rattle.coordinator_log.specs.declared.stop.ArmedStop.{ArmedStop};
 
 use crate::device::{clear, store};
@@ -45,7 +46,7 @@ impl<D: Disk> Model for Log<D> {
 
     ghost view = { λ l. record { disk = l.disk; slots = l.slots; is_up = l.up; life = l.life; armed = l.armed } };
 
-    ghost invariant = { λ l. IsKept D.honest (D.seen l.disk) (D.image l.disk) (D.size l.disk) l.slots l.up };
+    ghost invariant = { λ l. IsKept D.honest D.obeys (D.seen l.disk) (D.image l.disk) (D.images l.disk) (D.size l.disk) l.slots l.up };
 }
 
 impl<D: Disk> Log<D> {
@@ -123,6 +124,8 @@ impl<D: Disk> Log<D> {
     /// Whatever the call answers, a crash leaves the records as they were, or those with this one:
     /// [`crashes_leave_whole_records`](crate::crashes_leave_whole_records). The record's identifier is one; [`is_identifier`](crate::is_identifier) tests it.
     ///
+    /// Over a disk that obeys, what is found after a reached stop is told by the stop: with `Keep` at the third or the fourth of the four calls the record is there, and else it isn't.
+    ///
     /// # Errors
     ///
     /// - [`LogRefusal::Stopped`] exactly where the log is stopped or `life` isn't its life.
@@ -161,6 +164,9 @@ impl<D: Disk> Log<D> {
             (if is_done 3 s then with_record (record_of r.now) self.old.slots else open_records self.old.slots) self.new.disk }
         ensures kept { IsTrue D.honest → IsTrue self.old.is_up → (s : ArmedStop) → self.old.armed ≡ Some s → self.new.armed ≡ None → s.passes ≡ 3 → s.image ≡ Image.Keep
             → Rose (D.faults self.old.disk) (D.faults self.new.disk) ⊎ AllHold (D.image self.new.disk) (with_record (record_of r.now) self.old.slots) }
+        ensures found { IsTrue D.obeys → IsTrue self.old.is_up → (s : ArmedStop) → self.old.armed ≡ Some s → self.new.armed ≡ None
+            → Rose (D.faults self.old.disk) (D.faults self.new.disk)
+            ⊎ (log_has (D.seen self.new.disk) ≡ Ok (if is_found_after_append s.image s.passes then with_record (record_of r.now) self.old.slots else open_records self.old.slots)) }
         ensures smooth { OnOk result (D.faults self.new.disk ≡ D.faults self.old.disk) }
         ensures grows { D.faults self.old.disk ≤ D.faults self.new.disk }
         ensures life { self.new.life ≡ self.old.life }
@@ -180,6 +186,8 @@ impl<D: Disk> Log<D> {
 
     /// Frees the record of the lowest slot with this identifier: closes the gate and syncs. After that every image has the same records without it. Whatever the call answers, a
     /// crash leaves the records as they were, or those without this one: [`crashes_leave_whole_records`](crate::crashes_leave_whole_records).
+    ///
+    /// Over a disk that obeys, what is found after a reached stop is told by the stop: with `Lose`, at either of the two calls, the record is there, and else it isn't.
     ///
     /// # Errors
     ///
@@ -216,6 +224,9 @@ impl<D: Disk> Log<D> {
             (if is_done 1 s then without_first_of id (open_records self.old.slots) else open_records self.old.slots) self.new.disk }
         ensures kept { IsTrue D.honest → IsTrue self.old.is_up → (s : ArmedStop) → self.old.armed ≡ Some s → self.new.armed ≡ None → s.passes ≡ 1 → s.image ≡ Image.Keep
             → Rose (D.faults self.old.disk) (D.faults self.new.disk) ⊎ AllHold (D.image self.new.disk) (without_first_of id (open_records self.old.slots)) }
+        ensures found { IsTrue D.obeys → IsTrue self.old.is_up → (s : ArmedStop) → self.old.armed ≡ Some s → self.new.armed ≡ None
+            → Rose (D.faults self.old.disk) (D.faults self.new.disk)
+            ⊎ (log_has (D.seen self.new.disk) ≡ Ok (if is_found_after_free s.image then open_records self.old.slots else without_first_of id (open_records self.old.slots))) }
         ensures smooth { OnOk result (D.faults self.new.disk ≡ D.faults self.old.disk) }
         ensures grows { D.faults self.old.disk ≤ D.faults self.new.disk }
         ensures life { self.new.life ≡ self.old.life }
@@ -280,6 +291,14 @@ impl<D: Disk> Log<D> {
     }
 
     /// Arms a stop at the n-th write or sync of the appends and frees that come, n at least 1. A stop that was armed before is replaced.
+    ///
+    /// Of a record that wasn't there before the append, or was there before the free, this is found after a stop that was reached, over a disk that obeys and without a fault
+    /// (`found` of [`Log::append`] and [`Log::free`]):
+    ///
+    ///     stop at                       lose    keep    torn
+    ///     calls 1 and 2 of an append    none    none    none
+    ///     calls 3 and 4 of an append    none    found   none
+    ///     calls 1 and 2 of a free       found   none    none
     pub fn arm(&mut self, n: u8, image: Image)
         requires { 1 ≤ n }
         ensures { self.new ≡ record self.old { armed = Some (record { passes = n - 1; image = image }) } }
@@ -324,6 +343,7 @@ impl<D: Disk> Log<D> {
     // The log over a disk that has these slots, in its first life, with no stop armed.
     fn over(disk: D, slots: Slots) -> Log<D>
         requires agrees { IsTrue D.honest → Agrees (D.seen disk) (D.image disk) slots }
+        requires synced { IsTrue D.obeys → AreSame (D.images disk) }
         requires room { LOG_BYTES ≤ D.size disk }
         ensures { result ≡ record { disk = disk; slots = slots; is_up = true; life = 0; armed = None } }
     {

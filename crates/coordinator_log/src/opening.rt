@@ -56,6 +56,7 @@ pub fn read_all<D: Disk>(disk: &mut D, slots: &mut Slots) -> Result<(), LogRefus
     requires { LOG_BYTES ≤ D.size disk.old }
     ensures seen { IsTrue D.honest → D.seen disk.new ≡ D.seen disk.old }
     ensures images { IsTrue D.honest → AreWithin (D.image disk.old) (D.image disk.new) }
+    ensures same { IsTrue D.obeys → D.images disk.new ≡ D.images disk.old }
     ensures at_head { IsTrue D.honest → OnOk result (take HEAD_BYTES (D.seen disk.old) ≡ head) }
     ensures slots { IsTrue D.honest → OnOk result (slots_of (D.seen disk.old) ≡ map formed slots.new) }
     ensures bad { IsTrue D.honest → (p : ℕ) → IsErrOf result (LogRefusal.NotALog p) → log_has (D.seen disk.old) ≡ Err p }

@@ -2,7 +2,7 @@
 use Rattle.std.proofs.Common.{◌≡◌, inl, inr, ℕ, ◌+◌, ◌≤◌, List, ◌++◌, length, take, drop, refl, ap, ◌∙◌, arith, length-append, append_assoc}
 use Rattle.std.proofs.lemmas.List.{take_at, drop_at, length-take, length-drop}
 use Rattle.outside.specs.Disk.{IsTorn, Follows, overwritten}
-use Rattle.outside.specs.Memory.{Images, IsOneOf}
+use Rattle.outside.specs.Images.{Images, IsOneOf}
 
 -- what a Vec holds after a slice of all of it was written
 pub vec_written : (xs ys : List ℕ) (n : ℕ) → n ≡ length xs → length ys ≡ n → take n (ys ++ drop (length ys) xs) ≡ ys

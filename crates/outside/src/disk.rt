@@ -3,6 +3,7 @@ ghost use Rattle.std.specs.Prelude.{◌≡◌, ◌≤◌, ◌+◌, Bool, List, �
 ghost use Rattle.outside.specs.Faults.{Rose};
 ghost use Rattle.dtx_values.specs.declared.Image.{Image};
 ghost use Rattle.outside.specs.Disk.{AreWithin, Follows, IsOnly, IsTorn, overwritten};
+ghost use Rattle.outside.specs.Images.{Images, after_crash, after_sync, after_write};
 
 use crate::Failed;
 use dtx_values::Image;
@@ -13,7 +14,9 @@ use dtx_values::Image;
 /// after a crash, and the bytes outside these ranges stay. After a successful sync a crash leaves what a read gives. A write that failed may leave any bytes in its range, and
 /// a sync that failed makes nothing safe. As a call may fail at any place, a crash inside a call leaves no more than a fault of that call does.
 ///
-/// A disk that isn't honest tells nothing of content. Whether it is honest is said of its type, so no call changes it. The rules are a definition of this project.
+/// A disk that isn't honest tells nothing of content. Whether it is honest is said of its type, so no call changes it. A disk that obeys, which is said of its type too, is honest
+/// and does with a crash as it is wished: `Lose` undoes every write since the last sync, `Keep` keeps every write, and `Torn` has the byte 0xA5 at each place that was written since
+/// the last sync. The rules are a definition of this project.
 pub trait Disk {
     /// Whether it tells what it holds.
     ghost honest: { Bool };
@@ -29,6 +32,12 @@ pub trait Disk {
 
     /// A crash with this wish may leave these bytes.
     ghost leaves: { Image → Self → List ℕ → Type 0 };
+
+    /// Whether a crash leaves exactly the image that is wished, of the three that it has.
+    ghost obeys: { Bool };
+
+    /// The three, where it obeys: what a read gives, what was synced, and what is torn where it was written since.
+    ghost images: { Self → Images };
 
     /// How many calls met a fault, where the count stays at the last value of a `u64`.
     ghost faults: { Self → ℕ };
@@ -48,6 +57,7 @@ pub trait Disk {
         ensures bytes { IsTrue honest → OnOk result (into.new ≡ take (length into.old) (drop at (seen self.old))) }
         ensures seen { IsTrue honest → seen self.new ≡ seen self.old }
         ensures images { IsTrue honest → AreWithin (image self.old) (image self.new) }
+        ensures same { IsTrue obeys → images self.new ≡ images self.old }
         ensures size { size self.new ≡ size self.old }
         ensures smooth { OnOk result (faults self.new ≡ faults self.old) }
         ensures grows { faults self.old ≤ faults self.new }
@@ -64,6 +74,7 @@ pub trait Disk {
         ensures written { IsTrue honest → OnOk result (seen self.new ≡ overwritten (seen self.old) at from.now) }
         ensures torn { IsTrue honest → OnErr result (IsTorn at (length from.now) (seen self.old) (seen self.new)) }
         ensures images { IsTrue honest → Follows (IsTorn at (length from.now)) (image self.old) (image self.new) }
+        ensures put { IsTrue obeys → OnOk result (images self.new ≡ after_write at from.now (images self.old)) }
         ensures size { size self.new ≡ size self.old }
         ensures smooth { OnOk result (faults self.new ≡ faults self.old) }
         ensures grows { faults self.old ≤ faults self.new }
@@ -78,6 +89,7 @@ pub trait Disk {
         ensures durable { IsTrue honest → OnOk result (IsOnly (seen self.old) (image self.new)) }
         ensures seen { IsTrue honest → seen self.new ≡ seen self.old }
         ensures images { IsTrue honest → AreWithin (image self.old) (image self.new) }
+        ensures synced { IsTrue obeys → OnOk result (images self.new ≡ after_sync (images self.old)) }
         ensures size { size self.new ≡ size self.old }
         ensures smooth { OnOk result (faults self.new ≡ faults self.old) }
         ensures grows { faults self.old ≤ faults self.new }
@@ -89,6 +101,7 @@ pub trait Disk {
         ensures leaves { IsTrue honest → leaves wish self.old (seen self.new) }
         ensures seen { IsTrue honest → image self.old (seen self.new) }
         ensures images { IsTrue honest → AreWithin (image self.old) (image self.new) }
+        ensures wished { IsTrue obeys → images self.new ≡ after_crash wish (images self.old) }
         ensures size { size self.new ≡ size self.old }
         ensures count { faults self.new ≡ faults self.old };
 
@@ -100,4 +113,10 @@ pub trait Disk {
 
     /// Each image is as long as the device.
     ghost long: { (d : Self) (c : List ℕ) → IsTrue honest → image d c → length c ≡ size d };
+
+    /// A disk that obeys is honest.
+    ghost tells: { IsTrue obeys → IsTrue honest };
+
+    /// What a read gives is the first of its three images.
+    ghost kept: { (d : Self) → IsTrue obeys → seen d ≡ (images d).kept };
 }

@@ -1,5 +1,5 @@
 // A disk in a file of the system.
-ghost use Rattle.std.specs.Prelude.{◌≡◌, ◌≤◌, ◌+◌, [], length, true, false, IfOk, OnOk, OnErr, IsErr, IsTrue};
+ghost use Rattle.std.specs.Prelude.{◌≡◌, ◌≤◌, ◌+◌, [], length, refl, true, false, IfOk, OnOk, OnErr, IsErr, IsTrue};
 ghost use Rattle.outside.specs.Faults.{one_more};
 
 use crate::{Disk, Failed, Image, WriteError};
@@ -103,6 +103,10 @@ impl Disk for FileDisk {
 
     ghost leaves = { λ _ _ _. ⊥ };
 
+    ghost obeys = { false };
+
+    ghost images = { λ _. record { kept = []; synced = []; torn = [] } };
+
     ghost faults = { λ d. d.faults };
 
     fn len(&self) -> u64
@@ -175,6 +179,10 @@ impl Disk for FileDisk {
     ghost among = { λ wish d c h left. absurd left };
 
     ghost long = { λ d c h one. absurd one };
+
+    ghost tells = { λ o. o };
+
+    ghost kept = { λ d o. refl };
 }
 
 // Opens the file at a path, or makes it, takes its lock and syncs its folder.

@@ -2,7 +2,8 @@
 ghost use Rattle.std.specs.Prelude.{◌≡◌, ◌≤◌, ◌+◌, ◌↔◌, length, take, drop, replicate, refl, true, false, IfOk, OnOk, OnErr, IsErr};
 ghost use Rattle.std.proofs.Common.{inl};
 ghost use Rattle.outside.specs.Disk.{AreWithin, Follows, IsOnly, IsTorn};
-ghost use Rattle.outside.specs.Memory.{FailsNext, IsLeft, IsOneOf, after_crash, after_sync, after_write, counted};
+ghost use Rattle.outside.specs.Images.{IsLeft, IsOneOf, after_crash, after_sync, after_write};
+ghost use Rattle.outside.specs.Memory.{FailsNext, counted};
 
 use crate::plan::Plan;
 use crate::{Disk, Failed, Image, SureDisk};
@@ -63,6 +64,10 @@ impl Disk for MemDisk {
     ghost image = { λ d. IsOneOf d.images };
 
     ghost leaves = { λ wish d. IsLeft wish d.images };
+
+    ghost obeys = { true };
+
+    ghost images = { λ d. d.images };
 
     ghost faults = { λ d. d.calls.failed };
 
@@ -130,4 +135,8 @@ impl Disk for MemDisk {
     ghost among = { λ wish d c h left. left.1 };
 
     ghost long = { λ d c h one. one.long };
+
+    ghost tells = { λ o. o };
+
+    ghost kept = { λ d o. refl };
 }

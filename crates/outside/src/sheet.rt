@@ -1,7 +1,7 @@
 // Bytes of a fixed length, most of them zero.
 ghost use Rattle.std.specs.Prelude.{◌≡◌, ◌≤◌, ◌+◌, ◌-◌, ℕ, length, take, drop, replicate, vec_capacity, IfOk, IsTrue};
 ghost use Rattle.outside.specs.Disk.{overwritten};
-ghost use Rattle.outside.specs.Memory.{spoilt};
+ghost use Rattle.outside.specs.Images.{spoilt};
 ghost use Rattle.outside.specs.Sheet.{with_zeros};
 
 use std::alloc::{AllocError, Global};

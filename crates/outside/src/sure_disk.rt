@@ -2,7 +2,7 @@
 ghost use Rattle.std.specs.Prelude.{◌≡◌, ◌≤◌, ◌+◌, length, take, drop, replicate, refl, true, IfOk, IsOk};
 ghost use Rattle.std.proofs.Common.{inl};
 ghost use Rattle.outside.specs.Disk.{AreWithin, Follows, IsOnly, IsTorn};
-ghost use Rattle.outside.specs.Memory.{IsLeft, IsOneOf, after_crash, after_sync, after_write};
+ghost use Rattle.outside.specs.Images.{IsLeft, IsOneOf, after_crash, after_sync, after_write};
 
 use crate::sheet::Sheet;
 use crate::{Disk, Failed, Image};
@@ -35,7 +35,7 @@ pub struct SureDisk {
 impl Model for SureDisk {
     ghost use Rattle.std.specs.Prelude.{◌≡◌, ◌≤◌, ◌+◌, length};
     ghost use Rattle.outside.specs.Disk.{overwritten};
-    ghost use Rattle.outside.specs.Memory.{Images, spoilt};
+    ghost use Rattle.outside.specs.Images.{Images, spoilt};
 
     ghost Value = { Images };
 
@@ -77,6 +77,10 @@ impl Disk for SureDisk {
     ghost image = { IsOneOf };
 
     ghost leaves = { IsLeft };
+
+    ghost obeys = { true };
+
+    ghost images = { λ d. d };
 
     ghost faults = { λ _. 0 };
 
@@ -146,4 +150,8 @@ impl Disk for SureDisk {
     ghost among = { λ wish d c h left. left.1 };
 
     ghost long = { λ d c h one. one.long };
+
+    ghost tells = { λ o. o };
+
+    ghost kept = { λ d o. refl };
 }

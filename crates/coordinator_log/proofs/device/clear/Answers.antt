@@ -1,8 +1,10 @@
 use Rattle.std.proofs.Common.{inl, inr, ℕ, ◌+◌, length, refl, arith, ◌≤◌, subst, ◌∙◌, Some, ap}
 use Rattle.outside.specs.Faults.{Rose}
+use Rattle.outside.specs.Images.{wished}
 use Rattle.coordinator_log.proofs.Results.{on_err}
 use Rattle.coordinator_log.proofs.Stops.{breaks_at, done_at, done_first, none_passed, passed_more, reached_next, still_armed}
 use Rattle.coordinator_log.proofs.SlotWrites.{along, by_test, clear_stage, cleared_stage, gate_stopped, same_bytes, unless_fault}
+use Rattle.coordinator_log.proofs.Wishes.{clear_wished, synced_same, unless_rose}
 use Rattle.coordinator_log.proofs.device.clear.Goals as goal
 
 pub returns-in_err-write-clause-images : goal.returns-in_err-write-clause-images
@@ -68,4 +70,31 @@ returns-in_err-sync-clause-kept g c h only is_open s is none second keep =
 
 pub returns-clause-kept : goal.returns-clause-kept
 returns-clause-kept g c h only is_open s is none second keep =
+    absurd (still_armed 2 s _ _ (passed_more 1 _ _ _ (passed_more 0 _ _ _ (none_passed _) c.in_ok-write.ensures.counts.passed c.write.ensures.counts.counted) c.in_ok-sync.ensures.counts.passed c.sync.ensures.counts.counted) is none)
+
+pub returns-clause-synced : goal.returns-clause-synced
+returns-clause-synced g c o = synced_same (g.D.Disk.images c.write.new.disk) _ (c.in_ok-sync.ensures.synced o)
+
+pub returns-in_err-write-clause-found : goal.returns-in_err-write-clause-found
+returns-in_err-write-clause-found g c o same s is none =
+    let h = g.met.D.Disk.tells o in
+    let b = g.D.Disk.seen c.args.disk.now in
+    let gate = c.slot_at-gate.result in
+    let at = reached_next 0 s _ _ _ (none_passed _) c.write.ensures.counts.counted is none in
+    let room : gate + 1 ≤ length b = omega (arith, g.met.D.Disk.long c.args.disk.now b h (g.met.D.Disk.sees c.args.disk.now h), c.requires.size, c.requires.slot, c.slot_at-gate.ensures) in
+    let left = clear_wished s.image c.args.k gate b (g.D.Disk.images c.args.disk.now) c.requires.slot c.slot_at-gate.ensures room (g.met.D.Disk.kept c.args.disk.now o) same in
+    unless_fault (λ e. along b _ _ _ e left) (c.write.ensures.found o s.image at.0)
+
+pub returns-in_err-sync-clause-found : goal.returns-in_err-sync-clause-found
+returns-in_err-sync-clause-found g c o same s is none =
+    let h = g.met.D.Disk.tells o in
+    let b = g.D.Disk.seen c.args.disk.now in
+    let gate = c.slot_at-gate.result in
+    let at = reached_next 1 s _ _ _ (passed_more 0 _ _ _ (none_passed _) c.in_ok-write.ensures.counts.passed c.write.ensures.counts.counted) c.sync.ensures.counts.counted is none in
+    let room : gate + 1 ≤ length b = omega (arith, g.met.D.Disk.long c.args.disk.now b h (g.met.D.Disk.sees c.args.disk.now h), c.requires.size, c.requires.slot, c.slot_at-gate.ensures) in
+    let left = clear_wished s.image c.args.k gate b (g.D.Disk.images c.args.disk.now) c.requires.slot c.slot_at-gate.ensures room (g.met.D.Disk.kept c.args.disk.now o) same in
+    unless_rose _ _ _ c.in_ok-write.ensures.counts.smooth (λ e. along b _ _ _ (e ∙ ap (wished s.image) (c.in_ok-write.ensures.put o)) left) (c.sync.ensures.found o s.image at.0)
+
+pub returns-clause-found : goal.returns-clause-found
+returns-clause-found g c o same s is none =
     absurd (still_armed 2 s _ _ (passed_more 1 _ _ _ (passed_more 0 _ _ _ (none_passed _) c.in_ok-write.ensures.counts.passed c.write.ensures.counts.counted) c.in_ok-sync.ensures.counts.passed c.sync.ensures.counts.counted) is none)

@@ -1,12 +1,16 @@
-use Rattle.std.proofs.Common.{◌≡◌, inl, inr, ℕ, ◌+◌, ◌*◌, List, length, set, true, false, refl, arith, ◌≤◌, ◌∙◌, ap, sym, subst, Some, Ok}
+use Rattle.std.proofs.Common.{◌≡◌, inl, inr, ℕ, ◌+◌, ◌*◌, List, [], ◌∷◌, length, set, true, false, cond, refl, arith, ◌≤◌, ◌<◌, ◌∙◌, ap, sym, subst, Some, Ok}
 use Rattle.std.specs.Prelude.{IsTrue}
 use Rattle.outside.specs.Disk.{IsOnly}
 use Rattle.outside.specs.Faults.{Rose}
+use Rattle.outside.specs.Images.{AreSame, after_write, wished}
 use Rattle.dtx_model.specs.Log.{record_of, slots_of}
 use Rattle.coordinator_log.specs.Slots.{HasSlots, IsClosed, IsEither}
+use Rattle.coordinator_log.specs.Stop.{is_found_after_append}
+use Rattle.coordinator_log.specs.declared.stop.ArmedStop.{ArmedStop}
 use Rattle.coordinator_log.proofs.Results.{on_err}
 use Rattle.coordinator_log.proofs.Stops.{HasPassed, breaks_at, done_at, done_first, none_passed, passed_more, reached_next, still_armed, undone}
 use Rattle.coordinator_log.proofs.SlotWrites.{IsBehind, along, body_stage, body_stopped, by_test, done_stage, gate_stage, gate_stopped, unless_fault, written_behind}
+use Rattle.coordinator_log.proofs.Wishes.{body_wished, gate_wished, not_yet, synced_same, unless_rose}
 use Rattle.coordinator_log.proofs.device.store.Given.{Over}
 use Rattle.coordinator_log.proofs.device.store.Goals.{After-write, After-sync, After-write-2, After-sync-2}
 use Rattle.coordinator_log.proofs.device.store.Goals as goal
@@ -199,3 +203,61 @@ pub returns-clause-kept : goal.returns-clause-kept
 returns-clause-kept g c h only closed s is none third keep =
     let to = goal.at.returns-clause-kept g c in
     absurd (still_armed 4 s _ _ (passed_more 3 _ _ _ (three g to.After-sync-2 (two g to.After-write-2 (one g to.After-sync))) c.in_ok-sync-2.ensures.counts.passed c.sync-2.ensures.counts.counted) is none)
+
+pub returns-clause-synced : goal.returns-clause-synced
+returns-clause-synced g c o = synced_same (g.D.Disk.images c.write-2.new.disk) _ (c.in_ok-sync-2.ensures.synced o)
+
+-- whatever is wished after the write of the record, the slots are as before
+body_left : (g : Over) (c : After-write g) → IsTrue g.D.Disk.obeys → AreSame (g.D.Disk.images c.args.disk.now) → IsClosed c.args.k (g.D.Disk.seen c.args.disk.now) → (s : ArmedStop) → s.passes < 2
+    → HasSlots (g.D.Disk.seen c.args.disk.now) (cond (is_found_after_append s.image s.passes) (set (slots_of (g.D.Disk.seen c.args.disk.now)) c.args.k (Ok (Some (record_of c.args.r.now)))) (slots_of (g.D.Disk.seen c.args.disk.now)))
+    (wished s.image (after_write (c.slot_at-gate.result + 1) c.write_record.new.into (g.D.Disk.images c.args.disk.now)))
+body_left g c o same closed s few =
+    by_test _ false (g.D.Disk.seen c.args.disk.now) _ _ _ (not_yet s.image s.passes few)
+    (body_wished s.image c.args.k (c.slot_at-gate.result + 1) (g.D.Disk.seen c.args.disk.now) c.write_record.new.into (g.D.Disk.images c.args.disk.now) c.requires.slot (place g c) closed
+    (room g c (g.met.D.Disk.tells o)) (long g c) (g.met.D.Disk.kept c.args.disk.now o) same)
+
+-- whatever is wished after the write of the gate, the record is found where the stop says so
+gate_left : (g : Over) (c : After-write-2 g) → IsBehind c.args.k (record_of c.args.r.now) (g.D.Disk.seen c.args.disk.now) (g.D.Disk.seen c.sync.new.disk) → IsTrue g.D.Disk.obeys
+    → IsClosed c.args.k (g.D.Disk.seen c.args.disk.now) → (s : ArmedStop) → 2 ≤ s.passes
+    → HasSlots (g.D.Disk.seen c.args.disk.now) (cond (is_found_after_append s.image s.passes) (set (slots_of (g.D.Disk.seen c.args.disk.now)) c.args.k (Ok (Some (record_of c.args.r.now)))) (slots_of (g.D.Disk.seen c.args.disk.now)))
+    (wished s.image (after_write c.slot_at-gate.result (1 ∷ []) (g.D.Disk.images c.sync.new.disk)))
+gate_left g c safe o closed s many =
+    gate_wished s.image s.passes c.args.k c.slot_at-gate.result (g.D.Disk.seen c.args.disk.now) (g.D.Disk.seen c.sync.new.disk) (record_of c.args.r.now) (g.D.Disk.images c.sync.new.disk) many c.requires.slot
+    c.slot_at-gate.ensures closed safe (within g c (g.met.D.Disk.tells o)) (g.met.D.Disk.kept c.sync.new.disk o) (synced_same (g.D.Disk.images c.write.new.disk) _ (c.in_ok-sync.ensures.synced o))
+
+pub returns-in_err-write-clause-found : goal.returns-in_err-write-clause-found
+returns-in_err-write-clause-found g c o same closed s is none =
+    let at = reached_next 0 s _ _ _ (none_passed _) c.write.ensures.counts.counted is none in
+    let left = body_left g (goal.at.returns-in_err-write-clause-found g c).After-write o same closed s (omega (arith, at.1)) in
+    unless_fault (λ e. along (g.D.Disk.seen c.args.disk.now) _ _ _ e left) (c.write.ensures.found o s.image at.0)
+
+pub returns-in_err-sync-clause-found : goal.returns-in_err-sync-clause-found
+returns-in_err-sync-clause-found g c o same closed s is none =
+    let to = goal.at.returns-in_err-sync-clause-found g c in
+    let at = reached_next 1 s _ _ _ (one g to.After-sync) c.sync.ensures.counts.counted is none in
+    let left = body_left g to.After-write o same closed s (omega (arith, at.1)) in
+    unless_rose _ _ _ c.in_ok-write.ensures.counts.smooth (λ e. along (g.D.Disk.seen c.args.disk.now) _ _ _ (e ∙ ap (wished s.image) (c.in_ok-write.ensures.put o)) left) (c.sync.ensures.found o s.image at.0)
+
+pub returns-in_err-write-2-clause-found : goal.returns-in_err-write-2-clause-found
+returns-in_err-write-2-clause-found g c o same closed s is none =
+    let to = goal.at.returns-in_err-write-2-clause-found g c in
+    let h = g.met.D.Disk.tells o in
+    let safe = behind g to.After-write-2 (place g to.After-write) (long g to.After-write) (room g to.After-write h) h closed in
+    let at = reached_next 2 s _ _ _ (two g to.After-write-2 (one g to.After-sync)) c.write-2.ensures.counts.counted is none in
+    let left = gate_left g to.After-write-2 safe o closed s (omega (arith, at.1)) in
+    unless_rose _ _ _ (c.in_ok-sync.ensures.counts.smooth ∙ c.in_ok-write.ensures.counts.smooth) (λ e. along (g.D.Disk.seen c.args.disk.now) _ _ _ e left) (c.write-2.ensures.found o s.image at.0)
+
+pub returns-in_err-sync-2-clause-found : goal.returns-in_err-sync-2-clause-found
+returns-in_err-sync-2-clause-found g c o same closed s is none =
+    let to = goal.at.returns-in_err-sync-2-clause-found g c in
+    let h = g.met.D.Disk.tells o in
+    let safe = behind g to.After-write-2 (place g to.After-write) (long g to.After-write) (room g to.After-write h) h closed in
+    let at = reached_next 3 s _ _ _ (three g to.After-sync-2 (two g to.After-write-2 (one g to.After-sync))) c.sync-2.ensures.counts.counted is none in
+    let left = gate_left g to.After-write-2 safe o closed s (omega (arith, at.1)) in
+    unless_rose _ _ _ (c.in_ok-write-2.ensures.counts.smooth ∙ c.in_ok-sync.ensures.counts.smooth ∙ c.in_ok-write.ensures.counts.smooth)
+    (λ e. along (g.D.Disk.seen c.args.disk.now) _ _ _ (e ∙ ap (wished s.image) (c.in_ok-write-2.ensures.put o)) left) (c.sync-2.ensures.found o s.image at.0)
+
+pub returns-clause-found : goal.returns-clause-found
+returns-clause-found g c o same closed s is none =
+    absurd (let to = goal.at.returns-clause-found g c in
+    still_armed 4 s _ _ (passed_more 3 _ _ _ (three g to.After-sync-2 (two g to.After-write-2 (one g to.After-sync))) c.in_ok-sync-2.ensures.counts.passed c.sync-2.ensures.counts.counted) is none)

@@ -20,6 +20,7 @@ loop-k-init g c =
     record {
       seen = λ h. c.in_ok-read.ensures.seen h;
       images = λ h. c.in_ok-read.ensures.images h;
+      same = λ o. c.in_ok-read.ensures.same o;
       at_head = λ h.
           let b = g.D.Disk.seen c.args.disk.now in
           let block : c.read.new.into ≡ take 512 b = c.in_ok-read.ensures.bytes h ∙ ap (λ (n : ℕ). take n b) (length-replicate {A = ℕ} 512 0) in
@@ -51,6 +52,7 @@ loop-k-preserved g c =
     record {
       seen = λ h. c.in_ok-read-2.ensures.seen h ∙ i.seen h;
       images = λ h f left. i.images h f (c.in_ok-read-2.ensures.images h f left);
+      same = λ o. c.in_ok-read-2.ensures.same o ∙ i.same o;
       at_head = i.at_head;
       slots = λ h.
           let b = g.D.Disk.seen c.args.disk.now in

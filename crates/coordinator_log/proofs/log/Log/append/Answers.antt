@@ -56,6 +56,7 @@ returns-in_err-store-clause-crashed g c =
 pub invariant_of-self : goal.invariant_of-self
 invariant_of-self g c = record {
   agrees = λ h up. absurd cc;
+  synced = λ o up. absurd cc;
   whole = whole g (goal.at.invariant_of-self g c).After-store;
   room = let kept = c.self.invariant.room in omega (arith, kept, c.store.ensures.size);
 }
@@ -67,6 +68,7 @@ invariant_of-self-2 g c = record {
       let a = c.self.invariant.agrees h c.if-not-self.false in
       subst (λ (l : List (Option CommitRecord)). Agrees (g.D.Disk.seen c.store.new.disk) (g.D.Disk.image c.store.new.disk) l) (sym c.set.ensures.slots)
       (agrees_with _ _ c.self.inside.slots a c.in-Some.k (inside g b) (Some (record_of c.args.r.now)) _ _ (c.in_ok-store.ensures.done h a.durable (closed g b h)) (c.in_ok-store.ensures.durable h));
+  synced = λ o up. c.in_ok-store.ensures.synced o;
   whole = whole g (goal.at.invariant_of-self-2 g c).After-store;
   room = let kept = c.self.invariant.room in omega (arith, kept, c.store.ensures.size);
 }
@@ -117,3 +119,15 @@ returns-in_err-store-clause-kept g c =
     let new = insert_lowest ss k r c.in-Some.ensures.some.2 (inside g b) ∙ ap (λ (j : ℕ). insert (open_records ss) j r) (sym c.in-Some.ensures.some.2) in
     unless_fault (λ has f on. log_with _ _ ss a k (inside g b) (Some r) f (has f on) ∙ ap (λ (l : List CommitRecord). Ok l) new)
     (c.store.ensures.kept h a.durable (closed g b h) stop is none third keep))
+
+pub returns-in_err-store-clause-found : goal.returns-in_err-store-clause-found
+returns-in_err-store-clause-found g c =
+    let b = (goal.at.returns-in_err-store-clause-found g c).After-store in
+    let ss = c.self.inside.slots in
+    let k = c.in-Some.k in
+    let r = record_of c.args.r.now in
+    rw (← c.self.view_is)
+    (λ o up stop is none. let h = g.met.D.Disk.tells o in
+    let a = c.self.invariant.agrees h up in
+    let new = insert_lowest ss k r c.in-Some.ensures.some.2 (inside g b) ∙ ap (λ (j : ℕ). insert (open_records ss) j r) (sym c.in-Some.ensures.some.2) in
+    unless_fault (log_by_test _ _ ss a k (inside g b) (Some r) _ _ _ new) (c.store.ensures.found o (c.self.invariant.synced o up) (closed g b h) stop is none))

@@ -2,7 +2,7 @@ use Rattle.std.proofs.Common.{◌≡◌, ◌<◌, refl, arith, inl, true, sym, a
 use Rattle.std.specs.Prelude.{IsTrue, is_ok}
 use Rattle.dtx_model.specs.Log.{CommitRecord, log_has}
 use Rattle.coordinator_log.specs.Slots.{Agrees, IsOpen, open_records}
-use Rattle.coordinator_log.proofs.Agreement.{slot_open, log_either, log_by_test, log_with, all_freed, agrees_with, log_agrees, either_whole}
+use Rattle.coordinator_log.proofs.Agreement.{slot_open, log_either, log_by_test, log_unless_test, log_with, all_freed, agrees_with, log_agrees, either_whole}
 use Rattle.coordinator_log.proofs.Results.{after_err}
 use Rattle.coordinator_log.proofs.SlotWrites.{unless_fault}
 use Rattle.coordinator_log.proofs.Stops.{image_kept, used_up}
@@ -51,6 +51,7 @@ returns-in_err-clear-clause-crashed g c =
 pub invariant_of-self : goal.invariant_of-self
 invariant_of-self g c = record {
   agrees = λ h up. absurd cc;
+  synced = λ o up. absurd cc;
   whole = whole g (goal.at.invariant_of-self g c).After-clear;
   room = let kept = c.self.invariant.room in omega (arith, kept, c.clear.ensures.size);
 }
@@ -62,6 +63,7 @@ invariant_of-self-2 g c = record {
       let a = c.self.invariant.agrees h c.if-not-self.false in
       subst (λ (l : List (Option CommitRecord)). Agrees (g.D.Disk.seen c.clear.new.disk) (g.D.Disk.image c.clear.new.disk) l) (sym c.set.ensures.slots)
       (agrees_with _ _ c.self.inside.slots a c.in-Some.k (inside g b) None _ _ (c.in_ok-clear.ensures.done h a.durable (opened g b h)) (c.in_ok-clear.ensures.durable h));
+  synced = λ o up. c.in_ok-clear.ensures.synced o;
   whole = whole g (goal.at.invariant_of-self-2 g c).After-clear;
   room = let kept = c.self.invariant.room in omega (arith, kept, c.clear.ensures.size);
 }
@@ -99,3 +101,10 @@ returns-in_err-clear-clause-kept g c =
     (λ h up stop is none second keep. let a = c.self.invariant.agrees h up in
     unless_fault (λ has f on. log_with _ _ c.self.inside.slots a c.in-Some.k (inside g b) None f (has f on) ∙ ap (λ (l : List CommitRecord). Ok l) c.in-Some.ensures.rest)
     (c.clear.ensures.kept h a.durable (opened g b h) stop is none second keep))
+
+pub returns-in_err-clear-clause-found : goal.returns-in_err-clear-clause-found
+returns-in_err-clear-clause-found g c =
+    let b = (goal.at.returns-in_err-clear-clause-found g c).After-clear in
+    rw (← c.self.view_is)
+    (λ o up stop is none. let a = c.self.invariant.agrees (g.met.D.Disk.tells o) up in
+    unless_fault (log_unless_test _ _ c.self.inside.slots a c.in-Some.k (inside g b) None _ _ _ c.in-Some.ensures.rest) (c.clear.ensures.found o (c.self.invariant.synced o up) stop is none))

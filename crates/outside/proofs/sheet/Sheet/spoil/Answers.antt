@@ -1,7 +1,7 @@
 use Rattle.std.proofs.Common.{◌≡◌, List, ℕ, ap, arith, length, sym, ◌∙◌}
 use Rattle.std.proofs.lemmas.List.{length-replicate}
 use Rattle.outside.specs.Disk.{overwritten}
-use Rattle.outside.specs.Memory.{spoilt}
+use Rattle.outside.specs.Images.{spoilt}
 use Rattle.outside.specs.Sheet.{with_zeros}
 use Rattle.outside.proofs.Sheets.{length-with_zeros, put-front}
 use Rattle.outside.proofs.sheet.Sheet.spoil.Goals as goal

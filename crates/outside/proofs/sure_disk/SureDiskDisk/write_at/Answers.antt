@@ -1,7 +1,7 @@
 use Rattle.std.proofs.Common.{◌≡◌, ◌+◌, ◌≤◌, ◌∙◌, List, ℕ, ap, length, refl, subst, arith}
 use Rattle.std.proofs.lemmas.List.{length-replicate}
 use Rattle.outside.specs.Disk.{Follows, IsTorn, overwritten}
-use Rattle.outside.specs.Memory.{Images, IsOneOf, spoilt}
+use Rattle.outside.specs.Images.{Images, IsOneOf, spoilt}
 use Rattle.outside.proofs.Sheets.{length-overwritten}
 use Rattle.outside.proofs.Writing.{IsTorn-overwritten, Follows-torn}
 use Rattle.outside.proofs.sure_disk.SureDiskDisk.write_at.Goals as goal
