@@ -1,5 +1,4 @@
 //! Runs in which a manager has an object, on threads and in a replay: it hears each note to which a reply of one of the manager's enlistments is due, and no other, and its answer is the reply where it fits the note.
-use crate::scripts::{sure_log, threadable};
 use dtx_values::{EnlNo, Entry, Note, Outcome, Party, Reply, Resource, TxNo, Vote};
 use entry_lists::Trace;
 use outside::OpenGate;
@@ -9,6 +8,7 @@ use std::sync::atomic::{AtomicU64, Ordering};
 use std::sync::{Arc, Wait};
 use std::test::Fail;
 use std::thread::Threads;
+use turn_tests::{sure_log, threadable};
 
 /// Gives Prepare this answer and any other note none, and keeps what it heard: a digit for each note, the newest last; and counts what it heard of another transaction or enlistment than those of its number.
 #[derive(Drop)]

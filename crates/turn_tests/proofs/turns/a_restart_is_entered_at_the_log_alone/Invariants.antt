@@ -1,5 +1,5 @@
 use Rattle.std.proofs.Common.{true}
-use Rattle.thread_tests.proofs.turns.a_restart_is_entered_at_the_log_alone.Given as goal
+use Rattle.turn_tests.proofs.turns.a_restart_is_entered_at_the_log_alone.Given as goal
 
 -- the run is named by what the test has
 abbrev pub ghosts-restarted_from : goal.ghosts-restarted_from

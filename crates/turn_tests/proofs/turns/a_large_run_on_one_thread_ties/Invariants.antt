@@ -1,5 +1,5 @@
 use Rattle.std.proofs.Common.{true}
-use Rattle.thread_tests.proofs.turns.a_large_run_on_one_thread_ties.Given as goal
+use Rattle.turn_tests.proofs.turns.a_large_run_on_one_thread_ties.Given as goal
 
 -- the run is named by what the test has
 abbrev pub ghosts-ran_from : goal.ghosts-ran_from

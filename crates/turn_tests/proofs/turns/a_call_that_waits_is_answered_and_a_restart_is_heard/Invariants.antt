@@ -1,5 +1,5 @@
 use Rattle.std.proofs.Common.{true}
-use Rattle.thread_tests.proofs.turns.a_call_that_waits_is_answered_and_a_restart_is_heard.Given as goal
+use Rattle.turn_tests.proofs.turns.a_call_that_waits_is_answered_and_a_restart_is_heard.Given as goal
 
 -- the run is named by what the test has
 abbrev pub ghosts-waits_from : goal.ghosts-waits_from

@@ -1,5 +1,5 @@
 use Rattle.std.proofs.Common.{true}
-use Rattle.thread_tests.proofs.gates.looks_at_a_board_wait_for_nobody.Given as goal
+use Rattle.turn_tests.proofs.gates.looks_at_a_board_wait_for_nobody.Given as goal
 
 -- the run is named by what the test has
 abbrev pub ghosts-peeked_from : goal.ghosts-peeked_from

@@ -53,7 +53,7 @@ impl Slow<'_> {
 }
 
 impl Disk for Slow<'_> {
-    ghost use Rattle.std.specs.Prelude.{false, length, []};
+    ghost use Rattle.std.specs.Prelude.{false, length, [], refl};
 
     ghost honest = { false };
 
@@ -64,6 +64,10 @@ impl Disk for Slow<'_> {
     ghost image = { λ _ _. ⊥ };
 
     ghost leaves = { λ _ _ _. ⊥ };
+
+    ghost obeys = { false };
+
+    ghost images = { λ _. record { kept = []; synced = []; torn = [] } };
 
     ghost faults = { λ d. d.disk.calls.failed };
 
@@ -93,4 +97,8 @@ impl Disk for Slow<'_> {
     ghost among = { λ wish d c h left. absurd left };
 
     ghost long = { λ d c h one. absurd one };
+
+    ghost tells = { λ o. o };
+
+    ghost kept = { λ d o. refl };
 }
