@@ -19,9 +19,9 @@ failed_over x log P (Ok a) h = tt
 failed_over x log P (Err e) h = (inr (log, h.1), h.0)
 
 -- over this log, which the turn may change
-pub failed_with : {A D : Type 0} (x : TxState) (log : LogState D) (P : Type 0) (r : Result A TurnError) → IfErr r (λ e. ((e ≡ Memory) ⊎ IsCause x log e) × P) → IfErr r (λ e. MayFail D x e × P)
-failed_with x log P (Ok a) h = tt
-failed_with x log P (Err e) h = (elim h.0 [ inl m ↦ inl m | inr c ↦ inr (log, c) ], h.1)
+pub failed_with : {A D : Type 0} (x : TxState) (log : LogState D) (P Q : Type 0) (r : Result A TurnError) → IfErr r (λ e. ((e ≡ Memory) ⊎ IsCause x log e) × P × Q) → IfErr r (λ e. MayFail D x e × P)
+failed_with x log P Q (Ok a) h = tt
+failed_with x log P Q (Err e) h = (elim h.0 [ inl m ↦ inl m | inr c ↦ inr (log, c) ], h.1)
 
 -- behind the mark of a reply, which was taken off
 pub failed_unmarked : {A : Type 0} (D : Type 0) (y : EnlNo × Note) (old mid new : Cell) (r : Result A TurnError) → mid ≡ unmarked y old → IfErr r (λ e. MayFail D mid.tx e × (new ≡ mid)) → IfErr r (λ e. MayFail D old.tx e × (new.tx ≡ old.tx))

@@ -64,20 +64,22 @@ pub fn tell<N: Run>(
 }
 
 /// Does the k-th pending step, from 1, inside the locks of its transaction and of the log.
+#[tactic(auto, using(tx_cells::proofs::EitherWay::kth_over))]
 fn do_over<D: Disk, N: Run>(
     state: &mut CellState<N>,
     log: &mut LogState<D, N>,
     k: u32,
 ) -> Result<Came, TurnError>
-    ensures none { result ≡ Ok Came.Nothing → (kth (pending state.old.tx.world) k ≡ None) × (state.new ≡ state.old) }
-    ensures done { result ≡ Ok Came.Done → IsKthDone k state.old.tx state.new.tx × (IsTrue log.old.log.is_up → IsTrue log.new.log.is_up) }
+    ensures none { result ≡ Ok Came.Nothing → (kth (pending state.old.tx.world) k ≡ None) × (state.new ≡ state.old) × (log.new ≡ log.old) }
+    ensures done { result ≡ Ok Came.Done → IsKthDone k state.old.tx state.new.tx × (log.new.log.is_up ≡ log.old.log.is_up) }
     ensures stopped { result ≡ Ok Came.Stopped → IsKthDone k state.old.tx state.new.tx × IsTrue log.old.log.is_up × (log.new.log.is_up ≡ false) }
     ensures never { (e : EnlNo) (n : Note) → result ≢ Ok (Came.Out e n) }
     ensures same { state.new ≡ with_tx state.new.tx state.old }
-    ensures cause { IfErr result (λ e. ((e ≡ TurnError.Memory) ⊎ IsCause state.old.tx log.old.log e) × (state.new ≡ state.old)) }
+    ensures life { log.new.log.life ≡ log.old.log.life }
+    ensures cause { IfErr result (λ e. ((e ≡ TurnError.Memory) ⊎ IsCause state.old.tx log.old.log e) × (state.new ≡ state.old) × (log.new ≡ log.old)) }
 {
     let was_up = log.is_up();
-    if !state.do_step(Some(&mut *log), k)? {
+    if !state.do_step_with(log, k)? {
         return Ok(Came::Nothing);
     }
     if was_up && !log.is_up() {

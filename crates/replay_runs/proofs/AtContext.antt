@@ -21,8 +21,10 @@ use Rattle.scope_context.specs.Standing.{Standing}
 use Rattle.tx_world.specs.AtLog.{IsHad}
 use Rattle.tx_world.specs.Prepared.{NamesPrepared}
 use Rattle.tx_world.specs.State.{TxState}
+use Rattle.replay_runs.specs.Found.{Finds}
 use Rattle.replay_runs.specs.RunState.{FitsLog, GoesWith, Holds, IsRecordKept, IsTied, IsToPlan, RunState, Tells, state_of}
 use Rattle.script_calls.specs.Scoped.{AreOpen, scopes_at}
+use Rattle.replay_runs.proofs.Finding.{finds_there, found_noted}
 use Rattle.replay_runs.proofs.Telling.{tells_noted}
 
 -- the trace has this block of entries at an actor's context more, and the transactions, the script and the objects are the same
@@ -68,6 +70,12 @@ pub noted_tells : {D : Type 0} (faults : D → ℕ) (honest : Bool) (image : D �
     → Tells faults honest image start log (past_of old.trace) → Tells faults honest image start log (past_of new.trace)
 noted_tells faults honest image start log a es old new n k =
     subst (λ (T : List Placed). Tells faults honest image start log T) (sym n.block) (tells_noted faults honest image start log (past_of old.trace) a es k)
+
+pub noted_finds : {D : Type 0} (faults : D → ℕ) (seen : D → List ℕ) (start log : LogState D) (a : ActorNo) (es : List Entry) (old new : RunState) → IsNoted a es old new
+    → Finds faults seen start log (past_of old.trace) → Finds faults seen start log (past_of new.trace)
+noted_finds faults seen start log a es old new n k =
+    subst (λ (T : List Placed). Finds faults seen start log T) (sym n.block)
+    (finds_there faults seen start log (past_of old.trace) (onto (past_of old.trace) (noted a es)) (found_noted seen log (past_of old.trace) a es) k)
 
 -- So a scope line did what it writes at its context and then these calls.
 pub scope_did : (s : List Line) (n : ℕ) (l : Line) (xs : List OpenScope) (cs : List (TxNo × Call)) (start noted_at end : List Placed) → cs ≡ scope_calls l.body xs

@@ -27,6 +27,7 @@ use Rattle.tx_world.proofs.Naming.{named_does}
 use Rattle.tx_world.proofs.StillTied.{turned_tied}
 use Rattle.script_calls.proofs.Scripts.{given_more}
 use Rattle.turn_parts.proofs.Turned.{turned_calls}
+use Rattle.replay_runs.specs.Found.{Finds}
 use Rattle.replay_runs.specs.RunState.{AreNumbered, FitsLog, GoesWith, Holds, IsBelow, IsRecordKept, IsTied, IsToPlan, RunState, Tells, state_of}
 use Rattle.replay_runs.proofs.Deeds.{untelling_block}
 use Rattle.replay_runs.proofs.Entering.{enters}
@@ -35,6 +36,7 @@ use Rattle.replay_runs.proofs.Goes.{goes_step}
 use Rattle.replay_runs.proofs.Noting.{history_here, history_there, trace_noted}
 use Rattle.replay_runs.proofs.Numbered.{is_it, state_here, state_reached, state_there}
 use Rattle.replay_runs.proofs.NeverFull.{unfilled_written}
+use Rattle.replay_runs.proofs.Finding.{finds_there, found_block}
 use Rattle.replay_runs.proofs.Telling.{is_untelling, tells_block}
 use Rattle.replay_runs.proofs.Turns.{IsOwn, own_at, turn_here, turned_past, written}
 use Rattle.replay_runs.proofs.Tying.{right_written, tied_same}
@@ -154,6 +156,14 @@ entered_tells faults honest image start log t n a c m x y old new e k =
     subst (Tells faults honest image start log) (sym e.block)
     (tells_block faults honest image start log (past_of old.trace) t (written log.is_up t.value x.world (Calls n a c m)) (untelling_call log.is_up t.value x.world n a c m)
     (λ is empty. unfilled_written log.is_up t.value x.world (Calls n a c m) (λ e. cc)) k)
+
+-- what restarts find stays right,
+pub entered_finds : {D : Type 0} (faults : D → ℕ) (seen : D → List ℕ) (start log : LogState D) (t : TxNo) (n : ℕ) (a : ActorNo) (c : Call) (m : ℕ) (x y : TxState) (old new : RunState) → Entered faults log t n a c m x y old new
+    → Finds faults seen start log (past_of old.trace) → Finds faults seen start log (past_of new.trace)
+entered_finds faults seen start log t n a c m x y old new e k =
+    subst (Finds faults seen start log) (sym e.block)
+    (finds_there faults seen start log (past_of old.trace) (onto (past_of old.trace) (placed t (written log.is_up t.value x.world (Calls n a c m))))
+    (found_block seen log (past_of old.trace) t (written log.is_up t.value x.world (Calls n a c m)) (untelling_call log.is_up t.value x.world n a c m)) k)
 
 -- and the call is a turn.
 pub entered_turn : {D : Type 0} (faults : D → ℕ) (honest : Bool) (image : D → List ℕ → Type 0) (log : LogState D) (t : TxNo) (n : ℕ) (a : ActorNo) (c : Call) (m : ℕ) (x y : TxState) (old new : RunState)

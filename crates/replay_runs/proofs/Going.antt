@@ -39,12 +39,19 @@ stays_then faults a b c first second p q =
     }
 
 -- and of the run
-pub runs_same : {D : Type 0} (faults : D → ℕ) (honest : Bool) (image : D → List ℕ → Type 0) (log : LogState D) (r : RunState) → Holds honest image log r → RunsOn faults honest image log log r r
-runs_same faults honest image log r h = record { script = refl; objects = refl; holds = h; tells = λ start told. told }
+pub runs_same : {D : Type 0} (faults : D → ℕ) (honest : Bool) (image : D → List ℕ → Type 0) (obeys : Bool) (seen : D → List ℕ) (log : LogState D) (r : RunState) → Holds honest image log r → RunsOn faults honest image obeys seen log log r r
+runs_same faults honest image obeys seen log r h = record { script = refl; objects = refl; holds = h; tells = λ start told. told; finds = λ is start found. found }
 
-pub runs_then : {D : Type 0} (faults : D → ℕ) (honest : Bool) (image : D → List ℕ → Type 0) (a b c : LogState D) (p q r : RunState) → RunsOn faults honest image a b p q → RunsOn faults honest image b c q r → RunsOn faults honest image a c p r
-runs_then faults honest image a b c p q r first second =
-    record { script = second.script ∙ first.script; objects = second.objects ∙ first.objects; holds = second.holds; tells = λ start told. second.tells start (first.tells start told) }
+pub runs_then : {D : Type 0} (faults : D → ℕ) (honest : Bool) (image : D → List ℕ → Type 0) (obeys : Bool) (seen : D → List ℕ) (a b c : LogState D) (p q r : RunState) → RunsOn faults honest image obeys seen a b p q
+    → RunsOn faults honest image obeys seen b c q r → RunsOn faults honest image obeys seen a c p r
+runs_then faults honest image obeys seen a b c p q r first second =
+    record {
+      script = second.script ∙ first.script;
+      objects = second.objects ∙ first.objects;
+      holds = second.holds;
+      tells = λ start told. second.tells start (first.tells start told);
+      finds = λ is start found. second.finds is start (first.finds is start found);
+    }
 
 -- no part entered a call
 pub calls_then : (a b c : List TxState) → HaveSameCalls a b → HaveSameCalls b c → HaveSameCalls a c

@@ -5,6 +5,8 @@ pub mod CallsHold
 pub mod Deeds
 pub mod Entering
 pub mod Exactness
+pub mod FalseStops
+pub mod Finding
 pub mod Fitting
 pub mod FoundRecords
 pub mod Goes

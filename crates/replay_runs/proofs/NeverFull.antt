@@ -16,11 +16,11 @@ use Rattle.coordinator_log.specs.Slots.{lowest_closed, open_records}
 use Rattle.coordinator_log.specs.State.{LogState}
 use Rattle.tx_world.specs.AtLog.{AtMostOne}
 use Rattle.tx_world.specs.State.{TxState, sends_begin}
-use Rattle.turn_parts.specs.Runs.{is_log_full}
+use Rattle.script_histories.specs.LogQuiet.{is_found_full, is_log_full}
 use Rattle.turn_parts.proofs.Filling.{unfilled_block}
 use Rattle.turn_parts.proofs.Room.{few_records, has_room}
 use Rattle.replay_runs.specs.LogRun.{AreForeignSame, IsForeignKept}
-use Rattle.replay_runs.specs.RunState.{AreNumbered, FitsLog, finds_full, state_of}
+use Rattle.replay_runs.specs.RunState.{AreNumbered, FitsLog, state_of}
 use Rattle.replay_runs.proofs.Turns.{written}
 
 -- A step that didn't find the log full writes nothing of that.
@@ -58,12 +58,12 @@ never_full image log ws before empty numbered up fits foreign full =
     (subst (λ (rs : List CommitRecord). AreForeignSame rs (open_records log.slots)) empty (foreign.up up))) full
 
 -- Where no append of a trace found the log full, none of a transaction did.
-pub full_nowhere : (T : List Placed) → has finds_full T ≡ false → (t : ℕ) → has is_log_full (history t T) ≡ false
+pub full_nowhere : (T : List Placed) → has is_found_full T ≡ false → (t : ℕ) → has is_log_full (history t T) ≡ false
 full_nowhere [] k t = refl
 full_nowhere ((Context a, x) ∷ T) k t = full_nowhere T k t
 full_nowhere ((Log, x) ∷ T) k t = full_nowhere T k t
-full_nowhere ((Transaction u, x) ∷ T) k t = by (t == u.value) (full_nowhere T (or_second (is_log_full x) (has finds_full T) k) t)
+full_nowhere ((Transaction u, x) ∷ T) k t = by (t == u.value) (full_nowhere T (or_second (is_log_full x) (has is_found_full T) k) t)
   where
     by : (b : Bool) → has is_log_full (history t T) ≡ false → has is_log_full (if b then x ∷ history t T else history t T) ≡ false
-    by true ih = or_false (is_log_full x) (has is_log_full (history t T)) (or_first (is_log_full x) (has finds_full T) k) ih
+    by true ih = or_false (is_log_full x) (has is_log_full (history t T)) (or_first (is_log_full x) (has is_found_full T) k) ih
     by false ih = ih

@@ -10,6 +10,7 @@ use Rattle.dtx_values.specs.declared.trace.Place.TheVariants.{Log}
 use Rattle.dtx_model.specs.Words.{has, kth, latest, onto, past_of}
 use Rattle.dtx_model.specs.AtLog.{act_calls as calls_by_trace, at_log, hit, is_hit, is_known, one_if, transactions, unless_said, up_of}
 use Rattle.dtx_model.specs.Coordinated.{coordinate, may_log}
+use Rattle.dtx_model.specs.Promotes.{identifier_of}
 use Rattle.dtx_model.specs.Tied.{tied as is_tied_history}
 use Rattle.dtx_model.specs.Wires.{is_stopped}
 use Rattle.dtx_model.specs.World.{World, core}
@@ -27,9 +28,12 @@ use Rattle.tx_world.specs.AtLog.{Answered, IsHad, act_calls, id_of}
 use Rattle.tx_world.specs.Prepared.{NamesPrepared}
 use Rattle.tx_world.specs.State.{TxState, is_hit_by, turned}
 use Rattle.tx_world.specs.Stepping.{IsAnswered}
+use Rattle.world_parts.specs.Found.{IsLeftAsWished}
 use Rattle.world_laws.specs.Left.{steps_left}
+use Rattle.replay_runs.specs.Found.{Finds}
 use Rattle.replay_runs.specs.RunState.{Advances, FitsLog, GoesWith, HaveSameCalls, Holds, IsRecordKept, IsTied, RunState, Tells, halted, state_of}
 use Rattle.replay_runs.proofs.ByNumber.{rises-filter, rises-transactions, same_rising}
+use Rattle.replay_runs.proofs.Finding.{finds_on, found_stopped}
 use Rattle.replay_runs.proofs.Fitting.{fits_as, fits_turn, had_as, had_turn}
 use Rattle.replay_runs.proofs.Goes.{answered_down, stop_written, now_block}
 use Rattle.replay_runs.proofs.Halting.{goes_halted, halted_as, halted_named, halted_sound, halted_tied}
@@ -220,12 +224,25 @@ stopped_tells faults honest image start a mid at d up tells =
     tells_stopped faults honest image start a.from a.to old a.t (others a.t (hit old)) (at.holds.uncalled up) (step_log faults honest image a at)
     (λ none. d.answered.cause refl (subst (λ n. stop_in n a.from.armed ≡ None) calls none)) (d.answered.used refl) at.leaves.later.unarmed tells
 
+-- What the stop left of the record is as wished, where no fault came.
+stopped_finds : {D : Type 0} (faults : D → ℕ) (honest : Bool) (image : D → List ℕ → Type 0) (seen : D → List ℕ) (start : LogState D) (a : StepOf D) (mid : List Placed) → IsStep faults honest image a → IsStopping faults honest a mid
+    → IsTrue a.from.is_up → IsFalse a.to.is_up → IsLeftAsWished faults seen (core (was a).world) (id_of (was a)) a.from a.to → Finds faults seen start a.from (past_of a.run.trace)
+    → Finds faults seen start a.to (after_stop a.t (past_of a.run.trace))
+stopped_finds {D} faults honest image seen start a mid at d up down left =
+    let old = past_of a.run.trace in
+    let k = core (was a).world in
+    let known : coordinate (history a.t.value old) ≡ k = ap coordinate (sym d.did.tied.past) in
+    let own : IsLeftAsWished faults seen k (identifier_of a.t.value) a.from a.to = subst (λ (u : TxNo). IsLeftAsWished faults seen k (identifier_of u.value) a.from a.to) d.did.own.transaction left in
+    finds_on faults seen start a.from a.to old (after_stop a.t old) at.leaves.later.grows
+    (found_stopped faults seen a.from a.to old a.t (others a.t (hit old)) k (act_calls k) (at.holds.uncalled up) known (d.answered.cause refl) (d.answered.used refl) (λ s e. own up down s e))
+
 -- So where it stopped the log, after the others were told:
-pub step_stopped : {D : Type 0} (faults : D → ℕ) (honest : Bool) (image : D → List ℕ → Type 0) (a : StepOf D) (mid : List Placed) (q : RunState) → IsStep faults honest image a → IsStopping faults honest a mid
+pub step_stopped : {D : Type 0} (faults : D → ℕ) (honest : Bool) (image : D → List ℕ → Type 0) (obeys : Bool) (seen : D → List ℕ) (a : StepOf D) (mid : List Placed) (q : RunState) → IsStep faults honest image a → IsStopping faults honest a mid
     → IsTrue a.from.is_up → IsFalse a.to.is_up → q.script ≡ a.run.script → q.objects ≡ a.run.objects → q.contexts ≡ a.run.contexts → HaveSameCalls (worlds_after a) q.worlds
     → ((u : TxNo) → state_of u q.worlds ≡ halted a.to.life (state_of u (worlds_after a))) → past_of q.trace ≡ put_at (λ u. Stopped) (hit (past_of mid)) (past_of mid)
-    → (((u : TxNo) → IsRecordKept (state_of u (worlds_after a))) → (u : TxNo) → IsRecordKept (state_of u q.worlds)) → IsStepped faults honest image a q
-step_stopped {D} faults honest image a mid q at d up down script objects contexts calls worlds told kept =
+    → (((u : TxNo) → IsRecordKept (state_of u (worlds_after a))) → (u : TxNo) → IsRecordKept (state_of u q.worlds))
+    → (IsTrue obeys → IsLeftAsWished faults seen (core (was a).world) (id_of (was a)) a.from a.to) → IsStepped faults honest image obeys seen a q
+step_stopped {D} faults honest image obeys seen a mid q at d up down script objects contexts calls worlds told kept left =
     let trace : past_of q.trace ≡ after_stop a.t (past_of a.run.trace) = stopped_trace faults honest a mid (past_of q.trace) d told in
     let here : state_of a.t q.worlds ≡ a.y =
     worlds a.t ∙ (ap (halted a.to.life) (state_here a.t a.run.worlds a.y at.made) ∙ halted_here a.to.life a.y d.stopped) in
@@ -236,6 +253,7 @@ step_stopped {D} faults honest image a mid q at d up down script objects context
         objects = objects;
         holds = stopped_holds faults honest image a mid q at d down script objects worlds told kept;
         tells = λ start tells. subst (λ (T : List Placed). Tells faults honest image start a.to T) (sym trace) (stopped_tells faults honest image start a mid at d up tells);
+        finds = λ is start found. subst (λ (T : List Placed). Finds faults seen start a.to T) (sym trace) (stopped_finds faults honest image seen start a mid at d up down (left is) found);
       };
       did = record {
         stepped = one_more faults honest a (state_of a.t q.worlds) d.did here;

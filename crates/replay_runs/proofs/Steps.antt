@@ -43,10 +43,12 @@ use Rattle.world_laws.specs.Left.{steps_left}
 use Rattle.turn_parts.specs.Runs.{untouched}
 use Rattle.turn_parts.proofs.Filling.{unfilled_commits}
 use Rattle.turn_parts.proofs.Turned.{turned_calls}
+use Rattle.replay_runs.specs.Found.{Finds, IsFoundIn}
 use Rattle.replay_runs.specs.LogRun.{LogGoes, LogStays}
 use Rattle.replay_runs.specs.Objects.{DoesGiven}
 use Rattle.replay_runs.specs.RunState.{Advances, AreNumbered, GoesWith, HaveSameCalls, Holds, IsRecordKept, IsTied, RunState, RunsOn, StepsGo, StepsOn, Tells, state_of}
 use Rattle.replay_runs.proofs.Deeds.{is_done, untelling_block, untelling_commit}
+use Rattle.replay_runs.proofs.Finding.{finds_on, found_block, found_done}
 use Rattle.replay_runs.proofs.Fitting.{fits_turn, goes_turn, had_turn}
 use Rattle.replay_runs.proofs.Goes.{MayTurn, acts_running, answered_down, answered_up, goes_step, named_in_replay, named_turn}
 use Rattle.replay_runs.proofs.NeverFull.{never_full, unfilled_written}
@@ -332,6 +334,53 @@ step_tells {D} faults honest image start a at d same T tells =
     by Stops may i q e = absurd may
     by (Restarts found) may i q e = absurd may
 
+-- What restarts find stays right: an act that was done counts its calls, and no other step is at the log.
+done_found : {D : Type 0} (faults : D → ℕ) (honest : Bool) (image : D → List ℕ → Type 0) (seen : D → List ℕ) (a : StepOf D) → IsStep faults honest image a → may_coordinate (core (was a).world) Done ≡ true
+    → Answered faults (core (was a).world) (id_of (was a)) (was a).life a.from a.to Done → (T : List Placed) → IsFoundIn seen a.from T
+    → IsFoundIn seen a.to (onto T (placed a.t (written a.from.is_up a.t.value (was a).world (Coordinates Done))))
+unfolding block_at
+done_found {D} faults honest image seen a at may e T f =
+    let up = answered_up faults (core z.world) (id_of z) z.life a.from a.to Done (λ k. cc) (λ k. cc) e in
+    subst (λ (es : List Entry). IsFoundIn seen a.to (onto T (placed a.t es))) (sym (written_up a.from.is_up a.t.value z.world (Coordinates Done) up.0)) (by (may_log (core z.world)) refl up.0 up.1)
+  where
+    z : TxState
+    z = was a
+
+    by : (b : Bool) → may_log (core (was a).world) ≡ b → a.from.is_up ≡ true → a.to.is_up ≡ true
+        → IsFoundIn seen a.to (onto T (placed a.t (if b then appended (core (was a).world) Done else freed Done)))
+    by true l up there =
+        let calls : act_calls (core (was a).world) ≡ 4 = ap (λ (c : Bool). if c then 4 else 2) l in
+        let counted = e.counted refl (inl l) in
+        found_block seen a.to ((Transaction a.t, Logged) ∷ T) a.t (commit_sends (follow (core (was a).world) Logged)) (untelling_commit (follow (core (was a).world) Logged))
+        (found_done seen a.from a.to T a.t Logged 4 refl refl there (subst (λ n. stop_in n a.from.armed ≡ None) calls counted.0) (subst (λ n. a.to.armed ≡ after_calls n a.from.armed) calls counted.1) f)
+    by false l up there =
+        let calls : act_calls (core (was a).world) ≡ 2 = ap (λ (c : Bool). if c then 4 else 2) l in
+        let counted = e.counted refl (inr (free_had (was a) a.from up l may (at.holds.kept a.t).ours (at.holds.had a.t))) in
+        found_done seen a.from a.to T a.t Freed 2 refl refl there (subst (λ n. stop_in n a.from.armed ≡ None) calls counted.0) (subst (λ n. a.to.armed ≡ after_calls n a.from.armed) calls counted.1) f
+
+step_found : {D : Type 0} (faults : D → ℕ) (honest : Bool) (image : D → List ℕ → Type 0) (seen : D → List ℕ) (a : StepOf D) → IsStep faults honest image a → (d : DidStep faults honest a) → a.to.is_up ≡ a.from.is_up
+    → (T : List Placed) → IsFoundIn seen a.from T → IsFoundIn seen a.to (onto T (placed a.t (wrote faults honest a d)))
+step_found {D} faults honest image seen a at d same T f =
+    by d.does.step (named_turn (was a).world d.does.name d.does.step d.does.named) d.in_replay (unstopped faults (was a) a.from a.to d.does.step same d.does.done.answered) d.does.done.answered
+  where
+    beside : (m : Step) → is_done m ≡ false → is_restarting m ≡ false → a.to ≡ a.from → IsFoundIn seen a.to (onto T (placed a.t (written a.from.is_up a.t.value (was a).world m)))
+    beside m done restarting e =
+        let es = written a.from.is_up a.t.value (was a).world m in
+        subst (λ (l : LogState D). IsFoundIn seen l (onto T (placed a.t es))) (sym e) (found_block seen a.from T a.t es (untelling_written a.from.is_up a.t.value (was a).world m done restarting) f)
+
+    by : (m : Step) → MayTurn (was a).world m → is_in_replay m ≡ true → is_stopping m ≡ false → IsAnswered faults (was a) a.from a.to m
+        → IsFoundIn seen a.to (onto T (placed a.t (written a.from.is_up a.t.value (was a).world m)))
+    by (Coordinates Done) may i n e = done_found faults honest image seen a at may e T f
+    by (Coordinates Full) may i n e = beside (Coordinates Full) refl refl (e.unchanged (λ k. cc) (λ k. cc))
+    by (Coordinates StoppedNow) may i n e = absurd cc
+    by (Coordinates StoppedBefore) may i n e = absurd cc
+    by (Calls n c k j) may i q e = beside (Calls n c k j) refl refl e
+    by (Replies n r) may i q e = beside (Replies n r) refl refl e
+    by Acts may i q e = beside Acts refl refl e
+    by (Delivers c r) may i q e = beside (Delivers c r) refl refl e
+    by Stops may i q e = absurd may
+    by (Restarts found) may i q e = absurd may
+
 -- Nothing more is pending in the trace than in the world.
 pub none_pending : (s : List Line) (o : ℕ) (ws : List TxState) (T : List Placed) (t : TxNo) (k : ℕ) → IsTied s o t T (state_of t ws) → IsOwn t (state_of t ws) → kth (pending (state_of t ws).world) k ≡ None
     → kth (pending (world_at s t T)) k ≡ None
@@ -357,9 +406,9 @@ pub none_beyond : (r : RunState) (t : TxNo) (k : ℕ) → IsTied r.script r.obje
 none_beyond r t k tied more = untouched_pending r.script r.objects r.worlds (past_of r.trace) t k tied (state_unreached t r.worlds more)
 
 -- What a step makes of a run.
-pub record IsStepped {D : Type 0} (faults : D → ℕ) (honest : Bool) (image : D → List ℕ → Type 0) (a : StepOf D) (q : RunState) : Type 0 where
+pub record IsStepped {D : Type 0} (faults : D → ℕ) (honest : Bool) (image : D → List ℕ → Type 0) (obeys : Bool) (seen : D → List ℕ) (a : StepOf D) (q : RunState) : Type 0 where
   pub goes : StepsGo faults honest image a.from a.to a.run q
-  pub runs : RunsOn faults honest image a.from a.to a.run q
+  pub runs : RunsOn faults honest image obeys seen a.from a.to a.run q
   pub did : StepsOn a.t a.k a.from.is_up a.to.is_up a.run q
 
 -- one more step was done of the transaction, as it is now
@@ -369,10 +418,10 @@ one_more faults honest a z d here m start before =
     subst (λ (v : TxState). HasStepped a.t.value a.k (suc m) start v.world) (sym here) (has_stepped faults a.t a.k m start a.given (was a) a.y a.from a.to d.own.transaction d.does before)
 
 -- Where it left the log up, if it was:
-pub step_done : {D : Type 0} (faults : D → ℕ) (honest : Bool) (image : D → List ℕ → Type 0) (a : StepOf D) (new : List Placed) → IsStep faults honest image a
+pub step_done : {D : Type 0} (faults : D → ℕ) (honest : Bool) (image : D → List ℕ → Type 0) (obeys : Bool) (seen : D → List ℕ) (a : StepOf D) (new : List Placed) → IsStep faults honest image a
     → (IsTrue a.from.is_up → IsTrue a.to.is_up) → ((es : List Entry) → a.y.world.past ≡ onto (was a).world.past es → new ≡ a.run.trace ++ placed a.t es)
-    → IsStepped faults honest image a (run_with a (worlds_after a) new)
-step_done {D} faults honest image a new at stays written_down =
+    → IsStepped faults honest image obeys seen a (run_with a (worlds_after a) new)
+step_done {D} faults honest image obeys seen a new at stays written_down =
     let d = did_step faults honest image a at in
     let es = wrote faults honest a d in
     let same : a.to.is_up ≡ a.from.is_up = same_up a.to.is_up a.from.is_up at.leaves.later.still stays in
@@ -386,6 +435,9 @@ step_done {D} faults honest image a new at stays written_down =
         holds = step_holds faults honest image a new at d same noted;
         tells = λ start tells.
             subst (λ (T : List Placed). Tells faults honest image start a.to T) (sym noted) (step_tells faults honest image start a at d same (past_of a.run.trace) tells);
+        finds = λ is start found.
+            subst (λ (T : List Placed). Finds faults seen start a.to T) (sym noted)
+            (finds_on faults seen start a.from a.to (past_of a.run.trace) (onto (past_of a.run.trace) (placed a.t es)) at.leaves.later.grows (λ f. inr (step_found faults honest image seen a at d same (past_of a.run.trace) f)) found);
       };
       did = record {
         stepped = one_more faults honest a (state_of a.t (worlds_after a)) d here;

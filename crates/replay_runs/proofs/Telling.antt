@@ -21,11 +21,11 @@ use Rattle.coordinator_log.specs.Stop.{after_calls, stop_in}
 use Rattle.coordinator_log.specs.declared.stop.ArmedStop.{ArmedStop}
 use Rattle.turn_parts.specs.Counted.{AreCounted, LAST, is_left}
 use Rattle.turn_parts.specs.Reopening.{is_no_log_answer}
-use Rattle.turn_parts.specs.Runs.{is_log_full}
+use Rattle.script_histories.specs.LogQuiet.{is_found_full, is_log_full}
 use Rattle.turn_parts.proofs.Counting.{counted_armed, counted_stopped, not_fewer, one_more}
 use Rattle.replay_runs.specs.Exact.{faults_made, is_fault_made, is_left_over, left_after, meets_no_stop, stops_exactly}
 use Rattle.replay_runs.specs.LogRun.{IsArmedBy, IsCounted, LogGoes}
-use Rattle.replay_runs.specs.RunState.{Tells, finds_full}
+use Rattle.replay_runs.specs.RunState.{Tells}
 use Rattle.replay_runs.proofs.TellingStops.{IsQuiet, broken_on, counted_at, counted_on, left_unarmed, open_on, same_count, still_armed, unmet, unreached}
 
 -- the entry tells nothing of the calls and the openings of the log
@@ -36,7 +36,7 @@ is_untelling (Restarted b) = false
 is_untelling _ = true
 
 -- so it makes no call, meets no stop, and finds nothing
-untelling_calls : (x : Entry) (m : ℕ) → is_untelling x ≡ true → calls_of x + m ≡ m
+pub untelling_calls : (x : Entry) (m : ℕ) → is_untelling x ≡ true → calls_of x + m ≡ m
 untelling_calls Logged m k = absurd cc
 untelling_calls Freed m k = absurd cc
 untelling_calls x m k = omega arith
@@ -59,13 +59,13 @@ counted_same b n stop T x l quiet k = counted_on b n stop T x (subst (AreCounted
 
 -- An entry that tells nothing may come to the trace.
 tells_entry : {D : Type 0} (faults : D → ℕ) (honest : Bool) (image : D → List ℕ → Type 0) (start log : LogState D) (T : List Placed) (x : Placed) → at_log (x ∷ T) ≡ at_log T → IsQuiet T x
-    → found_behind (x ∷ []) ≡ 0 → opens_right [] x ≡ true → (IsTrue honest → open_records start.slots ≡ [] → finds_full x ≡ false) → Tells faults honest image start log T → Tells faults honest image start log (x ∷ T)
+    → found_behind (x ∷ []) ≡ 0 → opens_right [] x ≡ true → (IsTrue honest → open_records start.slots ≡ [] → is_found_full x ≡ false) → Tells faults honest image start log T → Tells faults honest image start log (x ∷ T)
 tells_entry faults honest image start log T x l quiet none here room k = record {
   counted = counted_same (faults start.disk) (faults log.disk) log.armed T x l quiet k.counted;
   foreign = k.foreign;
   opens = λ is empty. open_on x T none here (k.opens is empty);
   unlike = λ is. ap (has is_no_log_answer) l ∙ k.unlike is;
-  unfilled = λ is empty. or_false (finds_full x) (has finds_full T) (room is empty) (k.unfilled is empty);
+  unfilled = λ is empty. or_false (is_found_full x) (has is_found_full T) (room is empty) (k.unfilled is empty);
 }
 
 -- So may a block of a transaction that tells nothing,
@@ -134,7 +134,7 @@ done_entry faults honest image start from to T t x n which goes same passes left
     | inr e ↦ ap (λ y. found_behind ((Transaction t, y) ∷ [])) e.0
   ]) refl (k.opens is empty);
   unlike = k.unlike;
-  unfilled = λ is empty. or_false (is_log_full x) (has finds_full T) (elim which [ inl e ↦ ap is_log_full e.0 | inr e ↦ ap is_log_full e.0 ]) (k.unfilled is empty);
+  unfilled = λ is empty. or_false (is_log_full x) (has is_found_full T) (elim which [ inl e ↦ ap is_log_full e.0 | inr e ↦ ap is_log_full e.0 ]) (k.unfilled is empty);
 }
 
 -- an append or a free that was done, with what its transaction writes after it

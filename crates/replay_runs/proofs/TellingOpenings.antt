@@ -24,7 +24,8 @@ use Rattle.turn_parts.specs.Counted.{LAST, is_left}
 use Rattle.turn_parts.specs.Reopening.{is_no_log_answer}
 use Rattle.replay_runs.specs.Exact.{faults_made, is_left_over}
 use Rattle.replay_runs.specs.LogRun.{IsCounted, LogGoes}
-use Rattle.replay_runs.specs.RunState.{Tells, finds_full}
+use Rattle.script_histories.specs.LogQuiet.{is_found_full}
+use Rattle.replay_runs.specs.RunState.{Tells}
 use Rattle.replay_runs.proofs.Telling.{counted_same, tells_put}
 use Rattle.replay_runs.proofs.TellingStops.{counted_on, open_on, open_same}
 
@@ -104,7 +105,7 @@ open_found found ts n T e k =
     open_put found ts [] ((Log, LogWord (Opened n)) ∷ T) (and_both (n == found_behind block) (open_right ((Log, LogWord (Opened n)) ∷ block) T) here (open_same ((Log, LogWord (Opened n)) ∷ block) [] T refl ∙ k))
 
 -- no transaction that starts again finds the log full
-put_unfilled : (found : ℕ → Bool) (ts : List TxNo) (T : List Placed) → has finds_full (put_at (λ t. Restarted (found t.value)) ts T) ≡ has finds_full T
+put_unfilled : (found : ℕ → Bool) (ts : List TxNo) (T : List Placed) → has is_found_full (put_at (λ t. Restarted (found t.value)) ts T) ≡ has is_found_full T
 put_unfilled found [] T = refl
 put_unfilled found (t ∷ ts) T = put_unfilled found ts ((Transaction t, Restarted (found t.value)) ∷ T)
 

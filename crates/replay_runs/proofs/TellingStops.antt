@@ -87,7 +87,7 @@ some_none : {X : Type 0} (x : X) → Some x ≡ None → ⊥
 some_none x e = cc
 
 -- a stop that isn't reached in n calls passes as many
-passed : (n : ℕ) (s : ArmedStop) → stop_in n (Some s) ≡ None → nat_lt s.passes n ≡ false
+pub passed : (n : ℕ) (s : ArmedStop) → stop_in n (Some s) ≡ None → nat_lt s.passes n ≡ false
 passed n s e = elim (cases_Bool (nat_lt s.passes n)) [
   | inl now ↦ absurd (some_none s.image (rw now at e))
   | inr later ↦ later

@@ -1,5 +1,6 @@
 pub mod Ending
 pub mod Exact
+pub mod Found
 pub mod Lawful
 pub mod LogRun
 pub mod Objects

@@ -6,7 +6,6 @@ use Rattle.dtx_values.specs.declared.number.TxNo.{TxNo}
 use Rattle.dtx_values.specs.declared.number.TheConstants.TxNo.{MAX}
 use Rattle.dtx_values.specs.declared.call.Call.{Call}
 use Rattle.dtx_values.specs.declared.script.Line.{Line}
-use Rattle.dtx_values.specs.declared.trace.Place.TheVariants.{Transaction}
 use Rattle.dtx_model.specs.Words.{always, each, has, kth, past_of}
 use Rattle.dtx_model.specs.AtLog.{at_log, is_called, is_log_up, open_right}
 use Rattle.dtx_model.specs.Tied.{tied as is_tied_history}
@@ -25,8 +24,10 @@ use Rattle.tx_world.specs.AtLog.{AreFit, Fits, IsHad, IsOurs, id_of}
 use Rattle.tx_world.specs.Prepared.{NamesPrepared}
 use Rattle.tx_world.specs.State.{TxState, is_hit_by, is_reached_by}
 use Rattle.tx_world.specs.Tried.{IsTried}
-use Rattle.turn_parts.specs.Runs.{is_log_full, untouched}
+use Rattle.script_histories.specs.LogQuiet.{is_found_full}
+use Rattle.turn_parts.specs.Runs.{untouched}
 use Rattle.turn_parts.specs.Reopening.{is_no_log_answer}
+use Rattle.replay_runs.specs.Found.{Finds}
 use Rattle.replay_runs.specs.LogRun.{IsCounted, IsForeignKept, LogGoes, LogStays}
 
 -- its script, how many managers have an object, the transactions by number up to the last that was called, the contexts of its actors, and its trace
@@ -86,11 +87,6 @@ pub record Holds {D : Type 0} (honest : Bool) (image : D → List ℕ → Type 0
   pub sound : IsTrue honest → (t : TxNo) → is_tied_history (state_of t r.worlds).world.past ≡ true
   pub named : IsTrue honest → (t : TxNo) → NamesPrepared (state_of t r.worlds)
 
--- an append of a transaction found the log full
-abbrev pub finds_full : Placed → Bool
-finds_full (Transaction t, x) = is_log_full x
-finds_full _ = false
-
 -- What the trace T tells of the log, where `start` is the log before the first step: the faults and the armed stop; and where the log is honest the records that are no transaction's stay, if it had no record, each opening
 -- found as many records as its step says, and no append found it full; and each restart found a log.
 pub record Tells {D : Type 0} (faults : D → ℕ) (honest : Bool) (image : D → List ℕ → Type 0) (start log : LogState D) (T : List Placed) : Type 0 where
@@ -98,14 +94,16 @@ pub record Tells {D : Type 0} (faults : D → ℕ) (honest : Bool) (image : D �
   pub foreign : IsTrue honest → IsForeignKept image (open_records start.slots) log
   pub opens : IsTrue honest → open_records start.slots ≡ [] → open_right [] T ≡ true
   pub unlike : IsTrue honest → has is_no_log_answer (at_log T) ≡ false
-  pub unfilled : IsTrue honest → open_records start.slots ≡ [] → has finds_full T ≡ false
+  pub unfilled : IsTrue honest → open_records start.slots ≡ [] → has is_found_full T ≡ false
 
--- How a part of a run goes, over a log that was `from` before it and is `to` after it: the script and the objects stay, what holds of a run holds of it, and what the trace told of the log it still tells.
-pub record RunsOn {D : Type 0} (faults : D → ℕ) (honest : Bool) (image : D → List ℕ → Type 0) (from to : LogState D) (old new : RunState) : Type 0 where
+-- How a part of a run goes, over a log that was `from` before it and is `to` after it: the script and the objects stay, what holds of a run holds of it, what the trace told of the log it still tells, and over a disk that obeys what
+-- restarts find is still right.
+pub record RunsOn {D : Type 0} (faults : D → ℕ) (honest : Bool) (image : D → List ℕ → Type 0) (obeys : Bool) (seen : D → List ℕ) (from to : LogState D) (old new : RunState) : Type 0 where
   pub script : new.script ≡ old.script
   pub objects : new.objects ≡ old.objects
   pub holds : Holds honest image to new
   pub tells : (start : LogState D) → Tells faults honest image start from (past_of old.trace) → Tells faults honest image start to (past_of new.trace)
+  pub finds : IsTrue obeys → (start : LogState D) → Finds faults seen start from (past_of old.trace) → Finds faults seen start to (past_of new.trace)
 
 -- each call that was entered is one of a line before this one
 abbrev pub IsBelow : ℕ → TxState → Type 0

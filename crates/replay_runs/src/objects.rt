@@ -8,11 +8,13 @@ ghost use Rattle.dtx_model.specs.Caused.{is_up_to};
 ghost use Rattle.dtx_model.specs.Replies.{fits};
 ghost use Rattle.dtx_model.specs.Steps.{pending};
 ghost use Rattle.dtx_model.specs.Words.{kth};
+ghost use Rattle.dtx_model.specs.World.{core};
 ghost use Rattle.coordinator_log.specs.Slots.{open_records};
-ghost use Rattle.tx_world.specs.AtLog.{Fits};
+ghost use Rattle.tx_world.specs.AtLog.{Fits, id_of};
 ghost use Rattle.tx_world.specs.Leaves.{Leaves};
 ghost use Rattle.tx_world.specs.Stepping.{reply_in};
 ghost use Rattle.world_laws.specs.Left.{steps_left};
+ghost use Rattle.world_parts.specs.Found.{IsLeftAsWished};
 ghost use Rattle.replay_runs.specs.Objects.{DoesGiven, MayReply, fitting, reply_by};
 
 use coordinator_log::Log;
@@ -71,6 +73,7 @@ pub fn do_kth<D: Disk>(
     ensures some { result ≡ Ok true → DoesGiven D.faults reply k world.old log.old world.new log.new }
     ensures nearer { result ≡ Ok true → steps_left world.new.world < steps_left world.old.world }
     ensures leaves { Leaves D.honest D.image D.faults world.old log.old world.new log.new }
+    ensures found { IsTrue D.obeys → IsLeftAsWished D.faults D.seen (core world.old.world) (id_of world.old) log.old log.new }
     ensures memory { OnErr result ((world.new ≡ world.old) × (log.new ≡ log.old)) }
 {
     // A proof sees here that the world is a run, each step of which leaves fewer.

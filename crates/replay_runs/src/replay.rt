@@ -27,7 +27,8 @@ ghost use Rattle.turn_parts.specs.Runs.{untouched};
 ghost use Rattle.turn_parts.specs.Runs.{AreTied, IsNeverFull};
 ghost use Rattle.replay_runs.specs.Ending.{EndsAs, HasNone};
 ghost use Rattle.replay_runs.specs.Lawful.{IsLawful};
-ghost use Rattle.replay_runs.specs.LogRun.{IsCounted, LogGoes, LogStays};
+ghost use Rattle.replay_runs.specs.Found.{finds_as_wished};
+ghost use Rattle.replay_runs.specs.LogRun.{IsCounted, LogGoes, LogStays, MetNoFault};
 ghost use Rattle.replay_runs.specs.Run.{IsRunOf};
 ghost use Rattle.replay_runs.specs.RunState.{AreBelow, AreSettledBelow, HasNoStep, HaveSameCalls, Holds, IsBelow, IsRecordKept, IsRoundAt, IsTied, IsToPlan, RunsOn, Settles, StepsGo, StepsOn, halted, record_in, reopened, state_of};
 ghost use Rattle.script_calls.specs.Scoped.{AreOnce, AreOpen, IsUnopened, calls_given, nothing_open, rollbacks, rolled_at, scopes_at};
@@ -174,7 +175,7 @@ impl<'a> Run<'a> {
         requires below { IsBelow n (state_of t self.old.worlds) }
         requires answers { MayAnswer t.value (state_of t self.old.worlds).world c.now done }
         ensures contexts { self.new.contexts ≡ self.old.contexts }
-        ensures runs { OnOk result (RunsOn D.faults D.honest D.image log.now log.now self.old self.new) }
+        ensures runs { OnOk result (RunsOn D.faults D.honest D.image D.obeys D.seen log.now log.now self.old self.new) }
         ensures others { (u : TxNo) → u ≢ t → state_of u self.new.worlds ≡ state_of u self.old.worlds }
         ensures entered { OnOk result (IsBelow (n + 1) (state_of t self.new.worlds)) }
         ensures done { OnOk result (past_of self.new.trace ≡ after_turn self.old.script t (Calls n actor c.now done) (past_of self.old.trace)) }
@@ -245,7 +246,7 @@ impl<'a> Run<'a> {
     fn step<D: Disk>(&mut self, log: &mut Log<D>, t: TxNo, k: u8) -> Result<bool, WorldError>
         requires holds { Holds D.honest D.image log.old self.old }
         ensures goes { StepsGo D.faults D.honest D.image log.old log.new self.old self.new }
-        ensures runs { OnOk result (RunsOn D.faults D.honest D.image log.old log.new self.old self.new) }
+        ensures runs { OnOk result (RunsOn D.faults D.honest D.image D.obeys D.seen log.old log.new self.old self.new) }
         ensures did { result ≡ Ok true → StepsOn t k log.old.is_up log.new.is_up self.old self.new }
         ensures none { result ≡ Ok false → HasNoStep t k self.old }
         ensures unchanged { result ≡ Ok false → (self.new ≡ self.old) × (log.new ≡ log.old) }
@@ -284,7 +285,7 @@ impl<'a> Run<'a> {
     ) -> Result<u16, WorldError>
         requires holds { Holds D.honest D.image log.old self.old }
         ensures goes { StepsGo D.faults D.honest D.image log.old log.new self.old self.new }
-        ensures runs { OnOk result (RunsOn D.faults D.honest D.image log.old log.new self.old self.new) }
+        ensures runs { OnOk result (RunsOn D.faults D.honest D.image D.obeys D.seen log.old log.new self.old self.new) }
         ensures did { IfOk result (λ m. HasDone t.value (state_of t self.new.worlds).world k n m) }
         ensures done { IfOk result (λ m. HasDoneAt self.old.script t k n m (past_of self.old.trace) (past_of self.new.trace)) }
     {
@@ -300,7 +301,7 @@ impl<'a> Run<'a> {
     fn settle<D: Disk>(&mut self, log: &mut Log<D>, t: TxNo) -> Result<(), WorldError>
         requires holds { Holds D.honest D.image log.old self.old }
         ensures goes { StepsGo D.faults D.honest D.image log.old log.new self.old self.new }
-        ensures runs { OnOk result (RunsOn D.faults D.honest D.image log.old log.new self.old self.new) }
+        ensures runs { OnOk result (RunsOn D.faults D.honest D.image D.obeys D.seen log.old log.new self.old self.new) }
         ensures settled { OnOk result (pending (state_of t self.new.worlds).world ≡ []) }
         ensures done { OnOk result (Settles self.old.script t self.old.trace self.new.trace) }
         ensures turns { OnOk result ((start : List Placed) → IsRoundAt self.old.script start t.value (past_of self.old.trace) → IsRoundAt self.old.script start (t.value + 1) (past_of self.new.trace)) }
@@ -317,7 +318,7 @@ impl<'a> Run<'a> {
     fn settle_round<D: Disk>(&mut self, log: &mut Log<D>) -> Result<(), WorldError>
         requires holds { Holds D.honest D.image log.old self.old }
         ensures goes { StepsGo D.faults D.honest D.image log.old log.new self.old self.new }
-        ensures runs { OnOk result (RunsOn D.faults D.honest D.image log.old log.new self.old self.new) }
+        ensures runs { OnOk result (RunsOn D.faults D.honest D.image D.obeys D.seen log.old log.new self.old self.new) }
         ensures turns { OnOk result ((start : List Placed) → IsRoundAt self.old.script start 1 (past_of self.old.trace) → IsRoundAt self.old.script start 1 (past_of self.new.trace)) }
         ensures settled { OnOk result (log.new.is_up ≡ log.old.is_up → AreSettledBelow self.old.script (TxNo.MAX + 1) (past_of self.new.trace)) }
     {
@@ -332,7 +333,7 @@ impl<'a> Run<'a> {
     fn settle_all<D: Disk>(&mut self, log: &mut Log<D>) -> Result<(), WorldError>
         requires holds { Holds D.honest D.image log.old self.old }
         ensures goes { StepsGo D.faults D.honest D.image log.old log.new self.old self.new }
-        ensures runs { OnOk result (RunsOn D.faults D.honest D.image log.old log.new self.old self.new) }
+        ensures runs { OnOk result (RunsOn D.faults D.honest D.image D.obeys D.seen log.old log.new self.old self.new) }
         ensures turns { OnOk result ((start : List Placed) → IsRoundAt self.old.script start 1 (past_of self.old.trace) → IsRoundAt self.old.script start 1 (past_of self.new.trace)) }
         ensures settled { OnOk result (AreSettledBelow self.old.script (TxNo.MAX + 1) (past_of self.new.trace)) }
     {
@@ -381,7 +382,7 @@ impl<'a> Run<'a> {
         requires given { (t : TxNo) (c : Call) (i : ℕ) → slice_get (rollbacks (rolled_at actor self.old.contexts)) i ≡ Some (t, c) → IsCallOf self.old.script t.value n actor c }
         requires once { AreOnce (rolled_at actor self.old.contexts) }
         ensures contexts { self.new.contexts ≡ self.old.contexts }
-        ensures runs { OnOk result (RunsOn D.faults D.honest D.image log.now log.now self.old self.new) }
+        ensures runs { OnOk result (RunsOn D.faults D.honest D.image D.obeys D.seen log.now log.now self.old self.new) }
         ensures entered { OnOk result (AreBelow (n + 1) self.new.worlds) }
         ensures done { OnOk result (past_of self.new.trace ≡ after_calls self.old.script n actor (rollbacks (rolled_at actor self.old.contexts)) (past_of self.old.trace)) }
     {
@@ -401,7 +402,7 @@ impl<'a> Run<'a> {
         requires open { AreOpen self.old.contexts (lines_before self.old.script n) }
         requires unopened { IsUnopened l.now.body (scopes_at l.now.actor self.old.contexts) }
         requires no_call { call_of self.old.script l.now.body ≡ None }
-        ensures runs { OnOk result (RunsOn D.faults D.honest D.image log.now log.now self.old self.new) }
+        ensures runs { OnOk result (RunsOn D.faults D.honest D.image D.obeys D.seen log.now log.now self.old self.new) }
         ensures entered { OnOk result (AreBelow (n + 1) self.new.worlds) }
         ensures done { OnOk result (past_of self.new.trace ≡ after_scope self.old.script n l.now (scopes_at l.now.actor self.old.contexts) (past_of self.old.trace)) }
         ensures scopes { OnOk result ((before : List Line) → AreOpen self.old.contexts before → AreOpen self.new.contexts (l.now ∷ before)) }
@@ -428,7 +429,7 @@ impl<'a> Run<'a> {
         ensures contexts { self.new.contexts ≡ self.old.contexts }
         ensures log { LogGoes D.faults D.honest D.image log.old log.new }
         ensures stays { LogStays D.faults log.old log.new }
-        ensures runs { OnOk result (RunsOn D.faults D.honest D.image log.old log.new self.old self.new) }
+        ensures runs { OnOk result (RunsOn D.faults D.honest D.image D.obeys D.seen log.old log.new self.old self.new) }
         ensures entered { OnOk result (AreBelow (n + 1) self.new.worlds) }
         ensures done { OnOk result (CallRan self.old.script actor n (Some (t, c.now)) (past_of self.old.trace) (past_of self.new.trace)) }
     {
@@ -460,7 +461,7 @@ impl<'a> Run<'a> {
         ensures contexts { self.new.contexts ≡ self.old.contexts }
         ensures log { LogGoes D.faults D.honest D.image log.old log.new }
         ensures life { log.new.life ≡ log.old.life }
-        ensures runs { OnOk result (RunsOn D.faults D.honest D.image log.old log.new self.old self.new) }
+        ensures runs { OnOk result (RunsOn D.faults D.honest D.image D.obeys D.seen log.old log.new self.old self.new) }
         ensures done { OnOk result (past_of self.new.trace ≡ at_the_log (LogWord (Armed k image)) (at_the_log (Called n actor Fine) (past_of self.old.trace))) }
     {
         self.trace.reserve(2)?;
@@ -484,7 +485,7 @@ impl<'a> Run<'a> {
         ensures contexts { self.new.contexts ≡ self.old.contexts }
         ensures log { LogGoes D.faults D.honest D.image log.old log.new }
         ensures life { log.new.life ≤ log.old.life + 1 }
-        ensures runs { OnOk result (RunsOn D.faults D.honest D.image log.old log.new self.old self.new) }
+        ensures runs { OnOk result (RunsOn D.faults D.honest D.image D.obeys D.seen log.old log.new self.old self.new) }
         ensures calls { HaveSameCalls self.old.worlds self.new.worlds }
         ensures done { OnOk result ((x : Reopening) × (past_of self.new.trace ≡ after_restart n actor x (past_of self.old.trace))) }
     {
@@ -520,7 +521,7 @@ impl<'a> Run<'a> {
         ensures log { LogGoes D.faults D.honest D.image log.old log.new }
         ensures stays { is_log_line l.now.body ≡ false → LogStays D.faults log.old log.new }
         ensures life { log.new.life ≤ log.old.life + 1 }
-        ensures runs { OnOk result (RunsOn D.faults D.honest D.image log.old log.new self.old self.new) }
+        ensures runs { OnOk result (RunsOn D.faults D.honest D.image D.obeys D.seen log.old log.new self.old self.new) }
         ensures entered { OnOk result (AreBelow (n + 1) self.new.worlds) }
         ensures done { OnOk result ((before : List Line) → length before + 1 ≡ n → before ≡ lines_before self.old.script n → AreOpen self.old.contexts before → LineRan self.old.script before l.now (past_of self.old.trace) (past_of self.new.trace)) }
         ensures scopes { OnOk result ((before : List Line) → AreOpen self.old.contexts before → AreOpen self.new.contexts (l.now ∷ before)) }
@@ -545,7 +546,7 @@ impl<'a> Run<'a> {
         requires life { log.old.life ≤ 2 ^ 62 }
         ensures log { LogGoes D.faults D.honest D.image log.old log.new }
         ensures stays { has_log_line self.old.script ≡ false → LogStays D.faults log.old log.new }
-        ensures runs { OnOk result (RunsOn D.faults D.honest D.image log.old log.new self.old self.new) }
+        ensures runs { OnOk result (RunsOn D.faults D.honest D.image D.obeys D.seen log.old log.new self.old self.new) }
         ensures ran { OnOk result (LinesRan self.old.script (past_of self.old.script) (past_of self.new.trace)) }
     {
         let lines = self.plans.lines();
@@ -590,6 +591,7 @@ fn trace_of<D: Disk>(
     ensures tied { IsTrue D.honest → IfOk result (λ T. AreTied T) }
     ensures up { IfOk result (λ T. log.new.is_up ≡ is_log_up (past_of T)) }
     ensures ends { IsTrue D.honest → IfOk result (λ T. EndsAs D.image (open_records log.old.slots) log.new (past_of T)) }
+    ensures found { IsTrue D.obeys → MetNoFault D.faults log.old.disk log.new.disk → IfOk result (λ T. finds_as_wished (past_of T) ≡ true) }
 {
     // A proof sees here, and at the end, that each image has the records of a log that is up.
     let _ = log.is_up();
@@ -602,6 +604,9 @@ fn trace_of<D: Disk>(
 
 /// Replays a script: runs its lines in order, and settles its transactions, over a log that is up, on which no stop is armed, that has no record of the script's transactions, and whose life is at
 /// most 2^62. A stop of the log stands in the trace, and so does a fault of the disk, which stops it.
+///
+/// Over a disk that obeys and meets no fault, the restart after a stop that was reached finds the record of the transaction whose act was stopped as the stop tells: an append stopped with `Keep` at its third or
+/// fourth device call has left it, and a free stopped with `Lose`; else it isn't there.
 ///
 /// The object at place k of `resources`, from 0, is that of manager r(k + 1). It hears each note to which a reply of one of its manager's enlistments is due, and its answer is the reply. The planned
 /// reply is taken where there is no object, as for volatiles, and where it gives no answer or one that doesn't fit the note. An enlistment that plans no reply to a note stays silent, whatever its
@@ -623,9 +628,10 @@ pub fn run_replay<D: Disk>(
     requires none { IsTrue D.honest → HasNone (open_records log.old.slots) }
 
     // The trace: a run of the script in the order of a replay, which is a settled history. On an honest disk each restart in it found what may be found; and so is each trace without a restart. Where that is so, it has one outcome for each
-    // transaction, and is complete.
+    // transaction, and is complete. And over a disk that obeys and met no fault, a restart finds the record of the transaction whose act was stopped exactly where the armed stop leaves it.
     ensures replay { IfOk result (λ T. IsRunOf s.now (length resources.old) (D.faults log.old.disk) (D.faults log.new.disk) (D.honest && is_empty (open_records log.old.slots)) T) }
     ensures lawful { IfOk result (IsLawful D.honest (is_empty (open_records log.old.slots)) s.now) }
+    ensures found { IsTrue D.obeys → MetNoFault D.faults log.old.disk log.new.disk → IfOk result (λ T. finds_as_wished (past_of T) ≡ true) }
 
     // The log.
     ensures up { IfOk result (λ T. log.new.is_up ≡ is_log_up (past_of T)) }

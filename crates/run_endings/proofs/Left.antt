@@ -168,3 +168,8 @@ still_entered old new same all =
 pub all_ok : {A E P Q R S : Type 0} (r : Result A E) → (P → Q → R → S) → OnOk r P → OnOk r Q → OnOk r R → OnOk r S
 all_ok (Ok x) f p q r = f p q r
 all_ok (Err e) f p q r = p
+
+-- two facts where there is no error
+pub both_ok : {A E : Type 0} (P Q : Type 0) (r : Result A E) → OnOk r P → OnOk r Q → OnOk r (P × Q)
+both_ok P Q (Ok x) p q = (p, q)
+both_ok P Q (Err e) p q = p

@@ -1,4 +1,5 @@
 pub mod ByNumber
+pub mod FalseOrders
 pub mod Left
 pub mod Settling
 pub mod Untied

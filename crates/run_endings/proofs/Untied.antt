@@ -6,6 +6,7 @@ use Rattle.std.proofs.lemmas.List.{get_or-set_same, length-set}
 use Rattle.std.proofs.lemmas.List.Elements.{All-more}
 use Rattle.dtx_values.specs.declared.script.Line.{Line}
 use Rattle.coordinator_log.specs.State.{LogState}
+use Rattle.script_calls.specs.FirstCalls.{par_line}
 use Rattle.tx_cells.specs.Cell.{Cell}
 use Rattle.tx_cells.specs.Following.{followed, heard_opened, heard_stopped}
 use Rattle.tx_cells.specs.LogCell.{LogCell}
@@ -37,10 +38,11 @@ untied_at cells i y log e r less why made =
     stop_is (StopsFor (set cells i y) log) r (run_stop e) made (stops_at (set cells i y) y log e (i, subst (λ n. i < n) (sym (length-set cells i y)) less, get_or-set_same cells i y y less) why)
 
 -- what is wrong with one of the transactions keeps the run from its end
-pub wrong_at : {D : Type 0} (s : List Line) (cells : List Cell) (x : Cell) (log : LogCell D) (e : RunStop) → Contains cells x → IsWrong x log e → EndsFor s cells log e
+pub wrong_at : {D : Type 0} (s : List Line) (cells : List Cell) (x : Cell) (log : LogCell D) (e : RunStop) → Contains cells x → IsWrong (par_line s) x log e → EndsFor s cells log e
 wrong_at s cells x log Stop.Memory among wrong = absurd wrong
 wrong_at s cells x log (Stop.Differs d) among wrong = ((x, among, wrong.0), wrong.1)
-wrong_at s cells x log Stop.Astray among wrong = inr (x, among, wrong)
+wrong_at s cells x log Stop.Astray among (inl wrong) = inr (inl (x, among, wrong))
+wrong_at s cells x log Stop.Astray among (inr wrong) = inr (inr (inl (x, among, wrong)))
 
 -- what is so of the items before this one, and of it, is so of one more
 pub all_more : {A : Type 0} (P : A → Type 0) (xs : List A) (i : ℕ) (x : A) → i < length xs → x ≡ get_or xs i x → All P (take i xs) → P x → All P (take (i + 1) xs)

@@ -1,3 +1,4 @@
 pub mod Finished
 pub mod Finishing
+pub mod Highest
 pub mod Stops

@@ -11,6 +11,7 @@ use tx_cells::{CellState, LogState, Run};
 
 mod entering;
 mod following;
+mod ordering;
 mod settling;
 mod testing;
 
@@ -27,7 +28,7 @@ use testing::test_all;
 ///
 /// - [`RunStop::Memory`] where memory ran out.
 /// - [`RunStop::Differs`] where one of the states doesn't tie with the log.
-/// - [`RunStop::Astray`] where the states that are there then aren't those of the script's transactions, by number, or one of them doesn't follow the log.
+/// - [`RunStop::Astray`] where the states that are there then aren't those of the script's transactions, by number, one of them doesn't follow the log, or a call of a line before `par` doesn't come first.
 pub fn finish<D: Disk, N: Run>(
     s: &Script,
     managers: &[Option<RmNo>],

@@ -10,7 +10,7 @@ pub enum RunStop {
     Memory,
     /// Two kept values differ: the transaction that is wanted and the one that is found in its cell, or the record that a transaction keeps as logged and the one that the log has.
     Differs(Differs),
-    /// At the end the transactions aren't those of the script, by number, or one of them doesn't follow the log.
+    /// At the end the transactions aren't those of the script, by number, one of them doesn't follow the log, or a call of a line before `par` doesn't come first.
     Astray,
 }
 

@@ -4,6 +4,7 @@ pub mod CallsExample
 pub mod Closing
 pub mod Entered
 pub mod Filling
+pub mod FirstCalls
 pub mod Managing
 pub mod NoneLeft
 pub mod Openings

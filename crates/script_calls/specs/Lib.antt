@@ -1,4 +1,5 @@
 pub mod Due
+pub mod FirstCalls
 pub mod Managers
 pub mod Plans
 pub mod Prefix

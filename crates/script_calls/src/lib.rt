@@ -5,6 +5,7 @@
 
 mod calls;
 mod managers;
+mod par;
 mod plans;
 mod replies;
 mod rows;
@@ -12,6 +13,7 @@ mod scope_lines;
 
 pub use calls::{LogCall, log_rows, transaction_rows};
 pub use managers::managers_of;
+pub use par::par_line;
 pub use plans::{Plans, call_of};
 pub use replies::fits;
 pub use rows::{Due, Rows};

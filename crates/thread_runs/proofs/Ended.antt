@@ -48,7 +48,7 @@ pub is_gathered : {D : Type 0} (faults : D → ℕ) (sure : Bool) (image : D →
 is_gathered {D} faults sure image s k honest from ess cs log start T done cells kept first is =
     record {
       stands = λ t. found_stands s k honest log t cs (history t.value T) (with_histories cs start) done.named (ap (history t.value) is ∙ histories_before_log t.value log.past (with_histories cs start))
-          (find_cell (IsDone s k honest log) t.value 1 cs start (subst (Rises 1) (sym done.named) (rises_transactions s)) (all_done s k honest log cs done.entered done.settled done.tied done.followed cells) (first.transactions t.value));
+          (find_cell (IsDone s k honest log) t.value 1 cs start (subst (Rises 1) (sym done.named) (rises_transactions s)) (all_done s k honest log cs done.entered done.settled done.tied done.followed done.first cells) (first.transactions t.value));
       contexts = λ a. ap (at_context a.value) is ∙ (contexts_before_log a.value log.past (with_histories cs start) ∙ (contexts_kept a.value cs start ∙ first.contexts a));
       at_the_log = ap at_log is ∙ log_there log.past (with_histories cs start) (log_kept cs start ∙ first.log);
       kept = kept;

@@ -24,6 +24,7 @@ use Rattle.dtx_model.proofs.Lifting.{lift_ran}
 use Rattle.dtx_model.proofs.SameNumbers.{same_transaction}
 use Rattle.script_histories.proofs.ReplaySame.{pending_same}
 use Rattle.script_histories.proofs.ScriptCalls.{ran_calls}
+use Rattle.script_calls.specs.FirstCalls.{are_first, par_line}
 use Rattle.script_calls.specs.Rows.{are_entered}
 use Rattle.tx_cells.specs.Board.{transactions_of}
 use Rattle.tx_cells.specs.Cell.{Cell, is_log_full}
@@ -32,30 +33,33 @@ use Rattle.tx_cells.specs.Ties.{TiesWith}
 use Rattle.thread_runs.specs.Gathering.{IsCellOf}
 use Rattle.thread_runs.proofs.ByCell.{AllOf, IsFound, is_among, numbers}
 
--- A cell of a run that ended: all its calls were entered, nothing is pending, and it ties with the log and follows it.
+-- A cell of a run that ended: all its calls were entered, nothing is pending, it ties with the log and follows it, and the calls of the lines before `par` come first there.
 pub record IsDone {D : Type 0} (s : List Line) (k : ℕ) (honest : Bool) (log : LogCell D) (c : Cell) : Type 0 where
   pub entered : are_entered c.rows ≡ true
   pub settled : is_empty (pending c.tx.world) ≡ true
   pub tied : TiesWith c.tx log.log
   pub followed : follows log.past c.tx.world.past ≡ true
+  pub first : are_first (par_line s) c.tx.world.past ≡ true
   pub cell : IsCellOf s k honest c
 
 all_head : {X : Type 0} (P : X → Type 0) (x : X) (xs : List X) → All P (x ∷ xs) → P x
 all_head P x xs all = all 0 x (omega arith)
 
 pub all_done : {D : Type 0} (s : List Line) (k : ℕ) (honest : Bool) (log : LogCell D) (cs : List Cell) → each (λ c. are_entered c.rows) cs ≡ true → each (λ c. is_empty (pending c.tx.world)) cs ≡ true
-    → All (λ c. TiesWith c.tx log.log) cs → each (λ c. follows log.past c.tx.world.past) cs ≡ true → All (IsCellOf s k honest) cs → AllOf (IsDone s k honest log) cs
-all_done s k honest log [] entered settled ties followed cells = tt
-all_done s k honest log (c ∷ cs) entered settled ties followed cells = (
+    → All (λ c. TiesWith c.tx log.log) cs → each (λ c. follows log.past c.tx.world.past) cs ≡ true → each (λ c. are_first (par_line s) c.tx.world.past) cs ≡ true → All (IsCellOf s k honest) cs → AllOf (IsDone s k honest log) cs
+all_done s k honest log [] entered settled ties followed first cells = tt
+all_done s k honest log (c ∷ cs) entered settled ties followed first cells = (
   record {
     entered = and_left (are_entered c.rows) (each (λ c. are_entered c.rows) cs) entered;
     settled = and_left (is_empty (pending c.tx.world)) (each (λ c. is_empty (pending c.tx.world)) cs) settled;
     tied = all_head (λ c. TiesWith c.tx log.log) c cs ties;
     followed = and_left (follows log.past c.tx.world.past) (each (λ c. follows log.past c.tx.world.past) cs) followed;
+    first = and_left (are_first (par_line s) c.tx.world.past) (each (λ c. are_first (par_line s) c.tx.world.past) cs) first;
     cell = all_head (IsCellOf s k honest) c cs cells;
   },
   all_done s k honest log cs (and_right (are_entered c.rows) (each (λ c. are_entered c.rows) cs) entered) (and_right (is_empty (pending c.tx.world)) (each (λ c. is_empty (pending c.tx.world)) cs) settled)
-      (All-tail (λ c. TiesWith c.tx log.log) c cs ties) (and_right (follows log.past c.tx.world.past) (each (λ c. follows log.past c.tx.world.past) cs) followed) (All-tail (IsCellOf s k honest) c cs cells),
+      (All-tail (λ c. TiesWith c.tx log.log) c cs ties) (and_right (follows log.past c.tx.world.past) (each (λ c. follows log.past c.tx.world.past) cs) followed)
+      (and_right (are_first (par_line s) c.tx.world.past) (each (λ c. are_first (par_line s) c.tx.world.past) cs) first) (All-tail (IsCellOf s k honest) c cs cells),
 )
 
 -- A transaction of the trace, newest first: the history of one of these cells, or none, and then no line of the script makes it.
@@ -105,6 +109,11 @@ tied_there s k honest log t h sure (inr f) = ap tied f.1
 pub unfilled_there : {D : Type 0} (s : List Line) (k : ℕ) (honest : Bool) (log : LogCell D) (t : TxNo) (h : List Entry) → IsTrue honest → Stands s k honest log h t → has is_log_full h ≡ false
 unfilled_there s k honest log t h sure (inl f) = ap (has is_log_full) f.3 ∙ f.2.cell.kept.unfilled sure
 unfilled_there s k honest log t h sure (inr f) = ap (has is_log_full) f.1
+
+-- The calls of the lines before `par` come first in it.
+pub first_there : {D : Type 0} (s : List Line) (k : ℕ) (honest : Bool) (log : LogCell D) (t : TxNo) (h : List Entry) → Stands s k honest log h t → are_first (par_line s) h ≡ true
+first_there s k honest log t h (inl f) = ap (are_first (par_line s)) f.3 ∙ f.2.first
+first_there s k honest log t h (inr f) = ap (are_first (par_line s)) f.1
 
 -- It follows the log.
 same_follows : (T : List Placed) (t : TxNo) (h l : List Entry) → history t.value T ≡ h → at_log T ≡ l → follows_log T t ≡ follows l h

@@ -9,16 +9,19 @@ use Rattle.dtx_model.specs.Traces.{Placed, history}
 use Rattle.dtx_model.specs.Words.{has, past_of}
 use Rattle.coordinator_log.specs.Crash.{AllHold}
 use Rattle.coordinator_log.specs.State.{LogState}
+use Rattle.script_calls.specs.FirstCalls.{are_first, par_line}
 use Rattle.call_order.specs.InOrder.{AreInActorOrder}
 use Rattle.tx_cells.specs.LogAnswers.{is_no_log_answer}
 pub use Rattle.turn_parts.specs.Runs.{AreTied, EachHolds, IsNeverFull, IsRise, IsRunHistory, records_of}
 use Rattle.tx_cells.specs.LogCell.{AreOwn}
 
 -- T is a run of the script on threads in which the first k managers have an object, over a disk whose count of faults was `from` before and is `to` now: it is a settled history of the script, and at each place the calls of each actor are those
--- that its lines make there, in order.
+-- that its lines make there, in order, and the calls of the lines before `par` come first there, in order of lines. (At a context, which is one actor's, that is so by the order of its lines.)
 pub record IsRunOnThreads (s : List Line) (k from to : ℕ) (T : List Placed) : Type 0 where
   pub rise : ℕ
   pub risen : IsRise from to rise
+  pub first : (t : TxNo) → are_first (par_line s) (history t.value (past_of T)) ≡ true
+  pub first_at_log : are_first (par_line s) (at_log (past_of T)) ≡ true
   pub history : IsRunHistory s k rise T
   pub ordered : AreInActorOrder s T
 

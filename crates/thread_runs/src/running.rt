@@ -173,7 +173,7 @@ fn run_named<N: Run + Send + Sync, D: Disk + Send, G: Gate + Sync, R: Threads + 
 ///
 /// # Errors
 ///
-/// [`RunStop::Memory`] where memory ran out, [`RunStop::Differs`] where what two keep of the same differs, as over a disk that isn't honest, and [`RunStop::Astray`] where a transaction doesn't follow the log at the end. The log is handed back in each case.
+/// [`RunStop::Memory`] where memory ran out, [`RunStop::Differs`] where what two keep of the same differs, as over a disk that isn't honest, and [`RunStop::Astray`] where a transaction doesn't follow the log at the end, or a call of a line before `par` doesn't come first. The log is handed back in each case.
 pub fn run_on_threads<D: Disk + Send, G: Gate + Sync, R: Threads + Wait + Sync>(
     s: &Script,
     helpers: u8,

@@ -21,7 +21,7 @@ use Rattle.dtx_model.specs.World.{World, answer_at, core, half}
 use Rattle.dtx_model.proofs.Blocks.{of_arrived, of_called, of_commit_sends, of_core_down, of_core_got, of_local_down, of_reply, of_restarted, of_whole_act}
 use Rattle.dtx_model.proofs.Bools.{and_left, and_right, not_true, or_false}
 use Rattle.dtx_model.proofs.Writes.{ByAct, ByCall, ByMessage, ByReply, Each, IsClosed, Source, e_cons, e_if, e_one, each_closed, is_outcome_message, writes}
-use Rattle.turn_parts.specs.Runs.{is_log_full}
+use Rattle.script_histories.specs.LogQuiet.{is_log_full}
 
 -- the entry doesn't say that the log is full
 abbrev is_unfilled : Entry → Bool

@@ -1,4 +1,5 @@
 pub mod Counting
+pub mod FalseLogs
 pub mod Filling
 pub mod Placing
 pub mod Records

@@ -1,7 +1,5 @@
 -- What is said of a run of a script, a replay and one on threads alike: its transactions before their first call, its trace, its disk's faults, and the records of the log after it.
 use Rattle.std.specs.Prelude.{ℕ, ◌-◌, ◌≡◌, ◌<◌, ◌≤◌, Bool, true, false, List, [], None, Ok, filter}
-use Rattle.dtx_values.specs.declared.entry.Entry.{Entry}
-use Rattle.dtx_values.specs.declared.entry.Entry.TheVariants.{LogFull}
 use Rattle.dtx_values.specs.declared.number.ActorNo.{ActorNo}
 use Rattle.dtx_values.specs.declared.number.TxNo.{TxNo}
 use Rattle.dtx_values.specs.declared.script.Line.{Line}
@@ -18,6 +16,7 @@ use Rattle.dtx_model.specs.Tied.{tied}
 use Rattle.dtx_model.specs.Traces.{Placed, at_context, calls, history}
 use Rattle.dtx_model.specs.Wires.{WireRun}
 use Rattle.dtx_model.specs.Words.{has, past_of}
+use Rattle.script_histories.specs.LogQuiet.{is_log_full}
 use Rattle.tx_world.specs.State.{TxState}
 use Rattle.turn_parts.specs.Counted.{LAST}
 use Rattle.turn_parts.specs.LogEvents.{IsLogHistory}
@@ -29,11 +28,6 @@ untouched t = record { transaction = t; world = record { calls = []; past = [] }
 -- in each transaction each restart found what may be found: so it is where none came, and on an honest disk
 abbrev pub AreTied : List Placed → Type 0
 AreTied T = (t : TxNo) → tied (history t.value (past_of T)) ≡ true
-
--- the log was full for the append
-abbrev pub is_log_full : Entry → Bool
-is_log_full LogFull = true
-is_log_full _ = false
 
 -- in no transaction an append found the log full
 abbrev pub IsNeverFull : List Placed → Type 0

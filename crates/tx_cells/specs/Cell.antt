@@ -16,7 +16,8 @@ use Rattle.script_calls.specs.Prefix.{IsPrefix}
 use Rattle.script_calls.specs.SeenRow.{SeenRow}
 pub use Rattle.script_calls.specs.Threadable.{IsThreadable, is_do_line}
 use Rattle.tx_world.specs.State.{TxState}
-pub use Rattle.turn_parts.specs.Runs.{is_log_full, untouched}
+pub use Rattle.script_histories.specs.LogQuiet.{is_log_full}
+pub use Rattle.turn_parts.specs.Runs.{untouched}
 
 -- the transaction; for each actor its calls there, and how many of them were entered; and the enlistments whose replies are out: each was asked outside the lock, with this note
 pub record Cell : Type 0 where

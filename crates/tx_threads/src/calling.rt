@@ -39,6 +39,23 @@ fn enter<D: Disk, N: Run, R: Wait>(
     state.enter(Some(&held), a, line)
 }
 
+/// Enters the actor's next call, as `enter`, where the state is that of this transaction.
+fn enter_of<D: Disk, N: Run, R: Wait>(
+    rt: &R,
+    cells: &Cells<N>,
+    log: &SharedLog<D, N>,
+    state: &mut CellState<N>,
+    t: TxNo,
+    a: ActorNo,
+    line: u32,
+) -> Result<Turned, TurnError>
+    ensures called { IfOk result (MayTurn N.script t.value a line) }
+    ensures cause { IfErr result HasCause }
+{
+    is_of(state, t)?;
+    enter(rt, cells, log, state, a, line)
+}
+
 /// Whether the entry answers the call of this line.
 fn is_answer_to(e: &Entry, line: u32) -> bool
     ensures { result ≡ is_answer_to line e.now }
@@ -112,8 +129,7 @@ pub fn call_as<D: Disk, G: Gate, N: Run, R: Wait>(
 {
     let cell = cells.cell(t);
     let mut state = cell.state().lock(rt);
-    is_of(&state, t)?;
-    let turned = enter(rt, cells, log, &mut state, a, line)?;
+    let turned = enter_of(rt, cells, log, &mut state, t, a, line)?;
     tell(alloc, cell, &state, &mut cell.note())?;
     drop(state);
     if let Turned::Did(Answer::Wait) = turned {

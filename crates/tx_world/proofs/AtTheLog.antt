@@ -27,12 +27,13 @@ use Rattle.coordinator_core.proofs.Causes.{active_then, heard_why}
 use Rattle.coordinator_core.specs.Kept.{Kept as CoreKept}
 use Rattle.coordinator_log.specs.State.{LogState}
 use Rattle.tx_world.specs.State.{TxState, sends_begin}
-use Rattle.tx_world.specs.AtLog.{Acts, Answered, IsFit, IsOurs, Keeps, KeepsLog, KeepsSlots, Kept as LogKept, LeavesSlots, Tie, kept_after}
+use Rattle.tx_world.specs.AtLog.{Acts, Answered, IsFit, IsOurs, Keeps, KeepsLog, KeepsSlots, Kept as LogKept, LeavesSlots, Tie, id_of, kept_after}
 use Rattle.world_laws.specs.Carried.{are_sendable}
 use Rattle.world_laws.specs.Course.{is_far, is_written}
 use Rattle.tx_world.specs.Kept.{Kept, Whole, stop_if, stopped_if}
 use Rattle.tx_world.specs.Stepping.{Does}
 use Rattle.tx_world.specs.Leaves.{IsLater, Leaves, LeavesKept}
+use Rattle.world_parts.specs.Found.{IsLeftAsWished}
 use Rattle.tx_world.specs.Prepared.{Names, NamesPrepared}
 use Rattle.tx_world.specs.Tried.{IsTried}
 use Rattle.tx_world.proofs.Begun.{may_write}
@@ -316,6 +317,13 @@ acted_leaves {D} {honest} {image} {faults} t w h k j a n x y old from to kept di
       named = acted_named t w h k j a n x y old kept did past leaves.named was;
       later = later;
     }
+
+-- And what a stop by it leaves of its record, over a disk that obeys, is as wished.
+pub acted_wished : {D : Type 0} (faults : D → ℕ) (seen : D → List ℕ) (t : TxNo) (w : World) (h : Known) (k : CoreKept) (x : LogKept) (old : TxState) (from to : LogState D) → Kept t w h k → seen_as t w x ≡ old
+    → IsLeftAsWished faults seen k.state (identifier_of k.transaction.value) from to → IsLeftAsWished faults seen (core old.world) (id_of old) from to
+acted_wished faults seen t w h k x old from to kept was left =
+    subst (λ (z : TxState). IsLeftAsWished faults seen (core z.world) (id_of z) from to) was
+    (subst (λ (j : CoreKept). IsLeftAsWished faults seen j.state (identifier_of j.transaction.value) from to) kept.core left)
 
 -- A coordinator that is told what an opening of the log found: where it still runs it stops first.
 told_state : (k : CoreKept) (found : Bool) → follow (stopped_if (not k.state.stopped) k).state (Restarted found) ≡ follow_all k.state (restarted k.state.stopped found)

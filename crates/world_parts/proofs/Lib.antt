@@ -9,3 +9,4 @@ pub mod Named
 pub mod OfManager
 pub mod Places
 pub mod Records
+pub mod Wished

@@ -1,5 +1,6 @@
 pub mod AtLog
 pub mod Entering
+pub mod Found
 pub mod Leaves
 pub mod Managers
 pub mod Names

@@ -12,6 +12,7 @@ ghost use Rattle.coordinator_core.specs.Acting.{record_for};
 ghost use Rattle.coordinator_core.specs.Kept.{HasRoom, HasRoomFor};
 ghost use Rattle.coordinator_log.specs.Slots.{open_records};
 ghost use Rattle.world_parts.specs.AtLog.{Acts, IsFit, IsOurs, Tie};
+ghost use Rattle.world_parts.specs.Found.{IsLeftAsWished};
 ghost use Rattle.world_parts.specs.Leaves.{IsLater, LeavesKept};
 
 use coordinator_core::{Core, CoreAct};
@@ -121,6 +122,7 @@ impl AtLog {
         ensures acts { Acts D.faults core.old.transaction.value core.old.state self.old out.old log.old core.new.state self.new out.new log.new }
         ensures leaves { LeavesKept D.honest D.image core.old.transaction.value core.old.state self.old log.old core.new.state self.new log.new }
         ensures later { IsLater D.faults log.old log.new }
+        ensures found { IsTrue D.obeys → IsLeftAsWished D.faults D.seen core.old.state (identifier_of core.old.transaction.value) log.old log.new }
     {
         match log.append(self.life, &kept) {
             Ok(_) => {
@@ -174,6 +176,7 @@ impl AtLog {
         ensures acts { Acts D.faults core.old.transaction.value core.old.state self.old out.old log.old core.new.state self.new out.new log.new }
         ensures leaves { LeavesKept D.honest D.image core.old.transaction.value core.old.state self.old log.old core.new.state self.new log.new }
         ensures later { IsLater D.faults log.old log.new }
+        ensures found { IsTrue D.obeys → IsLeftAsWished D.faults D.seen core.old.state (identifier_of core.old.transaction.value) log.old log.new }
     {
         match log.free(self.life, id) {
             Ok(()) => self.freed(core, out),
@@ -204,6 +207,7 @@ impl AtLog {
         ensures acts { Acts D.faults core.old.transaction.value core.old.state self.old out.old log.old core.new.state self.new out.new log.new }
         ensures leaves { LeavesKept D.honest D.image core.old.transaction.value core.old.state self.old log.old core.new.state self.new log.new }
         ensures later { IsLater D.faults log.old log.new }
+        ensures found { IsTrue D.obeys → IsLeftAsWished D.faults D.seen core.old.state (identifier_of core.old.transaction.value) log.old log.new }
     {
         match core.act() {
             Some(CoreAct::WriteRecord(record)) => self.append(record, core, log, out),

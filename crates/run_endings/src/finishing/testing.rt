@@ -6,15 +6,18 @@ ghost use Rattle.dtx_model.specs.AtLog.{follows, is_opened, is_restart, is_up_by
 ghost use Rattle.dtx_model.specs.Caused.{is_begin_sent};
 ghost use Rattle.dtx_model.specs.Wires.{is_stopped, stop_of};
 ghost use Rattle.dtx_model.specs.Words.{each, has, past_of};
+ghost use Rattle.script_calls.specs.FirstCalls.{are_first, par_line};
 ghost use Rattle.run_endings.specs.Stops.{EndsFor, IsWrong};
 ghost use Rattle.tx_cells.specs.Board.{transactions_of};
 ghost use Rattle.tx_cells.specs.Ties.{TiesWith};
 ghost use Rattle.dtx_model.specs.Tied.{is_stop};
 
+use super::ordering::{are_first, are_first_at_log};
 use crate::stop::RunStop;
 use dtx_values::{Conn, Dir, Entry, Line, LogNote, Message, Script, TxNo};
 use entry_lists::Entries;
 use outside::Disk;
+use script_calls::par_line;
 use tx_cells::{CellState, LogState, Made, Run};
 
 /// Whether the entry is a stop.
@@ -175,26 +178,31 @@ fn are_by_number<N: Run>(s: &[Line], states: &[CellState<N>]) -> bool
     rest.is_empty()
 }
 
-/// That what the transaction keeps ties with the log, and follows it.
-fn is_right<D: Disk, N: Run>(state: &CellState<N>, log: &LogState<D, N>) -> Result<(), RunStop>
+/// That what the transaction keeps ties with the log, and follows it, and that the calls of the lines before line `par` come first there.
+fn is_right<D: Disk, N: Run>(
+    state: &CellState<N>,
+    log: &LogState<D, N>,
+    par: usize,
+) -> Result<(), RunStop>
     ensures tied { OnOk result (TiesWith state.now.tx log.now.log) }
     ensures followed { OnOk result (follows log.now.past state.now.tx.world.past ≡ true) }
-    ensures cause { IfErr result (IsWrong state.now log.now) }
+    ensures first { OnOk result (are_first par state.now.tx.world.past ≡ true) }
+    ensures cause { IfErr result (IsWrong par state.now log.now) }
 {
     if let Err(differs) = state.ties(log) {
         return Err(RunStop::Differs(differs));
     }
-    if !follows(log.entries(), state.history()) {
+    if !follows(log.entries(), state.history()) || !are_first(par, state.history()) {
         return Err(RunStop::Astray);
     }
     Ok(())
 }
 
-/// That the states are those of the script's transactions, by number, and that each ties with the log, and follows it.
+/// That the states are those of the script's transactions, by number, that each ties with the log, and follows it, and that at each, and at the log, the calls of the lines before `par` come first.
 ///
 /// # Errors
 ///
-/// [`RunStop::Differs`] where one doesn't tie with the log, and [`RunStop::Astray`] where they are others or one doesn't follow it.
+/// [`RunStop::Differs`] where one doesn't tie with the log, and [`RunStop::Astray`] where they are others, one doesn't follow it, or a call of a line before `par` doesn't come first.
 pub(super) fn test_all<D: Disk, N: Run>(
     s: &Script,
     states: &[CellState<N>],
@@ -203,13 +211,19 @@ pub(super) fn test_all<D: Disk, N: Run>(
     ensures named { OnOk result (map (λ c. c.tx.transaction.value) states.now ≡ transactions_of s.now) }
     ensures tied { OnOk result (All (λ c. TiesWith c.tx log.now.log) states.now) }
     ensures followed { OnOk result (each (λ c. follows log.now.past c.tx.world.past) states.now ≡ true) }
+    ensures first { OnOk result (each (λ c. are_first (par_line s.now) c.tx.world.past) states.now ≡ true) }
+    ensures first_at_log { OnOk result (are_first (par_line s.now) log.now.past ≡ true) }
     ensures cause { IfErr result (EndsFor s.now states.now log.now) }
 {
     if !are_by_number(s.lines(), states) {
         return Err(RunStop::Astray);
     }
+    let par = par_line(s.lines());
+    if !are_first_at_log(par, log.entries()) {
+        return Err(RunStop::Astray);
+    }
     for state in states {
-        is_right(state, log)?;
+        is_right(state, log, par)?;
     }
     Ok(())
 }

@@ -1,17 +1,19 @@
 //! The calls before the threads of a run, and the threads.
-ghost use Rattle.std.specs.Prelude.{◌≡◌, ◌≤◌, IfErr, IfOk, OnOk, false, length};
+ghost use Rattle.std.specs.Prelude.{◌≡◌, ◌≤◌, ◌++◌, IfErr, IfOk, OnOk, false, length};
 ghost use Rattle.std.specs.List.{All};
 ghost use Rattle.dtx_values.specs.declared.number.ActorNo.{ActorNo};
 ghost use Rattle.dtx_model.specs.Words.{has};
 ghost use Rattle.run_endings.specs.Stops.{IsNamed};
 ghost use Rattle.tx_cells.specs.Ties.{HasCause};
-ghost use Rattle.thread_runs.specs.Threads.{differing, found_differing, lacked_memory};
+ghost use Rattle.script_calls.specs.FirstCalls.{par_line};
+ghost use Rattle.thread_runs.specs.Threads.{ComesFrom, before_line, differing, found_differing, lacked_memory};
 
 use crate::contexts::ToDo;
 use crate::running::turns::{Shared, act, call, help};
-use dtx_values::{ActorNo, Body, Differs, Line};
+use dtx_values::{ActorNo, Differs, Line};
 use outside::{Disk, Gate};
 use run_endings::RunStop;
+use script_calls::par_line;
 use std::alloc::{AllocError, Global};
 use std::cmp::max;
 use std::sync::Wait;
@@ -20,13 +22,14 @@ use std::thread;
 use std::thread::Threads;
 use tx_threads::{Run, TurnError};
 
-/// The calls of the lines before the `par` line, and the others. Without a `par` line none stands before.
-pub(super) fn split_at_par<'a>(s: &[Line], to_do: &'a [ToDo]) -> (&'a [ToDo], &'a [ToDo]) {
-    let Some(before) = s.iter().position(|l| l.body == Body::Par) else {
-        return to_do.split_at(0);
-    };
+/// The calls of the lines before the `par` line, and the others: those that are to be made stand in order of lines. Without a `par` line none stands before.
+pub(super) fn split_at_par<'a>(s: &[Line], to_do: &'a [ToDo]) -> (&'a [ToDo], &'a [ToDo])
+    ensures before { result.0.now ≡ before_line (par_line s.now) to_do.now }
+    ensures all { result.0.now ++ result.1.now ≡ to_do.now }
+{
+    let par = par_line(s);
     for i in 0..to_do.len() {
-        if to_do[i].line as usize > before {
+        if par <= to_do[i].line as usize {
             return to_do.split_at(i);
         }
     }
@@ -68,6 +71,7 @@ fn any_lacks(ends: &[Result<(), TurnError>]) -> bool
 fn come_to(ends: &[Result<(), TurnError>]) -> Result<(), RunStop>
     requires { All (λ e. IfErr e HasCause) ends.now }
     ensures done { OnOk result ((has found_differing ends.now ≡ false) × (has lacked_memory ends.now ≡ false)) }
+    ensures stop { IfErr result (ComesFrom ends.now) }
     ensures named { IfErr result IsNamed }
 {
     for i in 0..ends.len() {

@@ -14,6 +14,7 @@ ghost use Rattle.tx_world.specs.State.{is_reached_by};
 ghost use Rattle.tx_world.specs.AtLog.{Fits, IsHad, Tie, id_of};
 ghost use Rattle.tx_world.specs.Stepping.{Does};
 ghost use Rattle.tx_world.specs.Leaves.{Leaves};
+ghost use Rattle.world_parts.specs.Found.{IsLeftAsWished};
 ghost use Rattle.tx_world.specs.Prepared.{NamesPrepared};
 
 use super::{TxWorld, identifier};
@@ -41,6 +42,7 @@ impl TxWorld {
         ensures due { IfOk result (λ b. b ≡ (may_log (core self.old.world) || may_free (core self.old.world))) }
         ensures done { result ≡ Ok true → (a : LogAnswer) × (may_coordinate (core self.old.world) a ≡ true) × Does D.faults (Coordinates a) self.old log.old self.new log.new }
         ensures leaves { Leaves D.honest D.image D.faults self.old log.old self.new log.new }
+        ensures found { IsTrue D.obeys → IsLeftAsWished D.faults D.seen (core self.old.world) (id_of self.old) log.old log.new }
         ensures unchanged { result ≡ Ok false → (self.new ≡ self.old) × (log.new ≡ log.old) }
         ensures memory { OnErr result ((self.new ≡ self.old) × (log.new ≡ log.old)) }
     {

@@ -2,13 +2,15 @@
 ghost use Rattle.std.specs.Prelude.{◌≡◌, ◌<◌, Ok, None, IfOk, OnErr, IsTrue, true, false};
 ghost use Rattle.dtx_model.specs.Words.{kth};
 ghost use Rattle.dtx_model.specs.Steps.{pending};
+ghost use Rattle.dtx_model.specs.World.{core};
 ghost use Rattle.dtx_model.specs.Tied.{tied};
 ghost use Rattle.coordinator_log.specs.Slots.{open_records};
-ghost use Rattle.tx_world.specs.AtLog.{Fits};
+ghost use Rattle.tx_world.specs.AtLog.{Fits, id_of};
 ghost use Rattle.world_laws.specs.Left.{steps_left};
 ghost use Rattle.tx_world.specs.OwnCalls.{Repeats};
 ghost use Rattle.tx_world.specs.Stepping.{DoesKth, Settles, SomeSteps};
 ghost use Rattle.tx_world.specs.Leaves.{Leaves};
+ghost use Rattle.world_parts.specs.Found.{IsLeftAsWished};
 
 use super::TxWorld;
 use crate::refusal::WorldError;
@@ -33,6 +35,7 @@ impl TxWorld {
         ensures some { result ≡ Ok true → DoesKth D.faults k self.old log.old self.new log.new }
         ensures nearer { result ≡ Ok true → steps_left self.new.world < steps_left self.old.world }
         ensures leaves { Leaves D.honest D.image D.faults self.old log.old self.new log.new }
+        ensures found { IsTrue D.obeys → IsLeftAsWished D.faults D.seen (core self.old.world) (id_of self.old) log.old log.new }
         ensures tied { tied self.old.world.past ≡ true → tied self.new.world.past ≡ true }
         ensures memory { OnErr result ((self.new ≡ self.old) × (log.new ≡ log.old)) }
     {

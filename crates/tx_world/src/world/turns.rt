@@ -2,12 +2,14 @@
 ghost use Rattle.std.specs.Prelude.{◌≡◌, Ok, Some, None, IfOk, IfSome, OnOk, OnErr, IsTrue, true, false, length};
 ghost use Rattle.dtx_model.specs.Words.{kth};
 ghost use Rattle.dtx_model.specs.Steps.{pending};
+ghost use Rattle.dtx_model.specs.World.{core};
 ghost use Rattle.coordinator_log.specs.Slots.{open_records};
-ghost use Rattle.tx_world.specs.AtLog.{Fits};
+ghost use Rattle.tx_world.specs.AtLog.{Fits, id_of};
 ghost use Rattle.tx_world.specs.OwnCalls.{DoesAlone};
 ghost use Rattle.world_parts.specs.Pending.{IsAt, IsDueAt, IsDueIn, is_alone_step, name_of, step_of};
 ghost use Rattle.tx_world.specs.Stepping.{DoesKth, needs_log, reply_in};
 ghost use Rattle.tx_world.specs.Leaves.{Leaves};
+ghost use Rattle.world_parts.specs.Found.{IsLeftAsWished};
 ghost use Rattle.tx_world.specs.Prepared.{NamesPrepared};
 
 use super::TxWorld;
@@ -115,6 +117,7 @@ impl TxWorld {
         ensures none { result ≡ Ok false → (kth (pending self.old.world) k ≡ None) × (self.new ≡ self.old) × (log.new ≡ log.old) }
         ensures some { result ≡ Ok true → DoesKth D.faults k self.old log.old self.new log.new }
         ensures leaves { Leaves D.honest D.image D.faults self.old log.old self.new log.new }
+        ensures found { IsTrue D.obeys → IsLeftAsWished D.faults D.seen (core self.old.world) (id_of self.old) log.old log.new }
         ensures memory { OnErr result ((self.new ≡ self.old) × (log.new ≡ log.old)) }
     {
         if k == 1 && self.act_first(out)? {

@@ -1,4 +1,4 @@
-use Rattle.std.proofs.Common.{◌≡◌, ℕ, Bool, List, [], None, ap, arith, length, refl, subst, sym, ◌∙◌}
+use Rattle.std.proofs.Common.{◌≡◌, ℕ, Bool, List, [], None, ap, arith, inl, inr, length, refl, subst, sym, ◌∙◌}
 use Rattle.std.specs.Prelude.{IsTrue}
 use Rattle.dtx_values.specs.declared.entry.Entry.{Entry}
 use Rattle.dtx_values.specs.declared.script.Line.{Line}
@@ -14,10 +14,12 @@ use Rattle.coordinator_log.specs.Slots.{open_records}
 use Rattle.coordinator_log.specs.State.{LogState}
 use Rattle.scope_context.specs.Standing.{Standing}
 use Rattle.turn_parts.specs.Reopening.{is_no_log_answer}
-use Rattle.turn_parts.specs.Runs.{is_log_full}
+use Rattle.script_histories.specs.LogQuiet.{is_log_full}
+use Rattle.replay_runs.specs.Found.{Finds, finds_as_wished}
 use Rattle.replay_runs.specs.LogRun.{IsCounted}
 use Rattle.replay_runs.specs.RunState.{AreBelow, AreSettledBelow, Holds, IsRoundAt, IsToPlan, RunState, Tells}
 use Rattle.script_calls.specs.Scoped.{AreOpen}
+use Rattle.replay_runs.proofs.Finding.{found_first}
 use Rattle.replay_runs.proofs.NeverFull.{full_nowhere}
 use Rattle.replay_runs.proofs.Going.{goes_then, stays_then}
 use Rattle.script_calls.proofs.Openings.{open_none}
@@ -97,6 +99,15 @@ returns-clause-planned g c t =
     (subst (λ (r : List Line). IsToPlan r o (history t.value (past_of end.trace))) (c.in_ok-settle_all.ensures.runs.script ∙ (c.in_ok-lines.ensures.runs.script ∙ script))
     (subst (λ (k : ℕ). IsToPlan end.script k (history t.value (past_of end.trace))) (c.in_ok-settle_all.ensures.runs.objects ∙ (c.in_ok-lines.ensures.runs.objects ∙ objects))
     (subst (λ (h : List Entry). IsToPlan end.script end.objects h) tied.past tied.planned)))
+
+-- what restarts found is right at the end, where no fault came
+pub returns-clause-found : goal.returns-clause-found
+returns-clause-found g c is calm =
+    let log = c.args.log.now in
+    let first : Finds g.D.Disk.faults g.D.Disk.seen log log (past_of c.in_ok-run.run'.trace) =
+    subst (λ (r : RunState). Finds g.D.Disk.faults g.D.Disk.seen log log (past_of r.trace)) (sym c.in_ok-run.ensures) (found_first g.D.Disk.faults g.D.Disk.seen log c.requires.unarmed) in
+    let end = c.in_ok-settle_all.ensures.runs.finds is log (c.in_ok-lines.ensures.runs.finds is log first) in
+    ap (λ (T : List Placed). finds_as_wished (past_of T)) c.into_trace.ensures.trace ∙ elim end.found [ inl rose ↦ absurd (calm rose) | inr f ↦ f.found ]
 
 -- so it does at the end
 told_at_end : (g : Over) (c : In_ok-settle_all g) → Tells g.D.Disk.faults g.D.Disk.honest g.D.Disk.image c.args.log.now c.settle_all.new.log (past_of c.settle_all.new.self.trace)

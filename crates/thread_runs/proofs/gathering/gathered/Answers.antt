@@ -9,13 +9,14 @@ use Rattle.dtx_model.specs.Words.{has, past_of}
 use Rattle.coordinator_log.specs.Crash.{AllHold}
 use Rattle.coordinator_log.specs.Slots.{open_records}
 use Rattle.call_order.specs.InOrder.{AreInActorOrder}
+use Rattle.script_calls.specs.FirstCalls.{are_first, par_line}
 use Rattle.script_calls.specs.Prefix.{lines_by}
 use Rattle.tx_cells.specs.LogAnswers.{is_no_log_answer}
 use Rattle.thread_runs.proofs.Ended.{ends_there, is_gathered, lines_there, put_together, up_there}
 use Rattle.turn_parts.specs.LogEvents.{IsLogHistory}
 use Rattle.turn_parts.proofs.Counting.{rise_known, rise_of, rise_told}
 use Rattle.thread_runs.proofs.Laying.{laid_all}
-use Rattle.thread_runs.proofs.Standing.{all_follow, caused_there, followed_there, settled_there, tied_there, unfilled_there}
+use Rattle.thread_runs.proofs.Standing.{all_follow, caused_there, first_there, followed_there, settled_there, tied_there, unfilled_there}
 use Rattle.thread_runs.proofs.gathering.gathered.Goals as goal
 
 pub returns-clause-run : goal.returns-clause-run
@@ -42,6 +43,8 @@ returns-clause-run g c =
         rise = rise_of from to (faults_told (at_log T));
         risen = rise_known from to (faults_told (at_log T));
         ordered = ordered;
+        first = λ t. first_there s k g.N.Run.honest log t (history t.value T) (all.stands t);
+        first_at_log = ap (are_first (par_line s)) all.at_the_log ∙ c.requires.finished.first_at_log;
         history = record {
           caused = caused;
           wires = λ t. c.crossings.ensures.wires s t.value (history t.value T) (caused t).freely;

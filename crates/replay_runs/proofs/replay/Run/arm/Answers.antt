@@ -1,4 +1,4 @@
-use Rattle.std.proofs.Common.{◌≡◌, List, ap, subst, sym, ◌∙◌}
+use Rattle.std.proofs.Common.{◌≡◌, List, ap, inr, subst, sym, ◌∙◌}
 use Rattle.dtx_values.specs.declared.entry.Answer.TheVariants.{Fine}
 use Rattle.dtx_values.specs.declared.entry.Entry.TheVariants.{Called, LogWord}
 use Rattle.dtx_values.specs.declared.entry.LogNote.TheVariants.{Armed}
@@ -6,8 +6,10 @@ use Rattle.dtx_model.specs.Words.{past_of}
 use Rattle.dtx_model.specs.Replay.{at_the_log}
 use Rattle.dtx_model.specs.Traces.{Placed}
 use Rattle.coordinator_log.specs.State.{LogState}
+use Rattle.replay_runs.specs.Found.{Finds}
 use Rattle.replay_runs.specs.RunState.{RunState, Tells}
 use Rattle.replay_runs.proofs.Reopening.{goes_armed, holds_armed, two_written}
+use Rattle.replay_runs.proofs.Finding.{finds_on, found_armed}
 use Rattle.replay_runs.proofs.Telling.{tells_armed}
 use Rattle.replay_runs.proofs.replay.Run.arm.Given.{Over}
 use Rattle.replay_runs.proofs.replay.Run.arm.Goals.{After-arm}
@@ -37,4 +39,8 @@ returns-clause-runs g c =
           subst (λ (T : List Placed). Tells g.D.Disk.faults g.D.Disk.honest g.D.Disk.image start to T) (sym wrote)
           (tells_armed g.D.Disk.faults g.D.Disk.honest g.D.Disk.image start from to (past_of r.trace) c.args.n c.args.actor c.args.k c.args.image c.requires.first goes (ap (λ (l : LogState g.row.D.Denot). g.D.Disk.faults l.disk) c.arm.ensures)
           (ap (λ (l : LogState g.row.D.Denot). l.armed) c.arm.ensures) told);
+      finds = λ is start found.
+          subst (λ (T : List Placed). Finds g.D.Disk.faults g.D.Disk.seen start to T) (sym wrote)
+          (finds_on g.D.Disk.faults g.D.Disk.seen start from to (past_of r.trace) (at_the_log (LogWord (Armed c.args.k c.args.image)) (at_the_log (Called c.args.n c.args.actor Fine) (past_of r.trace))) goes.grows
+          (λ f. inr (found_armed g.D.Disk.seen from to (past_of r.trace) c.args.n c.args.actor c.args.k c.args.image c.requires.first c.arm.ensures f)) found);
     }

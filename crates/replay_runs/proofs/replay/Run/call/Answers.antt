@@ -7,7 +7,7 @@ use Rattle.dtx_model.specs.Words.{past_of}
 use Rattle.dtx_model.proofs.Pasts.{length-past}
 use Rattle.tx_world.specs.State.{TxState}
 use Rattle.replay_runs.specs.RunState.{AreNumbered, IsBelow, RunState, state_of}
-use Rattle.replay_runs.proofs.CallsHold.{Entered, entered_at_place, entered_holds, entered_tells, entered_turn, may_answer_here, may_enter_here, past_after, past_longer}
+use Rattle.replay_runs.proofs.CallsHold.{Entered, entered_at_place, entered_finds, entered_holds, entered_tells, entered_turn, may_answer_here, may_enter_here, past_after, past_longer}
 use Rattle.replay_runs.proofs.Entering.{below_after}
 use Rattle.replay_runs.proofs.Numbered.{numbered_same}
 use Rattle.replay_runs.proofs.Turns.{written}
@@ -65,6 +65,7 @@ returns g c =
         script = did.script;
         objects = did.objects;
         tells = λ start. entered_tells g.D.Disk.faults g.D.Disk.honest g.D.Disk.image start log t c.args.n c.args.actor c.args.c.now c.args.done x y old new did;
+        finds = λ is start. entered_finds g.D.Disk.faults g.D.Disk.seen start log t c.args.n c.args.actor c.args.c.now c.args.done x y old new did;
         holds = entered_holds g.D.Disk.faults g.D.Disk.honest g.D.Disk.image log t c.args.n c.args.actor c.args.c.now c.args.done x y old new did c.requires.given c.requires.holds;
       };
       others = did.others;

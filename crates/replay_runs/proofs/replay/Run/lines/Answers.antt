@@ -36,7 +36,7 @@ loop-l-init g c = record {
   log = goes_same g.D.Disk.faults g.D.Disk.honest g.D.Disk.image c.args.log.now;
   stays = λ off. stays_same g.D.Disk.faults c.args.log.now;
   life = omega arith;
-  runs = runs_same g.D.Disk.faults g.D.Disk.honest g.D.Disk.image c.args.log.now c.args.self.now c.requires.holds;
+  runs = runs_same g.D.Disk.faults g.D.Disk.honest g.D.Disk.image g.D.Disk.obeys g.D.Disk.seen c.args.log.now c.args.self.now c.requires.holds;
   below = c.requires.below;
   open_at = c.requires.contexts;
   ran = ap past_of c.requires.start;
@@ -104,7 +104,7 @@ loop-l-preserved g c =
       log = goes_then faults g.D.Disk.honest g.D.Disk.image c.args.log.now c.loop-l.log c.line.new.log was.log c.line.ensures.log;
       stays = λ off. stays_then faults c.args.log.now c.loop-l.log c.line.new.log was.log.grows c.line.ensures.log.grows (was.stays off) (c.line.ensures.stays (none_there (λ (m : Line). is_log_line m.body) s i l off stands));
       life = let so_far = was.life in let next = c.line.ensures.life in omega (arith, so_far, next);
-      runs = runs_then faults g.D.Disk.honest g.D.Disk.image c.args.log.now c.loop-l.log c.line.new.log c.args.self.now c.loop-l.self c.line.new.self was.runs did.runs;
+      runs = runs_then faults g.D.Disk.honest g.D.Disk.image g.D.Disk.obeys g.D.Disk.seen c.args.log.now c.loop-l.log c.line.new.log c.args.self.now c.loop-l.self c.line.new.self was.runs did.runs;
       below = did.entered;
       open_at = subst (λ (b : List Line). AreOpen c.line.new.self.contexts b) (sym (past_next lines i l c.loop-l-test.true c.l-item.is)) (did.scopes (past_of (take i lines)) was.open_at);
       ran =

@@ -13,7 +13,7 @@ invariant-loop-l g l = record {
   log : LogGoes g.D.Disk.faults g.D.Disk.honest g.D.Disk.image l.initial.log l.log;
   stays : has_log_line l.initial.self.script ≡ false → LogStays g.D.Disk.faults l.initial.log l.log;
   life : l.log.life ≤ l.initial.log.life + l.l-index;
-  runs : RunsOn g.D.Disk.faults g.D.Disk.honest g.D.Disk.image l.initial.log l.log l.initial.self l.self;
+  runs : RunsOn g.D.Disk.faults g.D.Disk.honest g.D.Disk.image g.D.Disk.obeys g.D.Disk.seen l.initial.log l.log l.initial.self l.self;
   below : AreBelow (l.n + 1) l.self.worlds;
   open_at : AreOpen l.self.contexts (past_of (take l.l-index l.lines));
   ran : LinesRan l.initial.self.script (past_of (take l.l-index l.lines)) (past_of l.self.trace);

@@ -22,7 +22,7 @@ call-requires-clause-answers g c = did_answers c.args.t.value (state_of c.args.t
 
 pub returns-in_ok-done-in-Do-clause-runs : goal.returns-in_ok-done-in-Do-clause-runs
 returns-in_ok-done-in-Do-clause-runs g c =
-    on_ok_weaker c.call.result (runs_then g.D.Disk.faults g.D.Disk.honest g.D.Disk.image c.args.log.now c.steps.new.log c.steps.new.log c.args.self.now c.steps.new.self c.call.new.self c.in_ok-done-in-Do.ensures.runs) c.call.ensures.runs
+    on_ok_weaker c.call.result (runs_then g.D.Disk.faults g.D.Disk.honest g.D.Disk.image g.D.Disk.obeys g.D.Disk.seen c.args.log.now c.steps.new.log c.steps.new.log c.args.self.now c.steps.new.self c.call.new.self c.in_ok-done-in-Do.ensures.runs) c.call.ensures.runs
 
 pub returns-in_ok-done-in-Do-clause-entered : goal.returns-in_ok-done-in-Do-clause-entered
 returns-in_ok-done-in-Do-clause-entered g c =
@@ -49,7 +49,7 @@ call-requires-in-Await-clause-answers g c = await_answers c.args.t.value (state_
 
 pub returns-in_ok-settle-in-Await-clause-runs : goal.returns-in_ok-settle-in-Await-clause-runs
 returns-in_ok-settle-in-Await-clause-runs g c =
-    on_ok_weaker c.call-in-Await.result (runs_then g.D.Disk.faults g.D.Disk.honest g.D.Disk.image c.args.log.now c.settle.new.log c.settle.new.log c.args.self.now c.settle.new.self c.call-in-Await.new.self c.in_ok-settle-in-Await.ensures.runs) c.call-in-Await.ensures.runs
+    on_ok_weaker c.call-in-Await.result (runs_then g.D.Disk.faults g.D.Disk.honest g.D.Disk.image g.D.Disk.obeys g.D.Disk.seen c.args.log.now c.settle.new.log c.settle.new.log c.args.self.now c.settle.new.self c.call-in-Await.new.self c.in_ok-settle-in-Await.ensures.runs) c.call-in-Await.ensures.runs
 
 pub returns-in_ok-settle-in-Await-clause-entered : goal.returns-in_ok-settle-in-Await-clause-entered
 returns-in_ok-settle-in-Await-clause-entered g c =

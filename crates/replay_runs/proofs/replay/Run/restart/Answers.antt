@@ -1,4 +1,4 @@
-use Rattle.std.proofs.Common.{◌≡◌, ◌<◌, ◌+◌, ℕ, true, List, [], Err, is_some, ap, arith, length, refl, subst, sym, ◌∙◌, if◌then◌else◌}
+use Rattle.std.proofs.Common.{◌≡◌, ◌<◌, ◌+◌, ℕ, true, List, [], Err, inl, inr, is_some, ap, arith, length, refl, subst, sym, ◌∙◌, if◌then◌else◌}
 use Rattle.std.proofs.lemmas.Result.{IfErr-at_err, IfOk-at_ok, on_ok_weaker}
 use Rattle.std.specs.Prelude.{is_ok}
 use Rattle.outside.specs.Faults.{Rose}
@@ -17,8 +17,10 @@ use Rattle.dtx_model.specs.World.{core}
 use Rattle.coordinator_log.specs.Slots.{open_records}
 use Rattle.tx_world.specs.AtLog.{Fits}
 use Rattle.turn_parts.specs.Reopening.{restart_answer}
+use Rattle.replay_runs.specs.Found.{Finds}
 use Rattle.replay_runs.specs.LogRun.{LogGoes}
 use Rattle.replay_runs.specs.RunState.{Holds, IsRecordKept, RunState, Tells, halted, record_in, reopened, state_of}
+use Rattle.replay_runs.proofs.Finding.{finds_on, found_halt, found_opened}
 use Rattle.replay_runs.proofs.Fitting.{fits_opened}
 use Rattle.replay_runs.proofs.Reopening.{IsHalted, after_unopened, both_ok, goes_restart, halted_down, halted_log, halted_up, halts_at, holds_opened, one_written, opened_just, opened_trace, tied_at_log, tied_move, two_written, unopened_by, unopened_just}
 use Rattle.replay_runs.proofs.TellingOpenings.{tells_restart}
@@ -104,6 +106,13 @@ returns-in_default-clause-runs g c =
           (tells_restart g.D.Disk.faults g.D.Disk.honest g.D.Disk.image start from to T c.args.n c.args.actor (unopened_by e) (went g at.After-is_up) r.reopened.armed
           (unopened_just g.D.Disk.honest (open_records start.slots ≡ []) (Rose (g.D.Disk.faults from.disk) (g.D.Disk.faults to.disk)) (after_halt c.args.n c.args.actor Fine T) e only (λ k. r.reopened.fault (c.in_default.is ∙ ap Err k))
           (λ is p k. r.reopened.never is p (c.in_default.is ∙ ap Err k))) told);
+      finds = λ is start found.
+          let U = past_of c.if-was_up.self.trace in
+          finds_on g.D.Disk.faults g.D.Disk.seen start from to T U (went g at.After-is_up).grows
+          (λ f. inl (elim only [
+            | inl k ↦ r.reopened.fault (c.in_default.is ∙ ap Err k)
+            | inr k ↦ absurd (r.reopened.never (g.met.D.Disk.tells is) k.0 (c.in_default.is ∙ ap Err k.1))
+          ])) found;
     }
 
 pub returns-in_default-clause-calls : goal.returns-in_default-clause-calls
@@ -196,6 +205,13 @@ returns-clause-runs g c =
           (λ is empty.
           opened_just g.D.Disk.faults g.D.Disk.honest g.D.Disk.image g.D.Disk.seen start from to c.args.self.now q n a c.restart_answer.result m T (after_halt n a Fine T) (is_there g b) r.among (λ k. IfOk-at_ok _ c.in-Ok.is (r.reopened.records k)) r.within
           (IfOk-at_ok _ c.in-Ok.is r.reopened.count) go halt (ap (λ (x : Answer). after_halt n a x T) (sym (fine g b))) told is empty) told);
+      finds = λ is start seen.
+          let U = after_halt n a Fine T in
+          subst (λ (V : List Placed). Finds g.D.Disk.faults g.D.Disk.seen start to V)
+          (sym (opened_trace n a m found c.restart_answer.result T (past_of q.trace) (past_of c.push_reserved-2.new.self.items) (past_of c.restart_all.new.self.trace) done.0.1 (pushed g b) halt.trace (fine g b)))
+          (finds_on g.D.Disk.faults g.D.Disk.seen start from to T (after_restart n a (Opens found m) T) go.grows
+          (λ f. inr (found_opened g.D.Disk.seen from to U m (known U) r.reopened.armed (is_there g b) (IfOk-at_ok _ c.in-Ok.is (r.reopened.records (g.met.D.Disk.tells is)))
+          (found_halt g.D.Disk.seen from T n a Fine c.requires.holds.up f))) seen);
     })
     (both_ok _ _ c.restart_all.result (both_ok _ _ c.restart_all.result c.restart_all.ensures.worlds c.restart_all.ensures.trace) (both_ok _ _ c.restart_all.result c.restart_all.ensures.kept c.restart_all.ensures.sound))
 

@@ -19,7 +19,7 @@ use Rattle.replay_runs.proofs.replay.Run.roll_back.Goals as goal
 pub loop-i-init : goal.loop-i-init
 loop-i-init g c = record {
   contexts = refl;
-  runs = runs_same g.D.Disk.faults g.D.Disk.honest g.D.Disk.image c.args.log.now c.args.self.now c.requires.holds;
+  runs = runs_same g.D.Disk.faults g.D.Disk.honest g.D.Disk.image g.D.Disk.obeys g.D.Disk.seen c.args.log.now c.args.self.now c.requires.holds;
   entered = all_below_next c.args.n c.args.self.now.worlds c.requires.below;
   still = λ j u less e. c.requires.below u;
   done = refl;
@@ -61,7 +61,7 @@ loop-i-preserved g c =
     let did = c.in_ok-call.ensures in
     record {
       contexts = c.call.ensures.contexts ∙ was.contexts;
-      runs = runs_then g.D.Disk.faults g.D.Disk.honest g.D.Disk.image c.args.log.now c.args.log.now c.args.log.now c.args.self.now c.loop-i.self c.call.new.self was.runs did.runs;
+      runs = runs_then g.D.Disk.faults g.D.Disk.honest g.D.Disk.image g.D.Disk.obeys g.D.Disk.seen c.args.log.now c.args.log.now c.args.log.now c.args.self.now c.loop-i.self c.call.new.self was.runs did.runs;
       entered = all_below (c.args.n + 1) t c.loop-i.self.worlds c.call.new.self.worlds c.call.ensures.others did.entered was.entered;
       still = still_below c.args.n i ts t c.loop-i.self.worlds c.call.new.self.worlds c.requires.once at.slot c.call.ensures.others was.still;
       done =

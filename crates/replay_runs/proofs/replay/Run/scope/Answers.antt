@@ -12,7 +12,7 @@ use Rattle.script_calls.specs.declared.scope_lines.Gives.{Gives}
 use Rattle.script_calls.specs.declared.scope_lines.Gives.TheVariants.{Call as CallGiven, Nothing, Rollbacks}
 use Rattle.replay_runs.specs.RunState.{AreBelow, Holds, RunsOn, state_of}
 use Rattle.script_calls.specs.Scoped.{AreOpen, calls_given, rollbacks, rolled_at, scopes_at}
-use Rattle.replay_runs.proofs.AtContext.{noted_holds, noted_tells, scope_did, scope_gives}
+use Rattle.replay_runs.proofs.AtContext.{noted_finds, noted_holds, noted_tells, scope_did, scope_gives}
 use Rattle.replay_runs.proofs.Entering.{all_below, all_below_next}
 use Rattle.replay_runs.proofs.Going.{runs_then}
 use Rattle.replay_runs.proofs.RollingBack.{rolled_once}
@@ -30,7 +30,7 @@ held g c =
     (record { script = c.at_context.ensures.script; objects = c.at_context.ensures.objects; worlds = c.at_context.ensures.worlds; block = c.in_ok-at_context.ensures.block }) c.requires.holds
 
 -- and so the run goes on;
-ran : (g : Over) (c : In_ok-at_context g) → RunsOn g.D.Disk.faults g.D.Disk.honest g.D.Disk.image c.args.log.now c.args.log.now c.args.self.now c.at_context.new.self
+ran : (g : Over) (c : In_ok-at_context g) → RunsOn g.D.Disk.faults g.D.Disk.honest g.D.Disk.image g.D.Disk.obeys g.D.Disk.seen c.args.log.now c.args.log.now c.args.self.now c.at_context.new.self
 ran g c =
     let l = c.args.l.now in
     let es = scope_block c.args.n l.actor l.body (scopes_at l.actor c.args.self.now.contexts) in
@@ -40,6 +40,9 @@ ran g c =
       holds = held g c;
       tells = λ start.
           noted_tells g.D.Disk.faults g.D.Disk.honest g.D.Disk.image start c.args.log.now l.actor es c.args.self.now c.at_context.new.self
+          (record { script = c.at_context.ensures.script; objects = c.at_context.ensures.objects; worlds = c.at_context.ensures.worlds; block = c.in_ok-at_context.ensures.block });
+      finds = λ is start.
+          noted_finds g.D.Disk.faults g.D.Disk.seen start c.args.log.now l.actor es c.args.self.now c.at_context.new.self
           (record { script = c.at_context.ensures.script; objects = c.at_context.ensures.objects; worlds = c.at_context.ensures.worlds; block = c.in_ok-at_context.ensures.block });
     }
 
@@ -122,7 +125,7 @@ pub returns-in-Call-clause-runs : goal.returns-in-Call-clause-runs
 returns-in-Call-clause-runs g c =
     let log = c.args.log.now in
     let first = ran g (goal.at.returns-in-Call-clause-runs g c).In_ok-at_context in
-    on_ok_weaker c.call.result (runs_then g.D.Disk.faults g.D.Disk.honest g.D.Disk.image log log log c.args.self.now c.at_context.new.self c.call.new.self first) c.call.ensures.runs
+    on_ok_weaker c.call.result (runs_then g.D.Disk.faults g.D.Disk.honest g.D.Disk.image g.D.Disk.obeys g.D.Disk.seen log log log c.args.self.now c.at_context.new.self c.call.new.self first) c.call.ensures.runs
 
 pub returns-in-Call-clause-entered : goal.returns-in-Call-clause-entered
 returns-in-Call-clause-entered g c =
@@ -143,7 +146,7 @@ pub returns-in-Rollbacks-clause-runs : goal.returns-in-Rollbacks-clause-runs
 returns-in-Rollbacks-clause-runs g c =
     let log = c.args.log.now in
     let first = ran g (goal.at.returns-in-Rollbacks-clause-runs g c).In_ok-at_context in
-    on_ok_weaker c.roll_back.result (runs_then g.D.Disk.faults g.D.Disk.honest g.D.Disk.image log log log c.args.self.now c.at_context.new.self c.roll_back.new.self first) c.roll_back.ensures.runs
+    on_ok_weaker c.roll_back.result (runs_then g.D.Disk.faults g.D.Disk.honest g.D.Disk.image g.D.Disk.obeys g.D.Disk.seen log log log c.args.self.now c.at_context.new.self c.roll_back.new.self first) c.roll_back.ensures.runs
 
 pub returns-in-Rollbacks-clause-done : goal.returns-in-Rollbacks-clause-done
 returns-in-Rollbacks-clause-done g c =

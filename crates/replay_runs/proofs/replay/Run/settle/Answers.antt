@@ -17,7 +17,7 @@ pub loop-init : goal.loop-init
 loop-init g c =
     record {
       goes = steps_same g.D.Disk.faults g.D.Disk.honest g.D.Disk.image c.args.log.now c.args.self.now;
-      runs = runs_same g.D.Disk.faults g.D.Disk.honest g.D.Disk.image c.args.log.now c.args.self.now c.requires.holds;
+      runs = runs_same g.D.Disk.faults g.D.Disk.honest g.D.Disk.image g.D.Disk.obeys g.D.Disk.seen c.args.log.now c.args.self.now c.requires.holds;
       done = (0, refl);
       turns = λ start turn. turn;
       below = λ up below. below;
@@ -33,7 +33,7 @@ loop-preserved g c =
     subst (λ (r : List Line). Advances r c.args.t 1 c.loop.self.trace c.step.new.self.trace) was.runs.script (c.step.ensures.did some).some in
     record {
       goes = steps_then g.D.Disk.faults g.D.Disk.honest g.D.Disk.image c.args.log.now c.loop.log c.step.new.log start c.loop.self c.step.new.self was.goes c.step.ensures.goes;
-      runs = runs_then g.D.Disk.faults g.D.Disk.honest g.D.Disk.image c.args.log.now c.loop.log c.step.new.log start c.loop.self c.step.new.self was.runs c.in_ok-step.ensures.runs;
+      runs = runs_then g.D.Disk.faults g.D.Disk.honest g.D.Disk.image g.D.Disk.obeys g.D.Disk.seen c.args.log.now c.loop.log c.step.new.log start c.loop.self c.step.new.self was.runs c.in_ok-step.ensures.runs;
       done = (suc was.done.0, steps-more s c.args.t 1 was.done.0 start.trace c.loop.self.trace c.step.new.self.trace was.done.1 one);
       turns = λ first turn. turn-more s first c.args.t c.loop.self.trace c.step.new.self.trace (was.turns first turn) one;
       below = λ up below.
@@ -56,7 +56,7 @@ settled_there g c done =
     none_first (pending (world_at s c.args.t (past_of c.loop.self.trace))) none
 
 pub returns-then-not-branch-clause-runs : goal.returns-then-not-branch-clause-runs
-returns-then-not-branch-clause-runs g c = runs_then g.D.Disk.faults g.D.Disk.honest g.D.Disk.image c.args.log.now c.loop.log c.step.new.log c.args.self.now c.loop.self c.step.new.self c.loop.invariant.runs c.in_ok-step.ensures.runs
+returns-then-not-branch-clause-runs g c = runs_then g.D.Disk.faults g.D.Disk.honest g.D.Disk.image g.D.Disk.obeys g.D.Disk.seen c.args.log.now c.loop.log c.step.new.log c.args.self.now c.loop.self c.step.new.self c.loop.invariant.runs c.in_ok-step.ensures.runs
 
 pub returns-then-not-branch-clause-settled : goal.returns-then-not-branch-clause-settled
 returns-then-not-branch-clause-settled g c =

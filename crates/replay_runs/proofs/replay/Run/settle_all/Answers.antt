@@ -24,7 +24,7 @@ returns-clause-goes g c =
 pub returns-clause-runs : goal.returns-clause-runs
 returns-clause-runs g c =
     on_ok_weaker c.settle_round-2.result
-    (runs_then g.D.Disk.faults g.D.Disk.honest g.D.Disk.image c.args.log.now c.settle_round.new.log c.settle_round-2.new.log c.args.self.now c.settle_round.new.self c.settle_round-2.new.self c.in_ok-settle_round.ensures.runs) c.settle_round-2.ensures.runs
+    (runs_then g.D.Disk.faults g.D.Disk.honest g.D.Disk.image g.D.Disk.obeys g.D.Disk.seen c.args.log.now c.settle_round.new.log c.settle_round-2.new.log c.args.self.now c.settle_round.new.self c.settle_round-2.new.self c.in_ok-settle_round.ensures.runs) c.settle_round-2.ensures.runs
 
 pub returns-clause-turns : goal.returns-clause-turns
 returns-clause-turns g c =

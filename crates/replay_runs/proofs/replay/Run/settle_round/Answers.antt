@@ -13,7 +13,7 @@ pub loop-n-init : goal.loop-n-init
 loop-n-init g c =
     record {
       goes = steps_same g.D.Disk.faults g.D.Disk.honest g.D.Disk.image c.args.log.now c.args.self.now;
-      runs = runs_same g.D.Disk.faults g.D.Disk.honest g.D.Disk.image c.args.log.now c.args.self.now c.requires.holds;
+      runs = runs_same g.D.Disk.faults g.D.Disk.honest g.D.Disk.image g.D.Disk.obeys g.D.Disk.seen c.args.log.now c.args.self.now c.requires.holds;
       turns = λ start b. b;
       settled = λ same. below-first c.args.self.now.script (past_of c.args.self.now.trace);
     }
@@ -28,7 +28,7 @@ loop-n-preserved g c =
     let n : t.value ≡ c.loop-n.n = subst (λ (o : Option TxNo). IfSome o (λ x. x.value ≡ c.loop-n.n)) c.unwrap-t.ensures c.new.ensures.value in
     record {
       goes = steps_then g.D.Disk.faults g.D.Disk.honest g.D.Disk.image c.args.log.now old new c.args.self.now c.loop-n.self c.settle.new.self was.goes c.settle.ensures.goes;
-      runs = runs_then g.D.Disk.faults g.D.Disk.honest g.D.Disk.image c.args.log.now old new c.args.self.now c.loop-n.self c.settle.new.self was.runs c.in_ok-settle.ensures.runs;
+      runs = runs_then g.D.Disk.faults g.D.Disk.honest g.D.Disk.image g.D.Disk.obeys g.D.Disk.seen c.args.log.now old new c.args.self.now c.loop-n.self c.settle.new.self was.runs c.in_ok-settle.ensures.runs;
       turns = λ start b.
           let here : IsRoundAt s start t.value (past_of c.loop-n.self.trace) = subst (λ (m : ℕ). IsRoundAt s start m (past_of c.loop-n.self.trace)) (sym n) (was.turns start b) in
           let next : IsRoundAt s start t.value (past_of c.loop-n.self.trace) → IsRoundAt s start (t.value + 1) (past_of c.settle.new.self.trace) =

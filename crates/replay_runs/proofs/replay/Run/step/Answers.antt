@@ -10,11 +10,13 @@ use Rattle.dtx_model.specs.Grammar.{are_named_well}
 use Rattle.dtx_model.specs.Words.{has, kth, onto, past_of}
 use Rattle.dtx_model.specs.Steps.{pending}
 use Rattle.dtx_model.specs.Traces.{Placed, placed}
+use Rattle.dtx_model.specs.World.{core}
 use Rattle.dtx_model.proofs.Bools.{not_both}
 use Rattle.coordinator_log.specs.Slots.{open_records}
-use Rattle.tx_world.specs.AtLog.{Fits}
+use Rattle.tx_world.specs.AtLog.{Fits, id_of}
 use Rattle.tx_world.specs.State.{TxState}
 use Rattle.tx_world.specs.declared.refusal.WorldError.{WorldError}
+use Rattle.world_parts.specs.Found.{IsLeftAsWished}
 use Rattle.replay_runs.specs.Objects.{DoesGiven, MayReply}
 use Rattle.replay_runs.specs.RunState.{AreNumbered, HaveSameCalls, IsRecordKept, IsTied, RunState, StepsGo, halted, state_of}
 use Rattle.replay_runs.proofs.Noting.{as_long, grown}
@@ -86,6 +88,11 @@ done g c =
       leaves = c.do_kth.ensures.leaves;
       recorded = record { own = c.is_own_run-2.ensures.run; once = c.is_own_run-2.ensures.once; ours = c.is_own_run-2.ensures.ours; tried = c.is_own_run-2.ensures.tried };
     })
+
+-- and where it stopped the log, what that left of its record is as wished
+wished : (g : Over) (c : After-is_own_run-2 g) → IsTrue g.D.Disk.obeys → IsLeftAsWished g.D.Disk.faults g.D.Disk.seen (core (was (about g c)).world) (id_of (was (about g c))) c.args.log.now c.do_kth.new.log
+wished g c is =
+    subst (λ (z : TxState). IsLeftAsWished g.D.Disk.faults g.D.Disk.seen (core z.world) (id_of z) c.args.log.now c.do_kth.new.log) (sym (was_reached g c)) (c.do_kth.ensures.found is)
 
 -- the run after it, as its parts stand then
 parts : (g : Over) (c : After-is_own_run-2 g) (T : List Placed)
@@ -211,15 +218,15 @@ returns-then-not-is_up g c =
     let up : IsTrue a.from.is_up = sym c.is_up-was_up.ensures.up ∙ c.if-was_up.true in
     let down : IsFalse a.to.is_up = sym c.is_up.ensures.up ∙ c.if-not-is_up.true in
     let stops = is_stopping_step g.D.Disk.faults g.D.Disk.honest g.D.Disk.image a mid (done g b) up down (noted g at.In_ok-note (was a) (long g b)) in
-    let d : IsStepped g.D.Disk.faults g.D.Disk.honest g.D.Disk.image a q =
-    step_stopped g.D.Disk.faults g.D.Disk.honest g.D.Disk.image a mid q (done g b) stops up down (c.stop_all.ensures.script ∙ ap (λ (r : RunState). r.script) c.self.view_is)
+    let d : IsStepped g.D.Disk.faults g.D.Disk.honest g.D.Disk.image g.D.Disk.obeys g.D.Disk.seen a q =
+    step_stopped g.D.Disk.faults g.D.Disk.honest g.D.Disk.image g.D.Disk.obeys g.D.Disk.seen a mid q (done g b) stops up down (c.stop_all.ensures.script ∙ ap (λ (r : RunState). r.script) c.self.view_is)
     (c.stop_all.ensures.objects ∙ objects g b) (c.stop_all.ensures.contexts ∙ ap (λ (r : RunState). r.contexts) c.self.view_is)
     (subst (λ (r : RunState). HaveSameCalls r.worlds q.worlds) now c.stop_all.ensures.calls)
     (λ u.
     subst (λ (r : RunState). state_of u q.worlds ≡ halted c.life.result (state_of u r.worlds)) now (c.in_ok-stop_all.ensures.worlds u)
     ∙ ap (λ l. halted l (state_of u (worlds_after a))) c.life.ensures)
     c.in_ok-stop_all.ensures.trace
-    (subst (λ (r : RunState). ((u : TxNo) → IsRecordKept (state_of u r.worlds)) → (u : TxNo) → IsRecordKept (state_of u q.worlds)) now c.in_ok-stop_all.ensures.kept) in
+    (subst (λ (r : RunState). ((u : TxNo) → IsRecordKept (state_of u r.worlds)) → (u : TxNo) → IsRecordKept (state_of u q.worlds)) now c.in_ok-stop_all.ensures.kept) (wished g b) in
     record { goes = d.goes; runs = d.runs; did = λ e. d.did; none = λ e. absurd (never_false e); unchanged = λ e. absurd (never_false e) }
 
 pub returns : goal.returns
@@ -234,6 +241,6 @@ returns g c =
     let noted : (es : List Entry) → a.y.world.past ≡ onto (was a).world.past es → new ≡ a.run.trace ++ placed a.t es =
     λ es wrote. c.in_ok-note-2.ensures (was a).world.past es (long g b) wrote ∙ ap (λ (r : RunState). r.trace ++ placed a.t es) c.self.view_is in
     let d =
-    subst (λ (q : RunState). IsStepped g.D.Disk.faults g.D.Disk.honest g.D.Disk.image a q) (sym (parts g b new))
-    (step_done g.D.Disk.faults g.D.Disk.honest g.D.Disk.image a new (done g b) stays noted) in
+    subst (λ (q : RunState). IsStepped g.D.Disk.faults g.D.Disk.honest g.D.Disk.image g.D.Disk.obeys g.D.Disk.seen a q) (sym (parts g b new))
+    (step_done g.D.Disk.faults g.D.Disk.honest g.D.Disk.image g.D.Disk.obeys g.D.Disk.seen a new (done g b) stays noted) in
     record { goes = d.goes; runs = d.runs; did = λ e. d.did; none = λ e. absurd (never_false e); unchanged = λ e. absurd (never_false e) }

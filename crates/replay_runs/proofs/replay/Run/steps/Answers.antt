@@ -13,7 +13,7 @@ pub loop-m-init : goal.loop-m-init
 loop-m-init g c =
     record {
       goes = steps_same g.D.Disk.faults g.D.Disk.honest g.D.Disk.image c.args.log.now c.args.self.now;
-      runs = runs_same g.D.Disk.faults g.D.Disk.honest g.D.Disk.image c.args.log.now c.args.self.now c.requires.holds;
+      runs = runs_same g.D.Disk.faults g.D.Disk.honest g.D.Disk.image g.D.Disk.obeys g.D.Disk.seen c.args.log.now c.args.self.now c.requires.holds;
       did = refl;
       done = refl;
     }
@@ -28,7 +28,7 @@ loop-m-preserved g c =
     let one = subst (λ (s : List Line). Advances s c.args.t c.args.k c.loop-m.self.trace c.step.new.self.trace) was.runs.script (c.step.ensures.did some).some in
     record {
       goes = steps_then g.D.Disk.faults g.D.Disk.honest g.D.Disk.image c.args.log.now c.loop-m.log c.step.new.log start c.loop-m.self c.step.new.self was.goes c.step.ensures.goes;
-      runs = runs_then g.D.Disk.faults g.D.Disk.honest g.D.Disk.image c.args.log.now c.loop-m.log c.step.new.log start c.loop-m.self c.step.new.self was.runs c.in_ok-step.ensures.runs;
+      runs = runs_then g.D.Disk.faults g.D.Disk.honest g.D.Disk.image g.D.Disk.obeys g.D.Disk.seen c.args.log.now c.loop-m.log c.step.new.log start c.loop-m.self c.step.new.self was.runs c.in_ok-step.ensures.runs;
       did = subst (λ (i : ℕ). HasStepped c.args.t.value c.args.k i (state_of c.args.t start.worlds).world (state_of c.args.t c.step.new.self.worlds).world) more
           ((c.step.ensures.did some).stepped m (state_of c.args.t start.worlds).world was.did);
       done = subst (λ (i : ℕ). StepsDone start.script c.args.t c.args.k i start.trace c.step.new.self.trace) more
@@ -42,7 +42,7 @@ pub returns-then-not-branch-clause-goes : goal.returns-then-not-branch-clause-go
 returns-then-not-branch-clause-goes g c = steps_then g.D.Disk.faults g.D.Disk.honest g.D.Disk.image c.args.log.now c.loop-m.log c.step.new.log c.args.self.now c.loop-m.self c.step.new.self c.loop-m.invariant.goes c.step.ensures.goes
 
 pub returns-then-not-branch-clause-runs : goal.returns-then-not-branch-clause-runs
-returns-then-not-branch-clause-runs g c = runs_then g.D.Disk.faults g.D.Disk.honest g.D.Disk.image c.args.log.now c.loop-m.log c.step.new.log c.args.self.now c.loop-m.self c.step.new.self c.loop-m.invariant.runs c.in_ok-step.ensures.runs
+returns-then-not-branch-clause-runs g c = runs_then g.D.Disk.faults g.D.Disk.honest g.D.Disk.image g.D.Disk.obeys g.D.Disk.seen c.args.log.now c.loop-m.log c.step.new.log c.args.self.now c.loop-m.self c.step.new.self c.loop-m.invariant.runs c.in_ok-step.ensures.runs
 
 pub returns-then-not-branch-clause-did : goal.returns-then-not-branch-clause-did
 returns-then-not-branch-clause-did g c =

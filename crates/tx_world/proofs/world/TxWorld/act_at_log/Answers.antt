@@ -1,14 +1,18 @@
 use Rattle.std.proofs.Common.{◌≡◌, ◌∷◌, ◌∙◌, List, true, ap, sym}
+use Rattle.std.specs.Prelude.{IsTrue}
 use Rattle.dtx_values.specs.declared.entry.Entry.{Entry}
 use Rattle.dtx_values.specs.declared.entry.Entry.TheVariants.{Stopped}
 use Rattle.dtx_model.specs.Coordinated.{Coordinated}
 use Rattle.dtx_model.specs.Words.{each, onto}
 use Rattle.dtx_model.specs.Steps.{coordinates}
 use Rattle.dtx_model.specs.Tied.{tied}
+use Rattle.dtx_model.specs.World.{core}
 use Rattle.world_laws.specs.Carried.{are_sendable}
 use Rattle.world_laws.specs.Course.{is_written}
+use Rattle.tx_world.specs.AtLog.{id_of}
 use Rattle.tx_world.specs.Tried.{IsTried}
-use Rattle.tx_world.proofs.AtTheLog.{Acted, acted, acted_leaves, acted_life, acted_so, acted_tried, acted_whole, stop_only, written_only}
+use Rattle.world_parts.specs.Found.{IsLeftAsWished}
+use Rattle.tx_world.proofs.AtTheLog.{Acted, acted, acted_leaves, acted_life, acted_so, acted_tried, acted_whole, acted_wished, stop_only, written_only}
 use Rattle.tx_world.proofs.Written.{block_of, stopped_is, world_of}
 use Rattle.tx_world.proofs.world.TxWorld.act_at_log.Given.{Over}
 use Rattle.tx_world.proofs.world.TxWorld.act_at_log.Goals.{After-act, After-entries, After-stop, After-write}
@@ -35,6 +39,12 @@ tried g c n past =
     let d = did g c in
     acted_tried i.transaction (world_of i.calls.items i.history.past) i.half i.core c.act.new.core acts.answer n i.at_log c.act.new.self c.self.invariant d past c.act.ensures.leaves.ours c.act.ensures.leaves.had
     (λ stops. stop_only i.core.state acts.answer d.running (ap (λ (s : Coordinated). s.stopped) (sym acts.state) ∙ stops))
+
+-- what a stop by it leaves of its record is as wished
+wished : (g : Over) (c : After-act g) → IsTrue g.D.Disk.obeys → IsLeftAsWished g.D.Disk.faults g.D.Disk.seen (core c.args.self.now.world) (id_of c.args.self.now) c.args.log.now c.act.new.log
+wished g c obeys =
+    let i = c.self.inside in
+    acted_wished g.D.Disk.faults g.D.Disk.seen i.transaction (world_of i.calls.items i.history.past) i.half i.core i.at_log c.args.self.now c.args.log.now c.act.new.log c.self.invariant.kept c.self.view_is (c.act.ensures.found obeys)
 
 -- where that stopped it, the stop alone comes onto the past
 stop_past : (g : Over) (c : After-stop g) → Acted c.self.inside.transaction (world_of c.self.inside.calls.items c.self.inside.history.past) c.self.inside.half c.self.inside.core c.act.new.core c.act.ensures.acts.answer
@@ -109,3 +119,9 @@ returns-else-is_stopped-clause-leaves g c =
     let at = goal.at.returns-else-is_stopped-clause-leaves g c in
     acted_leaves i.transaction (world_of i.calls.items i.history.past) i.half i.core c.act.new.core c.act.ensures.acts.answer c.write.new.self.past i.at_log c.act.new.self c.args.self.now c.args.log.now c.act.new.log
     c.self.invariant.kept (did g at.After-act) (write_past g c (block g at.After-entries)) c.act.ensures.leaves c.act.ensures.later c.self.view_is
+
+pub returns-then-is_stopped-clause-found : goal.returns-then-is_stopped-clause-found
+returns-then-is_stopped-clause-found g c = wished g (goal.at.returns-then-is_stopped-clause-found g c).After-act
+
+pub returns-else-is_stopped-clause-found : goal.returns-else-is_stopped-clause-found
+returns-else-is_stopped-clause-found g c = wished g (goal.at.returns-else-is_stopped-clause-found g c).After-act

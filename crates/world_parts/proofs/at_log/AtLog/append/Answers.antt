@@ -16,6 +16,7 @@ use Rattle.world_parts.proofs.ActLeaves.{left_before, left_now, left_same}
 use Rattle.world_parts.proofs.Answering.{acts_before, acts_now, appending, broken_refused, full_unbroken, kept_tried, may_append, never_both, none_refused, refused_unbroken, unchanged_by, was_up}
 use Rattle.world_parts.proofs.Fitting.{keeps_appended, keeps_stopped, none_found, slots_appended}
 use Rattle.world_parts.proofs.Keeping.{none_kept, ours_full, ours_logged, runs_then}
+use Rattle.world_parts.proofs.Wished.{wished_append, wished_same, wished_up}
 use Rattle.world_parts.specs.Prepared.{Names}
 use Rattle.world_parts.proofs.Named.{named_logged, names_none}
 
@@ -95,3 +96,25 @@ returns-in-Err-Stopped-clause-leaves g c =
     left_before g.D.Disk.honest g.D.Disk.image c.args.core.now.transaction.value c.args.core.now.state c.args.self.now c.args.log.now c.stop-in-Err-Stopped.new.core.state c.append.new.self
     (unchanged_by c.append.result Refused refused_unbroken (c.in-Err-Stopped.is ∙ ap (λ (e : LogRefusal). Err e) c.in-Err-Stopped.field-0-is) c.append.ensures.unchanged)
     c.requires.fits c.requires.ours c.stop-in-Err-Stopped.ensures.state
+
+pub returns-in-Ok-clause-found : goal.returns-in-Ok-clause-found
+returns-in-Ok-clause-found g c = λ obeys. wished_up g.D.Disk.faults g.D.Disk.seen c.args.core.now.state (identifier_of c.args.core.now.transaction.value) c.args.log.now c.append.new.self c.in-Ok.ensures.up
+
+pub returns-in-Err-Full-clause-found : goal.returns-in-Err-Full-clause-found
+returns-in-Err-Full-clause-found g c = λ obeys.
+    wished_same g.D.Disk.faults g.D.Disk.seen c.args.core.now.state (identifier_of c.args.core.now.transaction.value) c.args.log.now c.append.new.self
+    (unchanged_by c.append.result (HasNone c.in-Err-Full.field-0-0) (full_unbroken c.in-Err-Full.field-0-0) (c.in-Err-Full.is ∙ ap (λ (e : LogRefusal). Err e) c.in-Err-Full.field-0-is) c.append.ensures.unchanged)
+
+pub returns-in-Err-StoppedNow-clause-found : goal.returns-in-Err-StoppedNow-clause-found
+returns-in-Err-StoppedNow-clause-found g c = λ obeys.
+    let id = identifier_of c.args.core.now.transaction.value in
+    let broken = c.in-Err-StoppedNow.is ∙ ap (λ (e : LogRefusal). Err e) c.in-Err-StoppedNow.field-0-is in
+    let none = none_kept id c.args.core.now.state c.args.self.now c.requires.votes c.requires.ours in
+    wished_append g.D.Disk.faults g.D.Disk.seen c.args.core.now.state id (record_of c.args.kept) c.args.log.now c.append.new.self c.requires.votes c.requires.own
+    (λ up. none_found id c.args.self.now.ours c.args.self.now.unsure (open_records c.args.log.now.slots) none.0 none.1 (c.requires.fits (g.met.D.Disk.tells obeys) up))
+    (c.append.ensures.used broken) (c.append.ensures.found obeys)
+
+pub returns-in-Err-Stopped-clause-found : goal.returns-in-Err-Stopped-clause-found
+returns-in-Err-Stopped-clause-found g c = λ obeys.
+    wished_same g.D.Disk.faults g.D.Disk.seen c.args.core.now.state (identifier_of c.args.core.now.transaction.value) c.args.log.now c.append.new.self
+    (unchanged_by c.append.result Refused refused_unbroken (c.in-Err-Stopped.is ∙ ap (λ (e : LogRefusal). Err e) c.in-Err-Stopped.field-0-is) c.append.ensures.unchanged)

@@ -17,6 +17,7 @@ use Rattle.world_parts.proofs.ActLeaves.{left_before, left_freed, left_now}
 use Rattle.world_parts.proofs.Answering.{acts_before, acts_freed, acts_now, broken_refused, freeing, kept_freed, kept_unfreed, lost_refused, lost_unbroken, may_release, never_both, none_refused, refused_unbroken, unchanged_by, was_up}
 use Rattle.world_parts.proofs.Fitting.{keeps_freed, keeps_unfreed, slots_freed, slots_lost}
 use Rattle.world_parts.proofs.Keeping.{one_kept, runs_still}
+use Rattle.world_parts.proofs.Wished.{wished_free, wished_same, wished_up}
 use Rattle.world_parts.specs.Prepared.{Names}
 
 pub stop-requires-clause-up : goal.stop-requires-clause-up
@@ -121,3 +122,25 @@ returns-in-Err-Stopped-clause-leaves g c =
     left_before g.D.Disk.honest g.D.Disk.image c.args.core.now.transaction.value c.args.core.now.state c.args.self.now c.args.log.now c.stop-in-Err-Stopped.new.core.state c.free.new.self
     (unchanged_by c.free.result Refused refused_unbroken (c.in-Err-Stopped.is ∙ ap (λ (e : LogRefusal). Err e) c.in-Err-Stopped.field-0-is) c.free.ensures.unchanged)
     c.requires.fits c.requires.ours c.stop-in-Err-Stopped.ensures.state
+
+pub returns-in-Ok-clause-found : goal.returns-in-Ok-clause-found
+returns-in-Ok-clause-found g c = λ obeys. wished_up g.D.Disk.faults g.D.Disk.seen c.args.core.now.state (identifier_of c.args.core.now.transaction.value) c.args.log.now c.free.new.self c.in-Ok.ensures.up
+
+pub returns-in-Err-NoSuch-clause-found : goal.returns-in-Err-NoSuch-clause-found
+returns-in-Err-NoSuch-clause-found g c = λ obeys.
+    let lost = lost_id c.free.result c.args.id c.in-Err-NoSuch.field-0-0 (c.in-Err-NoSuch.is ∙ ap (λ (e : LogRefusal). Err e) c.in-Err-NoSuch.field-0-is) c.free.ensures.only in
+    wished_same g.D.Disk.faults g.D.Disk.seen c.args.core.now.state (identifier_of c.args.core.now.transaction.value) c.args.log.now c.free.new.self
+    (unchanged_by c.free.result (NoSuch c.args.id) (lost_unbroken c.args.id) lost c.free.ensures.unchanged)
+
+pub returns-in-Err-StoppedNow-clause-found : goal.returns-in-Err-StoppedNow-clause-found
+returns-in-Err-StoppedNow-clause-found g c = λ obeys.
+    let id = identifier_of c.args.core.now.transaction.value in
+    let broken = c.in-Err-StoppedNow.is ∙ ap (λ (e : LogRefusal). Err e) c.in-Err-StoppedNow.field-0-is in
+    let kept = one_kept id c.args.core.now.state c.args.self.now c.requires.finished c.requires.ours in
+    wished_free g.D.Disk.faults g.D.Disk.seen c.args.core.now.state id c.args.id c.args.self.now.ours c.args.self.now.unsure c.args.log.now c.free.new.self c.requires.votes c.requires.own kept.0 kept.1
+    (c.requires.fits (g.met.D.Disk.tells obeys)) (c.free.ensures.used broken) (c.free.ensures.found obeys)
+
+pub returns-in-Err-Stopped-clause-found : goal.returns-in-Err-Stopped-clause-found
+returns-in-Err-Stopped-clause-found g c = λ obeys.
+    wished_same g.D.Disk.faults g.D.Disk.seen c.args.core.now.state (identifier_of c.args.core.now.transaction.value) c.args.log.now c.free.new.self
+    (unchanged_by c.free.result Refused refused_unbroken (c.in-Err-Stopped.is ∙ ap (λ (e : LogRefusal). Err e) c.in-Err-Stopped.field-0-is) c.free.ensures.unchanged)
