@@ -11,9 +11,12 @@ use Rattle.dtx_values.specs.declared.script.Line.{Line}
 use Rattle.dtx_model.specs.Caused.{Caused, calls_in, has_object, is_as_planned, is_up_to, plans_of, is_vote_planned, is_promotion_planned, is_outcome_planned, is_request_planned}
 use Rattle.dtx_model.specs.Plans.{manager_of}
 use Rattle.dtx_model.specs.Replay.{due_calls}
-use Rattle.dtx_model.specs.Traces.{Placed, calls, history}
+use Rattle.dtx_model.specs.AtLog.{is_log}
+use Rattle.dtx_model.specs.Traces.{Placed, calls, history, is_at}
 use Rattle.dtx_model.specs.Words.{always, past_of}
 use Rattle.dtx_model.proofs.Bools.{and_both, and_left, and_right}
+use Rattle.script_calls.specs.FirstCalls.{par_line}
+use Rattle.script_calls.proofs.FirstCalls.{first_by_due}
 use Rattle.call_order.specs.InOrder.{AreInActorOrder}
 use Rattle.thread_runs.specs.Run.{EndsOnThreads, IsRunOnThreads}
 use Rattle.replay_runs.specs.Ending.{IsLogOf}
@@ -71,6 +74,8 @@ replay_on_threads order s k a from to honest T le run = record {
   rise = run.rise + ((to - a) - run.rise);
   risen = λ less. let r = run.risen less in omega (arith, r, le);
   ordered = order s T run.replay.called;
+  first = λ t. first_by_due s (past_of s) (is_at t.value) (par_line s) (past_of T) run.replay.called;
+  first_at_log = first_by_due s (past_of s) is_log (par_line s) (past_of T) run.replay.called;
   history = let h = run.history in record {
     caused = λ t. caused_more s k t.value (history t.value (past_of T)) (h.caused t);
     wires = h.wires;

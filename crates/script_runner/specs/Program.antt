@@ -5,6 +5,7 @@ use Rattle.dtx_values.specs.declared.script.Line.{Line}
 use Rattle.dtx_model.specs.AtLog.{has_log_line}
 use Rattle.dtx_model.specs.Grammar.{IsScript, Reads}
 use Rattle.dtx_model.specs.Traces.{Placed}
+use Rattle.dtx_model.specs.Words.{each}
 use Rattle.program_words.specs.Commands.{Asks}
 use Rattle.program_words.specs.declared.command.Command.{Command}
 use Rattle.program_words.specs.declared.command.Command.TheVariants.{Replay, Threads}
@@ -14,6 +15,7 @@ use Rattle.script_calls.specs.Threadable.{IsThreadable}
 use Rattle.replay_runs.specs.Ending.{IsLogOf}
 use Rattle.replay_runs.specs.Lawful.{IsLawful}
 use Rattle.replay_runs.specs.Run.{IsRunOf}
+use Rattle.trace_text.specs.OneTrace.{is_carried_at, is_frame_typed_at, is_got_carried_at, is_typed_at}
 pub use Rattle.program_io.specs.FormText.{form_text}
 use Rattle.program_io.specs.Transfer.{IsPartWritten}
 use Rattle.program_io.specs.declared.way.Way.{Way}
@@ -50,13 +52,18 @@ abbrev pub IsRunBy : Way → ℕ → ℕ → ℕ → Bool → (List ℕ → Type
 IsRunBy ReplayWay = IsReplayOf
 IsRunBy (ThreadsWay h) = IsThreadsOf
 
--- There is a run as P says, of the script that the source gave, where it tells its bytes, and of some script where it tells nothing; and this holds of its trace.
+-- There is a run as P says, of the script that the source gave, where it tells its bytes, and of some script where it tells nothing; and this holds of its trace. The numbers of the trace are those of their types, and each of its messages is one
+-- that its connection carries: so its text, but for a summary, is that of no other such trace, up to what a message's line leaves out.
 pub record HasRun (P : List Line → List Placed → Type 0) (given : Option (List ℕ)) (holds : List Placed → Type 0) : Type 0 where
   pub lines : List Line
   pub trace : List Placed
   pub read : ForSome given (λ b. Reads b lines)
   pub script : IsScript lines
   pub ran : P lines trace
+  pub typed : each is_typed_at trace ≡ true
+  pub frame_typed : each is_frame_typed_at trace ≡ true
+  pub carried : each is_carried_at trace ≡ true
+  pub got_carried : each is_got_carried_at trace ≡ true
   pub gained : holds trace
 
 -- there is such a run, and the sink, where it tells what was written, gained exactly the text of its trace in this form

@@ -102,8 +102,8 @@ pub fn run_threads<D: Disk + Send, G: Gate + Sync, R: Threads + Wait + Sync>(
     requires script { IsThreadable s.now }
     requires fresh { IsFresh log }
 
-    // The trace: a run of the script on threads. On an honest disk each restart in it found what may be found; and so is each trace without a restart. Where that is so, it is a settled history,
-    // with one outcome for each transaction, and complete. The log at the end is in it.
+    // The trace: a run of the script on threads, which is a settled history. On an honest disk each restart in it found what may be found; and so is each trace without a restart. Where that is so, it has one outcome for each
+    // transaction, and is complete. The log at the end is in it.
     ensures run { IfOk result.0 (IsThreadsOf (vec_len resources) (D.faults log.disk) (D.faults result.1) D.honest (D.image result.1) s.now) }
 
     // Unless the disk met a fault while it was formatted anew, each image that a crash can leave is a log of the script's transactions alone.

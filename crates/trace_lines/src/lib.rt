@@ -18,7 +18,7 @@ mod tally;
 mod widths;
 mod wire;
 
-pub use laws::one_trace;
+pub use laws::{one_trace, typed_trace};
 pub use objects::json_trace;
 pub use printer::{print_lines, print_trace, put_line};
 pub use tally::summary;

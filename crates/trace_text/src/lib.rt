@@ -6,4 +6,4 @@ mod reader;
 pub use dtx_values::Place;
 pub use entry_lists::{PlacedEntries, Trace};
 pub use reader::{TraceError, read_trace, reads_traces_exactly};
-pub use trace_lines::{json_trace, one_trace, print_lines, print_trace, summary};
+pub use trace_lines::{json_trace, one_trace, print_lines, print_trace, summary, typed_trace};

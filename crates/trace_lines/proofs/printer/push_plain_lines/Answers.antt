@@ -2,7 +2,7 @@ use Rattle.std.proofs.Common.{◌≡◌, ◌<◌, ◌++◌, List, ℕ, ap, arith
 use Rattle.dtx_model.specs.Words.{each}
 use Rattle.trace_lines.specs.OneTrace.{is_typed_at}
 use Rattle.dtx_model.specs.TraceText.{trace_text}
-use Rattle.trace_lines.proofs.Printing.{lines-step, typed-step}
+use Rattle.trace_lines.proofs.Printing.{each-step, lines-step}
 use Rattle.trace_lines.proofs.printer.push_plain_lines.Goals as goal
 
 pub loop-index-preserved : goal.loop-index-preserved
@@ -15,7 +15,7 @@ loop-index-preserved c =
       text = λ before e.
           ap (λ (x : List ℕ). before ++ x) c.in_ok-extend_from_slice.ensures.items ∙ sym (append_assoc before c.loop-index.text.items _)
           ∙ (λ i. c.loop-index.invariant.text before e i ++ (c.as_slice.ensures ∙ c.put_line.ensures.text) i) ∙ sym step;
-      typed = λ e. typed-step c.args.t.now c.loop-index.index c.at.result within c.at.ensures (c.loop-index.invariant.typed e) c.put_line.ensures.typed;
+      typed = λ e. each-step is_typed_at c.args.t.now c.loop-index.index c.at.result within c.at.ensures (c.loop-index.invariant.typed e) c.put_line.ensures.typed;
     }
 
 pub returns-clause-text : goal.returns-clause-text
