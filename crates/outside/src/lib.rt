@@ -23,9 +23,12 @@
 //! A [`Gate`] is a place that each reply on threads goes by, where a test may hold it. [`OpenGate`] holds
 //! nothing.
 //!
+//! A [`Clock`] counts milliseconds. [`SystemClock`] is the system's, and [`MemClock`] has a list of readings.
+//!
 //! All rules here are definitions of this project.
 #![tactic(auto)]
 
+mod clock;
 mod disk;
 mod failure;
 mod file_disk;
@@ -41,6 +44,7 @@ mod sure;
 mod sure_disk;
 mod tape;
 
+pub use clock::{Clock, MemClock, SystemClock};
 pub use disk::Disk;
 pub use dtx_values::Image;
 pub use failure::{Failed, WriteError};
