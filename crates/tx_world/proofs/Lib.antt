@@ -31,3 +31,4 @@ pub mod Reenlisting
 pub mod Statuses
 pub mod Sending
 pub mod Few
+pub mod Fitting

@@ -26,7 +26,7 @@ use crate::refusal::WorldError;
 use coordinator_core::Core;
 use coordinator_log::Log;
 use dtx_model::EnteredCall;
-use dtx_values::{ActorNo, Answer, Call, EnlNo, Note, Outcome, TxNo};
+use dtx_values::{ActorNo, Answer, Call, EnlNo, Note, Outcome, Reply, TxNo};
 use entry_lists::Entries;
 use local_half::{LocalHalf, Right};
 use outside::Disk;
@@ -48,6 +48,33 @@ mod stops;
 mod turns;
 
 /// The whole of one transaction.
+///
+/// # Driving one
+///
+/// A call writes its entry and its facts. What follows of it are the pending steps: the replies that are due, by number, and after them the local act, the
+/// coordinator's act at the log, and what is under way on the connections. Each step leaves fewer.
+///
+/// ```text
+/// if world.may_enter(line, &call) {
+///     let answer = world.call(&mut log, &mut out, actor, line, &call)?;
+///     loop {
+///         let went = match world.due_at(1) {
+///             Some((e, note)) => {
+///                 let reply = reply_to(e, note);
+///                 world.fits(e, reply) && world.reply(&log, &mut out, e, reply)?
+///             }
+///             None => world.step(&mut log, &mut out, 1)?,
+///         };
+///         if !went {
+///             break;
+///         }
+///     }
+/// }
+/// ```
+///
+/// A reply that is put off is passed over: the step after it is `step(k)` with the first k of which [`TxWorld::due_at`] gives nothing. An enlistment whose call plans no
+/// reply is never pending, so a caller that replies itself gives each call a plan, and never uses it. Over an honest disk the log must fit each transaction that uses it (`Fits`): a new one
+/// fits a log with no record of its number, and each call here keeps that, for itself and for every transaction of another number.
 #[derive(Drop)]
 pub struct TxWorld {
     transaction: TxNo,
@@ -133,6 +160,20 @@ impl TxWorld {
         } else {
             0
         }
+    }
+
+    /// Whether the reply fits the note to which one of the enlistment is due, as [`TxWorld::reply`] asks. Where none is due, each fits.
+    pub fn fits(&self, e: EnlNo, r: Reply) -> bool
+        ensures { result ≡ fits_due r (due_of (half self.now.world).seen e.value) }
+    {
+        self.half.fits(e, r)
+    }
+
+    /// Whether it keeps a record of its commit: one was appended, or may have been when the log was stopped, and it wasn't freed since.
+    pub fn has_record(&self) -> bool
+        ensures { result ≡ is_some self.now.ours }
+    {
+        self.at_log.has_record()
     }
 
     /// What the client was told.
