@@ -1,0 +1,4 @@
+pub mod Heeded
+pub mod SettledRuns
+pub mod Unpromoted
+pub mod Told
