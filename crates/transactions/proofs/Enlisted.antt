@@ -1,0 +1,52 @@
+-- What is enlisted in one transaction of a manager.
+use Rattle.std.proofs.Common.{ℕ, ◌≡◌, ◌∙◌, List, Some, Result, Ok, Err, IfOk, OnErr, inr, ap}
+use Rattle.dtx_values.specs.declared.entry.Answer.{Answer}
+use Rattle.dtx_values.specs.declared.entry.Answer.TheVariants.{Wait}
+use Rattle.dtx_values.specs.declared.entry.Entry.TheVariants.{Answered}
+use Rattle.dtx_values.specs.declared.number.CloneNo.{CloneNo}
+use Rattle.dtx_values.specs.declared.number.EnlNo.{EnlNo}
+use Rattle.dtx_values.specs.declared.number.TxNo.{TxNo}
+use Rattle.dtx_values.specs.declared.words.CloneKind.{CloneKind}
+use Rattle.coordinator_log.specs.State.{LogState}
+use Rattle.transactions.specs.declared.error.TxError.{TxError}
+use Rattle.transactions.specs.declared.kind.Kind.{Kind}
+use Rattle.transactions.specs.Answered.{Has}
+use Rattle.transactions.specs.Enlisting.{Clones, ClonesAt, Enlists, EnlistsAt, IsAnswered}
+use Rattle.transactions.specs.Slots.{live_at}
+use Rattle.transactions.specs.State.{LiveState, past}
+use Rattle.transactions.proofs.Nexts.{one_at}
+
+-- an enlistment leaves the number and what it is used for
+pub enlist_leaves : {D : Type 0} (faults : D → ℕ) (log : LogState D) (k : Kind) (z : Result (EnlNo × ℕ × Answer) TxError) (x y : LiveState) → IfOk z (λ r. Enlists faults log k r.0 r.1 r.2 x y)
+    → OnErr z (y ≡ record x { enlisted = y.enlisted }) → (y.usage ≡ x.usage) × (y.number ≡ x.number)
+enlist_leaves faults log k (Ok r) x y made failed = (ap (λ (v : LiveState). v.usage) made.called.rest, ap (λ (v : LiveState). v.number) made.called.rest)
+enlist_leaves faults log k (Err e) x y made failed = (ap (λ (v : LiveState). v.usage) failed, ap (λ (v : LiveState). v.number) failed)
+
+-- what was enlisted at its place
+pub enlisted_at : {D : Type 0} (faults : D → ℕ) (log : LogState D) (t : TxNo) (k : Kind) (z : Result (EnlNo × ℕ × Answer) TxError) (xs ys : List LiveState) (x y : LiveState) → live_at t xs ≡ Some x → live_at t ys ≡ Some y → x.number ≡ t
+    → IfOk z (λ r. Enlists faults log k r.0 r.1 r.2 x y) → IfOk z (λ r. EnlistsAt faults log t k r.0 r.1 r.2 xs ys)
+enlisted_at faults log t k (Ok r) xs ys x y was now numbered made = record { before = x; after = y; was = was; now = now; numbered = numbered; enlists = made }
+enlisted_at faults log t k (Err e) xs ys x y was now numbered made = tt
+
+pub not_enlisted_at : {A : Type 0} (t : TxNo) (z : Result A TxError) (xs ys : List LiveState) (x y : LiveState) → live_at t xs ≡ Some x → live_at t ys ≡ Some y → OnErr z (y ≡ record x { enlisted = y.enlisted })
+    → OnErr z ((v : LiveState) → live_at t xs ≡ Some v → (w : LiveState) × (live_at t ys ≡ Some w) × (w ≡ record v { enlisted = w.enlisted }))
+not_enlisted_at t (Ok r) xs ys x y was now failed = tt
+not_enlisted_at t (Err e) xs ys x y was now failed = λ v at. (y, now, failed ∙ ap (λ (u : LiveState). record u { enlisted = y.enlisted }) (one_at t xs x v was at))
+
+-- a clone leaves the number and what it is used for
+pub clone_leaves : {D : Type 0} (faults : D → ℕ) (log : LogState D) (k : CloneKind) (z : Result (CloneNo × Answer) TxError) (x y : LiveState) → IfOk z (λ r. Clones faults log k r.0 r.1 x y)
+    → OnErr z (y ≡ record x { cloned = y.cloned }) → (y.usage ≡ x.usage) × (y.number ≡ x.number)
+clone_leaves faults log k (Ok r) x y made failed = (ap (λ (v : LiveState). v.usage) made.called.rest, ap (λ (v : LiveState). v.number) made.called.rest)
+clone_leaves faults log k (Err e) x y made failed = (ap (λ (v : LiveState). v.usage) failed, ap (λ (v : LiveState). v.number) failed)
+
+-- the clone that was made at its place
+pub cloned_at : {D : Type 0} (faults : D → ℕ) (log : LogState D) (t : TxNo) (k : CloneKind) (z : Result (CloneNo × Answer) TxError) (xs ys : List LiveState) (x y : LiveState) → live_at t xs ≡ Some x → live_at t ys ≡ Some y → x.number ≡ t
+    → IfOk z (λ r. Clones faults log k r.0 r.1 x y) → IfOk z (λ r. ClonesAt faults log t k r.0 r.1 xs ys)
+cloned_at faults log t k (Ok r) xs ys x y was now numbered made = record { before = x; after = y; was = was; now = now; numbered = numbered; clones = made }
+cloned_at faults log t k (Err e) xs ys x y was now numbered made = tt
+
+-- the answer that came to a call that had to wait
+pub answered_late : (t : TxNo) (line : ℕ) (first : Answer) (z : Result Answer TxError) (xs : List LiveState) → first ≡ Wait
+    → IfOk z (λ a. (x : LiveState) × (live_at t xs ≡ Some x) × Has (Answered line a) (past x)) → IfOk z (λ a. IsAnswered t line first a xs)
+answered_late t line first (Ok a) xs waits found = inr (waits, found.0, found.1, found.2)
+answered_late t line first (Err e) xs waits found = tt

@@ -1,0 +1,29 @@
+use Rattle.std.proofs.Common.{◌≡◌, ◌≤◌, ◌+◌, ◌∙◌, Option, Some, None, IfSome, ℕ, arith}
+use Rattle.dtx_values.specs.declared.number.EnlNo.{EnlNo}
+use Rattle.transactions.proofs.Counting.{added, counted_more, enlistment_new_of}
+use Rattle.transactions.proofs.live.Live.next_enlistment.Goals as goal
+
+-- a number that was made of this value has it
+made : (o : Option EnlNo) (n : ℕ) (x : EnlNo) → IfSome o (λ y. y.value ≡ n) → o ≡ Some x → x.value ≡ n
+made (Some y) n x h e = let same : y ≡ x = cc in let value : y.value ≡ n = h in cc
+made None n x h e = absurd cc
+
+pub invariant_of-self : goal.invariant_of-self
+invariant_of-self c =
+    let s = c.self.inside in
+    let was = c.self.invariant in
+    let n = c.in_ok-number.number in
+    let next : n ≡ s.enlisted + 1 = added _ _ _ _ c.checked_add.ensures c.in_ok-number.ensures.ok_part in
+    let more : s.enlisted ≤ n = omega arith in
+    record {
+      own = was.own;
+      unrestarted = was.unrestarted;
+      within = was.within;
+      counted = counted_more s.lines s.enlisted s.cloned s.lines n s.cloned s.world.world.calls (omega arith) more (omega arith) was.counted;
+    }
+
+pub returns-clause-unmade : goal.returns-clause-unmade
+returns-clause-unmade c =
+    let next : c.in_ok-number.number ≡ c.self.inside.enlisted + 1 = added _ _ _ _ c.checked_add.ensures c.in_ok-number.ensures.ok_part in
+    let value : c.in_ok-e.e.value ≡ c.in_ok-number.number = made _ _ _ c.new.ensures.value c.in_ok-e.ensures.ok_part in
+    enlistment_new_of _ _ c.in_ok-e.e.value c.self.view_is (value ∙ next) c.self.invariant

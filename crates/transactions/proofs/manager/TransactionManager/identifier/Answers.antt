@@ -1,0 +1,15 @@
+use Rattle.std.proofs.Common.{subst}
+use Rattle.dtx_values.specs.declared.entry.Answer.{Answer}
+use Rattle.transactions.specs.Enlisting.{IsAnswered}
+use Rattle.transactions.proofs.manager.TransactionManager.identifier.Goals as goal
+
+pub returns-in-Ok-Id-clause-identified : goal.returns-in-Ok-Id-clause-identified
+returns-in-Ok-Id-clause-identified g c =
+    let called = c.in-Ok.called in (
+      c.call.new.self.lives,
+      called.0,
+      called.1,
+      c.in-Ok.ensures.called,
+      c.wait.ensures.heard,
+      subst (λ (a : Answer). IsAnswered c.args.tx.now.number called.0 called.1 a c.wait.new.self.lives) c.in-Ok-Id.field-0-is c.in-Ok-Id.ensures.answered,
+    )

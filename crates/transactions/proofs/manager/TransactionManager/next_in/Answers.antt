@@ -1,0 +1,74 @@
+use Rattle.std.proofs.Common.{◌≡◌, ◌∙◌, Some, None, List, IfOk, OnErr, true, ap, refl, slice_get, slice_set, subst, sym}
+use Rattle.std.proofs.lemmas.Option.{slice_get_read}
+use Rattle.std.specs.Vec.{vec_len}
+use Rattle.transactions.specs.Hearing.{Advances}
+use Rattle.transactions.specs.Slots.{AreSame, Standing, is_used, live_at}
+use Rattle.transactions.specs.State.{LiveState}
+use Rattle.transactions.proofs.Nexts.{all_at, came_at, next_leaves, stayed_at}
+use Rattle.transactions.proofs.Standing.{fits_left, live_here, live_was, numbered_set, others_same}
+use Rattle.transactions.proofs.manager.TransactionManager.next_in.Goals as goal
+
+pub next-came-requires : goal.next-came-requires
+next-came-requires g c =
+    let xs = c.self.inside.lives.items in
+    let x = c.in-Some.live.now in
+    let there : slice_get xs c.index.result ≡ Some x = slice_get_read xs (vec_len c.self.inside.lives) c.index.result x c.self.inside.lives.ok.0 (c.in-Some.ensures.variant.0 refl) c.in-Some.ensures.value in
+    record { fits = λ honest up. (c.self.invariant.1 honest).fits up c.index.result x there }
+
+pub invariant_of-self-2 : goal.invariant_of-self-2
+invariant_of-self-2 g c =
+    let xs = c.self.inside.lives.items in
+    let x = c.in-Some.live.now in
+    let y = c.next-came.new.self in
+    let e = c.next-came.ensures in
+    let there : slice_get xs c.index.result ≡ Some x = slice_get_read xs (vec_len c.self.inside.lives) c.index.result x c.self.inside.lives.ok.0 (c.in-Some.ensures.variant.0 refl) c.in-Some.ensures.value in (
+      numbered_set xs c.index.result x y there c.self.invariant.0 (next_leaves c.next-came.result x y e.comes e.stays).1 c.is_sound.ensures.own,
+      λ honest. fits_left g.D.Disk.honest g.D.Disk.image g.D.Disk.faults c.self.inside.log c.next-came.new.log xs c.index.result x y honest c.self.invariant.0 there e.leaves (c.self.invariant.1 honest),
+    )
+
+pub returns-clause-comes : goal.returns-clause-comes
+returns-clause-comes g c =
+    let xs = c.self.inside.lives.items in
+    let i = c.index.result in
+    let x = c.in-Some.live.now in
+    let y = c.next-came.new.self in
+    let e = c.next-came.ensures in
+    let t = c.args.t in
+    let there : slice_get xs i ≡ Some x = slice_get_read xs (vec_len c.self.inside.lives) i x c.self.inside.lives.ok.0 (c.in-Some.ensures.variant.0 refl) c.in-Some.ensures.value in
+    let used : is_used x.usage ≡ true = sym c.if-not-is_used.ensures in
+    let now = live_here t xs i x y c.index.ensures.place there (ap is_used (next_leaves c.next-came.result x y e.comes e.stays).0 ∙ used) in
+    subst (λ (s : Standing _ _). IfOk c.next-came.result (λ n. (v : LiveState) → live_at t s.lives ≡ Some v → (w : LiveState) × (live_at t (slice_set xs i y) ≡ Some w) × Advances n v w)) c.self.view_is
+    (came_at t c.next-came.result xs (slice_set xs i y) x y (live_was t xs i x c.index.ensures.place there used) now e.comes)
+
+pub returns-clause-stays : goal.returns-clause-stays
+returns-clause-stays g c =
+    let xs = c.self.inside.lives.items in
+    let i = c.index.result in
+    let x = c.in-Some.live.now in
+    let y = c.next-came.new.self in
+    let e = c.next-came.ensures in
+    let t = c.args.t in
+    let there : slice_get xs i ≡ Some x = slice_get_read xs (vec_len c.self.inside.lives) i x c.self.inside.lives.ok.0 (c.in-Some.ensures.variant.0 refl) c.in-Some.ensures.value in
+    let used : is_used x.usage ≡ true = sym c.if-not-is_used.ensures in
+    let now = live_here t xs i x y c.index.ensures.place there (ap is_used (next_leaves c.next-came.result x y e.comes e.stays).0 ∙ used) in
+    subst (λ (s : Standing _ _). OnErr c.next-came.result ((v : LiveState) → live_at t s.lives ≡ Some v → (w : LiveState) × (live_at t (slice_set xs i y) ≡ Some w) × Advances None v w)) c.self.view_is
+    (stayed_at t c.next-came.result xs (slice_set xs i y) x y (live_was t xs i x c.index.ensures.place there used) now e.stays)
+
+pub returns-clause-all : goal.returns-clause-all
+returns-clause-all g c = λ none.
+    let xs = c.self.inside.lives.items in
+    let i = c.index.result in
+    let x = c.in-Some.live.now in
+    let y = c.next-came.new.self in
+    let e = c.next-came.ensures in
+    let t = c.args.t in
+    let there : slice_get xs i ≡ Some x = slice_get_read xs (vec_len c.self.inside.lives) i x c.self.inside.lives.ok.0 (c.in-Some.ensures.variant.0 refl) c.in-Some.ensures.value in
+    let used : is_used x.usage ≡ true = sym c.if-not-is_used.ensures in
+    let now = live_here t xs i x y c.index.ensures.place there (ap is_used (next_leaves c.next-came.result x y e.comes e.stays).0 ∙ used) in
+    all_at t (slice_set xs i y) y now (e.all none)
+
+pub returns-clause-others : goal.returns-clause-others
+returns-clause-others g c =
+    let xs = c.self.inside.lives.items in
+    subst (λ (l : List LiveState). AreSame c.args.t l (slice_set xs c.index.result c.next-came.new.self)) (ap (λ (s : Standing _ _). s.lives) c.self.view_is)
+    (others_same c.args.t xs c.index.result c.next-came.new.self c.index.ensures.place)

@@ -1,0 +1,15 @@
+pub mod Events
+pub mod State
+pub mod Counting
+pub mod Calling
+pub mod Hearing
+pub mod Keeping
+pub mod Slots
+pub mod Waiting
+pub mod Ending
+pub mod Answered
+pub mod Doing
+pub mod Telling
+pub mod Enlisting
+pub mod Scoping
+pub mod Turning

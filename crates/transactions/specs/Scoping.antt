@@ -1,0 +1,158 @@
+-- What the scopes of a program come to.
+use Rattle.std.specs.Prelude.{ℕ, ◌≡◌, ◌⊎◌, Bool, true, false, not, is_some, List, [], ◌∷◌, Option, Some, None, Result, Ok, Err, if◌then◌else◌}
+use Rattle.dtx_values.specs.declared.call.Call.TheVariants.{Begin as BeginCall, Rollback as RollbackCall}
+use Rattle.dtx_values.specs.declared.entry.Answer.{Answer}
+use Rattle.dtx_values.specs.declared.entry.Answer.TheVariants.{Fine, Deep, Isolation, NoScope as NoScopeAnswer, Already, Nested, Ended}
+use Rattle.dtx_values.specs.declared.note.Note.{Note}
+use Rattle.dtx_values.specs.declared.note.Reply.{Reply}
+use Rattle.dtx_values.specs.declared.number.TxNo.{TxNo}
+use Rattle.dtx_values.specs.declared.scope.Closed.{Closed}
+use Rattle.dtx_values.specs.declared.scope.Closed.TheVariants.{Commit, Rollback, Nothing}
+use Rattle.dtx_values.specs.declared.scope.OpenScope.{OpenScope}
+use Rattle.dtx_values.specs.declared.words.Timeout.{Timeout}
+use Rattle.dtx_values.specs.declared.words.Iso.{Iso}
+use Rattle.dtx_values.specs.declared.words.Outcome.TheVariants.{Aborted as AbortedOutcome}
+use Rattle.dtx_values.specs.declared.words.ScopeOption.{ScopeOption}
+use Rattle.dtx_values.specs.declared.words.ScopeOption.TheVariants.{Required, RequiresNew, Suppress}
+use Rattle.dtx_values.specs.Entered.{transaction_in}
+use Rattle.dtx_model.specs.Scopes.{ambient, beneath, closing, entering, is_scope, with_complete}
+use Rattle.dtx_model.specs.Words.{has}
+use Rattle.coordinator_log.specs.State.{LogState}
+use Rattle.scope_context.specs.declared.refusal.ScopeRefusal.{ScopeRefusal}
+use Rattle.scope_context.specs.declared.refusal.ScopeRefusal.TheVariants.{TooDeep, IsolationDiffers, NoScope, AlreadyComplete, NestedWrongly}
+use Rattle.scope_context.specs.Standing.{Standing as Scopes}
+use Rattle.scope_context.specs.Refusals.{complete_refusal, enter_refusal}
+use Rattle.transactions.specs.declared.error.CommitError.{CommitError}
+use Rattle.transactions.specs.declared.error.CommitError.TheVariants.{Aborted, InDoubt}
+use Rattle.transactions.specs.declared.error.ScopeError.{ScopeError}
+use Rattle.transactions.specs.declared.error.ScopeError.TheVariants.{Refused, Begin}
+use Rattle.transactions.specs.declared.error.TxError.TheVariants.{Memory, Many}
+use Rattle.transactions.specs.declared.handle.CommittableTransaction.{CommittableTransaction}
+use Rattle.transactions.specs.declared.handle.Enlistment.{Enlistment}
+use Rattle.transactions.specs.declared.handle.TransactionScope.{TransactionScope}
+use Rattle.transactions.specs.Calling.{IsCalled}
+use Rattle.transactions.specs.Doing.{Goes, HeardAt, IsRefused}
+use Rattle.transactions.specs.Slots.{AreSame, Standing as Manager, live_at}
+use Rattle.transactions.specs.State.{LiveState, blank}
+use Rattle.transactions.specs.Telling.{IsTold}
+
+-- A scope that is opened so makes a transaction: Required where there is no ambient one, and RequiresNew.
+abbrev pub makes_one : ScopeOption → List OpenScope → Bool
+makes_one Required xs = not (is_some (ambient xs))
+makes_one RequiresNew xs = true
+makes_one Suppress xs = false
+
+-- the scopes refuse for this cause, where there is one
+abbrev pub refused_for : Option ScopeRefusal → Option ScopeError
+refused_for (Some r) = Some (Refused r)
+refused_for None = None
+
+-- the answer of a scope's line that says the same
+abbrev pub refusal_answer : ScopeRefusal → Answer
+refusal_answer (TooDeep n) = Deep
+refusal_answer (IsolationDiffers asked found) = Isolation asked found
+refusal_answer (NoScope s) = NoScopeAnswer
+refusal_answer (AlreadyComplete s) = Already
+refusal_answer (NestedWrongly s) = Nested s
+
+-- the number of a transaction, where there is one
+abbrev pub number_of : Option CommittableTransaction → Option TxNo
+number_of (Some x) = Some x.number
+number_of None = None
+
+-- the transaction that a scope made; none where it joined one or has none
+abbrev pub made_in : TransactionScope → Option TxNo
+made_in s = if s.is_made then number_of s.transaction else None
+
+-- every transaction is as it was, but for this one, where there is one
+abbrev pub AreSameBut : Option TxNo → List LiveState → List LiveState → Type 0
+AreSameBut (Some t) old new = AreSame t old new
+AreSameBut None old new = (u : TxNo) → live_at u new ≡ live_at u old
+
+-- No transaction of this number went on, and one begins: the call was entered that begins it.
+pub record Begins {D : Type 0} (faults : D → ℕ) (log : LogState D) (timeout : Timeout) (reading : ℕ) (t : TxNo) (old new : List LiveState) : Type 0 where
+  pub fresh : live_at t old ≡ None
+  pub state : LiveState
+  pub now : live_at t new ≡ Some state
+  pub begun : IsCalled faults log (BeginCall t timeout) 1 Fine (blank t reading) state
+
+-- the transaction of this number begins, where there is one
+abbrev pub BeginsWhere : {D : Type 0} → (D → ℕ) → LogState D → Timeout → ℕ → Option TxNo → List LiveState → List LiveState → Type 0
+BeginsWhere faults log timeout reading (Some t) old new = Begins faults log timeout reading t old new
+BeginsWhere faults log timeout reading None old new = Unit {0}
+
+-- A scope was opened on those that were open: it has a number of its own, and what its option makes or joins; and its holder has its transaction, and knows whether it made it.
+pub record IsOpened (k : ScopeOption) (iso : Iso) (s : TransactionScope) (old new : List OpenScope) : Type 0 where
+  pub apart : has (is_scope s.scope.value) old ≡ false
+  pub opened : new ≡ record { scope = s.scope; entered = entering k (made_in s) old; isolation = iso; complete = false } ∷ old
+  pub transaction : number_of s.transaction ≡ transaction_in (entering k (made_in s) old)
+  pub made : s.is_made ≡ makes_one k old
+
+-- Why a scope isn't opened: the scopes refuse it; or no memory or no number is left for it or for its transaction.
+abbrev pub MayNotOpen : ScopeOption → Iso → List OpenScope → ScopeError → Type 0
+MayNotOpen k iso xs (Refused r) = enter_refusal k iso xs ≡ Some r
+MayNotOpen k iso xs (Begin e) = (e ≡ Memory) ⊎ (e ≡ Many)
+
+-- the scope of this number is the innermost one
+abbrev pub is_top : ℕ → List OpenScope → Bool
+is_top s [] = false
+is_top s (x ∷ xs) = is_scope s x
+
+-- the transaction that closing a scope commits or rolls back
+abbrev pub ended_by : Closed → Option TxNo
+ended_by (Commit t) = Some t
+ended_by (Rollback t) = Some t
+ended_by Nothing = None
+
+-- The rollback of a scope's transaction is never Ok. Where the transaction aborted, the call was entered and the objects heard what came of it, or the call was refused since it had
+-- aborted already. It is in doubt only where the call was refused.
+abbrev pub IsRolledBack : {D O : Type 0} → (D → ℕ) → LogState D → (O → Enlistment → Note → Option Reply → O → Type 0) → TxNo → Result (Unit {0}) CommitError → List LiveState → List LiveState → O → O
+    → Type 0
+IsRolledBack faults log gives t (Ok x) old new a b = ⊥
+IsRolledBack faults log gives t (Err Aborted) old new a b = Goes faults log gives t (RollbackCall t) old new a b ⊎ IsRefused faults log t (RollbackCall t) (Ended AbortedOutcome) old new
+IsRolledBack faults log gives t (Err InDoubt) old new a b = ⊥
+IsRolledBack faults log gives t (Err _) old new a b = Unit {0}
+
+-- What closing a scope comes to. A transaction that it commits is told so as any commit; one that it rolls back isn't committed; and where it has nothing to do, nothing is done.
+abbrev pub Settles : {D O : Type 0} → (D → ℕ) → LogState D → (O → Enlistment → Note → Option Reply → O → Type 0) → Closed → Result (Unit {0}) CommitError → List LiveState → List LiveState → O → O
+    → Type 0
+Settles faults log gives (Commit t) r old new a b = IsTold r (live_at t new) × HeardAt gives [] t old new a b
+Settles faults log gives (Rollback t) r old new a b = IsRolledBack faults log gives t r old new a b × HeardAt gives [] t old new a b
+Settles faults log gives Nothing r old new a b = (r ≡ Ok tt) × (new ≡ old) × (b ≡ a)
+
+-- The same, before the holder of the scope left the transaction that it made, which is then swept where it is over.
+pub record SettlesBefore {D O : Type 0} (faults : D → ℕ) (log : LogState D) (gives : O → Enlistment → Note → Option Reply → O → Type 0) (s : TransactionScope) (c : Closed)
+    (r : Result (Unit {0}) CommitError) (old new : List LiveState) (a b : O) : Type 0 where
+  pub mid : List LiveState
+  pub settled : Settles faults log gives c r old mid a b
+  pub others : AreSameBut (ended_by c) old mid
+  pub left : AreSameBut (made_in s) mid new
+
+-- A scope whose work is done was completed and disposed, and that was Ok: it was open, not complete yet and the innermost one; what it made was committed; and those beneath it are open.
+pub record Finishes {D C O : Type 0} (faults : D → ℕ) (gives : O → Enlistment → Note → Option Reply → O → Type 0) (s : TransactionScope) (old new : Manager D C) (a b : List OpenScope)
+    (before after : O) : Type 0 where
+  pub may_complete : complete_refusal s.scope a ≡ None
+  pub innermost : is_top s.scope.value (with_complete s.scope.value a) ≡ true
+  pub settles : SettlesBefore faults old.log gives s (closing (with_complete s.scope.value a)) (Ok tt) old.lives new.lives before after
+  pub left : b ≡ beneath s.scope.value (with_complete s.scope.value a)
+
+-- A scope whose work failed was disposed as it was, whatever that came to: where it is the innermost one and isn't complete, its transaction is rolled back.
+abbrev pub Fails : {D C O : Type 0} → (D → ℕ) → (O → Enlistment → Note → Option Reply → O → Type 0) → TransactionScope → Manager D C → Manager D C → List OpenScope → O → O → Type 0
+Fails faults gives s old new a before after =
+    is_top s.scope.value a ≡ true → (r : Result (Unit {0}) CommitError) × SettlesBefore faults old.log gives s (closing a) r old.lives new.lives before after
+
+-- Work was done in a scope, and it was Ok: the scope was opened, the work was done in it, and the scope was completed and disposed.
+pub record WorksIn {D C O T : Type 0} (faults : D → ℕ) (gives : O → Enlistment → Note → Option Reply → O → Type 0)
+    (does : Manager D C → Scopes → TransactionScope → O → Result T CommitError → Manager D C → Scopes → O → Type 0) (k : ScopeOption) (timeout : Timeout) (iso : Iso) (x : T)
+    (old new : Manager D C) (a b : Scopes) (before after : O) : Type 0 where
+  pub scope : TransactionScope
+  pub opened : Manager D C
+  pub within : Scopes
+  pub worked : Manager D C
+  pub left : Scopes
+  pub objects : O
+  pub opens : IsOpened k iso scope a.scopes within.scopes
+  pub begins : BeginsWhere faults old.log timeout old.reading (made_in scope) old.lives opened.lives
+  pub others : AreSameBut (made_in scope) old.lives opened.lives
+  pub does_it : does opened within scope before (Ok x) worked left objects
+  pub finishes : Finishes faults gives scope worked new left.scopes b.scopes objects after

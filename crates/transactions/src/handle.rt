@@ -1,0 +1,72 @@
+//! What a program holds of its transactions.
+ghost use Rattle.std.specs.Prelude.{◌≡◌};
+
+use dtx_values::{CloneNo, EnlNo, ScopeNo, TxNo};
+
+/// An enlistment: its transaction, and its number there.
+#[derive(Clone, Copy, PartialEq, Eq, Debug)]
+pub struct Enlistment {
+    pub(crate) transaction: TxNo,
+    pub(crate) number: EnlNo,
+}
+
+impl Enlistment {
+    /// The number of its transaction.
+    pub fn transaction(self) -> TxNo
+        ensures { result ≡ self.transaction }
+    {
+        self.transaction
+    }
+
+    /// Its number in the transaction.
+    pub fn number(self) -> EnlNo
+        ensures { result ≡ self.number }
+    {
+        self.number
+    }
+}
+
+/// A transaction that its holder may commit. It can't be dropped: `TransactionManager::end` takes it back. (`CommittableTransaction` of System.Transactions.)
+pub struct CommittableTransaction {
+    pub(crate) number: TxNo,
+}
+
+impl CommittableTransaction {
+    /// Its number.
+    pub fn number(&self) -> TxNo
+        ensures { result ≡ self.now.number }
+    {
+        self.number
+    }
+}
+
+/// A dependent clone, which is to be completed: it can't be dropped. (`DependentTransaction` of System.Transactions.)
+pub struct DependentTransaction {
+    pub(crate) transaction: TxNo,
+    pub(crate) clone: CloneNo,
+}
+
+/// A scope that is open, which is to be disposed: it can't be dropped. (`TransactionScope` of System.Transactions.)
+pub struct TransactionScope {
+    pub(crate) scope: ScopeNo,
+    /// The transaction that it made or joined.
+    pub(crate) transaction: Option<CommittableTransaction>,
+    /// Whether it made it.
+    pub(crate) is_made: bool,
+}
+
+impl TransactionScope {
+    /// Its transaction; none where it suppresses the ambient one.
+    pub fn transaction(&self) -> Option<&CommittableTransaction> {
+        self.transaction.as_ref()
+    }
+}
+
+/// Whether a durable enlistment may own the commit.
+#[derive(Clone, Copy, PartialEq, Eq, Debug)]
+pub enum Phases {
+    /// It prepares, and then commits. (`IEnlistmentNotification` of System.Transactions.)
+    Two,
+    /// It may also commit in a single phase, where it is the only one. (`ISinglePhaseNotification`.)
+    Single,
+}

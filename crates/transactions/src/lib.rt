@@ -1,0 +1,38 @@
+//! System.Transactions for a program of one's own: a transaction manager over a log on a disk.
+//!
+//! [`TransactionManager`] begins transactions, enlists resource managers in them, and commits or aborts each as one unit. A program's objects hear of it by
+//! [`ResourceManager`], one call a note; a program that wants no objects asks by [`TransactionManager::next`] what comes next, and replies by [`TransactionManager::answer`].
+//!
+//! ```text
+//! let mut manager = TransactionManager::create(alloc, disk, clock)?;
+//! let scope = manager.open(&mut ambient, ScopeOption::Required, timeout, isolation)?;
+//! // The work: enlistments, and what is to be done as one unit.
+//! let worked = work(&mut manager, &scope, &mut objects);
+//! manager.finish(&mut ambient, scope, worked, &mut objects)
+//! ```
+//!
+//! Neither a scope nor a transaction that its holder may commit can be dropped: a `?` between `open` and `finish` doesn't compile.
+//!
+//! What holds of each transaction, on every disk: all that anybody was told in it has its cause, and no two were told opposite outcomes ([`TransactionManager::is_lawful`]).
+#![tactic(auto)]
+
+mod ambient;
+mod error;
+mod event;
+mod handle;
+mod kind;
+mod live;
+mod manager;
+mod resource;
+mod usage;
+mod work;
+
+pub use ambient::Ambient;
+pub use error::{CommitError, OpenError, ScopeError, TxError};
+pub use event::Event;
+pub use handle::{
+    CommittableTransaction, DependentTransaction, Enlistment, Phases, TransactionScope,
+};
+pub use manager::TransactionManager;
+pub use resource::ResourceManager;
+pub use work::Work;
