@@ -1,5 +1,6 @@
 //! What a program holds of its transactions.
 ghost use Rattle.std.specs.Prelude.{◌≡◌};
+ghost use Rattle.std.specs.Option.{option_map};
 
 use dtx_values::{CloneNo, EnlNo, ScopeNo, TxNo};
 
@@ -57,7 +58,9 @@ pub struct TransactionScope {
 
 impl TransactionScope {
     /// Its transaction; none where it suppresses the ambient one.
-    pub fn transaction(&self) -> Option<&CommittableTransaction> {
+    pub fn transaction(&self) -> Option<&CommittableTransaction>
+        ensures { option_map (λ x. x.now) result ≡ self.now.transaction }
+    {
         self.transaction.as_ref()
     }
 }
