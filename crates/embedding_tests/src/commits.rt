@@ -4,7 +4,7 @@ use dtx_values::{
     Answer, EnlistOption, IsoWord, Note, Outcome, RmNo, ScopeOption, Status, Timeout,
 };
 use std::test::Fail;
-use transactions::{Ambient, CommitError, CommittableTransaction, Phases};
+use transactions::{Ambient, CommitError, CommittableTransaction, Phases, TxError};
 
 /// Enlists 30 volatiles and 2 durables, the second of which promotes the transaction; then it is full.
 fn enlists(
@@ -65,6 +65,22 @@ fn rolls_back(manager: &mut Manager, rm: RmNo, o: &mut Objects, seen: &mut Seen)
     ends(manager, tx, seen);
 }
 
+/// An enlistment that is lost before it voted counts as a veto; it is lost once.
+fn loses(manager: &mut Manager, o: &mut Objects, seen: &mut Seen) {
+    let Ok(tx) = manager.begin(Timeout::Default) else {
+        return seen.see(false);
+    };
+    match manager.enlist_volatile(&tx, EnlistOption::Plain) {
+        Ok(volatile) => {
+            seen.see(manager.lost(volatile, o) == Ok(()));
+            seen.see(manager.lost(volatile, o) == Err(TxError::Refused(Answer::Already)));
+        }
+        Err(_) => seen.see(false),
+    }
+    seen.see(manager.status(&tx) == Status::Aborted);
+    manager.release(tx);
+}
+
 #[test]
 fn thirty_two_enlistments_commit_as_one(rt: HostRuntime) -> Result<(), Fail> {
     let alloc = rt.alloc();
@@ -94,6 +110,16 @@ fn a_rollback_is_heard(rt: HostRuntime) -> Result<(), Fail> {
     let mut seen = Seen::new();
     let rm = resource(&rt, 1);
     rolls_back(&mut manager, rm, &mut Objects::new(alloc), &mut seen);
+    assert_eq!(&rt; seen.wrong(), None);
+    Ok(())
+}
+
+#[test]
+fn a_lost_enlistment_is_a_veto(rt: HostRuntime) -> Result<(), Fail> {
+    let alloc = rt.alloc();
+    let mut manager = manager(&rt, alloc, vec![in alloc; 0]?);
+    let mut seen = Seen::new();
+    loses(&mut manager, &mut Objects::new(alloc), &mut seen);
     assert_eq!(&rt; seen.wrong(), None);
     Ok(())
 }
