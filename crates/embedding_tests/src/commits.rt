@@ -3,8 +3,11 @@ use crate::objects::{Manager, Objects, Seen, ends, manager, resource};
 use dtx_values::{
     Answer, EnlistOption, IsoWord, Note, Outcome, RmNo, ScopeOption, Status, Timeout,
 };
+use outside::{MemClock, SureDisk};
 use std::test::Fail;
-use transactions::{Ambient, CommitError, CommittableTransaction, Phases, TxError};
+use transactions::{
+    Ambient, CommitError, CommittableTransaction, Phases, TransactionScope, TxError, Work,
+};
 
 /// Enlists 30 volatiles and 2 durables, the second of which promotes the transaction; then it is full.
 fn enlists(
@@ -166,5 +169,47 @@ fn a_scope_commits_where_it_is_complete(rt: HostRuntime) -> Result<(), Fail> {
     works(&mut manager, false, &mut o, &mut seen, &mut ambient);
     seen.see(o.times(Note::Commit) == 1 && o.times(Note::Rollback) == 1);
     assert_eq!(&rt; seen.wrong(), None);
+    Ok(())
+}
+
+/// Work that enlists a volatile in the transaction of its scope.
+#[derive(Drop)]
+struct EnlistsOne {
+    option: EnlistOption,
+}
+
+impl Work<SureDisk, MemClock, Objects, ()> for EnlistsOne {
+    ghost does = { λ work manager scopes scope o r manager' scopes' o'. Unit {0} };
+
+    fn run(
+        self,
+        manager: &mut Manager,
+        _: &mut Ambient,
+        s: &TransactionScope,
+        _: &mut Objects,
+    ) -> Result<(), CommitError> {
+        match s.transaction() {
+            Some(tx) => match manager.enlist_volatile(tx, self.option) {
+                Ok(_) => Ok(()),
+                Err(_) => Err(CommitError::Aborted),
+            },
+            None => Err(CommitError::Aborted),
+        }
+    }
+}
+
+#[test]
+fn work_in_a_scope_commits(rt: HostRuntime) -> Result<(), Fail> {
+    let alloc = rt.alloc();
+    let mut manager = manager(&rt, alloc, vec![in alloc; 0]?);
+    let mut a = Ambient::new(alloc)?;
+    let mut o = Objects::new(alloc);
+    let (required, isolation) = (ScopeOption::Required, IsoWord::Default);
+    let work = EnlistsOne {
+        option: EnlistOption::Plain,
+    };
+    let worked = manager.in_scope(&mut a, required, Timeout::Default, isolation, &mut o, work);
+    assert_eq!(&rt; worked, Ok(()));
+    assert_eq!(&rt; o.times(Note::Commit), 1);
     Ok(())
 }
