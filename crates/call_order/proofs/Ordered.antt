@@ -25,7 +25,7 @@ use Rattle.dtx_model.specs.Traces.{Placed, at_context, calls, entries_at, histor
 use Rattle.dtx_model.specs.Words.{all_of, each, onto, past_of, put}
 use Rattle.dtx_model.proofs.Bools.{and_never}
 use Rattle.dtx_model.proofs.Histories.{onto-append}
-use Rattle.dtx_model.proofs.SameNumbers.{same_actor, same_transaction}
+use Rattle.dtx_values.proofs.SameNumbers.{same_actor, same_transaction}
 use Rattle.script_histories.proofs.Pending.{is_not_called}
 use Rattle.history_table.proofs.Tests.{eq_self}
 use Rattle.script_calls.specs.declared.calls.LogCall.{LogCall}

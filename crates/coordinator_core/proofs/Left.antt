@@ -4,7 +4,7 @@ use Rattle.std.proofs.lemmas.Bool.{eq-eqb, eqb-true, or_left, or_right}
 use Rattle.dtx_values.specs.declared.number.EnlNo.{EnlNo}
 use Rattle.dtx_model.specs.Words.{has}
 use Rattle.dtx_model.specs.Coordinated.{but}
-use Rattle.dtx_model.proofs.SameNumbers.{same_enlistment}
+use Rattle.dtx_values.proofs.SameNumbers.{same_enlistment}
 
 -- each of these that is reached is taken out, one after the other
 abbrev pub left_by : (EnlNo → Bool) → List EnlNo → List EnlNo → List EnlNo

@@ -1,6 +1,7 @@
 -- What the coordinator keeps of one transaction, what a message makes of it, and for how much there is room.
 use Rattle.std.specs.Prelude.{ℕ, ◌+◌, ◌≤◌, Bool, ◌&&◌, not, List, [], ◌∷◌, filter, map, length, Some, if◌then◌else◌}
 use Rattle.dtx_values.specs.declared.entry.Entry.{Entry}
+use Rattle.dtx_values.specs.TxIds.{number_of}
 use Rattle.dtx_values.specs.declared.entry.Entry.TheVariants.{Got}
 use Rattle.dtx_values.specs.declared.limits.TheConstants.{CONNECTIONS, DURABLES}
 use Rattle.dtx_values.specs.declared.message.Conn.{Conn}
@@ -9,7 +10,7 @@ use Rattle.dtx_values.specs.declared.message.Dir.TheVariants.{Up}
 use Rattle.dtx_values.specs.declared.message.Message.{Message}
 use Rattle.dtx_values.specs.declared.message.Message.TheVariants.{ReenlistAborted, ReenlistCommitted}
 use Rattle.dtx_values.specs.declared.number.EnlNo.{EnlNo}
-use Rattle.dtx_values.specs.declared.number.TxNo.{TxNo}
+use Rattle.dtx_values.specs.declared.tx_id.TxId.{TxId}
 use Rattle.dtx_values.specs.Ends.{order_of, same_connection}
 use Rattle.dtx_values.specs.Table.{enl_number, insert_by}
 use Rattle.dtx_values.specs.Outgoing.{Outgoing}
@@ -20,12 +21,12 @@ use Rattle.dtx_model.specs.Coordinated.{Coordinated, abort_if, abort_sends, but,
 
 -- the transaction, and what the coordinator knows of it
 pub record Kept : Type 0 where
-  pub transaction : TxNo
+  pub transaction : TxId
   pub state : Coordinated
 
 -- what it writes after a message
 abbrev pub answers : Kept → Conn → Message → List Entry
-answers k c m = core_got (identifier_of k.transaction.value) k.state c m
+answers k c m = core_got (identifier_of (number_of k.transaction)) k.state c m
 
 -- what is kept after a message and what it writes then
 abbrev pub after_got : Kept → Conn → Message → Kept

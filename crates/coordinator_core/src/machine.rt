@@ -1,6 +1,7 @@
 //! The machine's state, and what may be asked of it.
 ghost use Rattle.std.specs.Prelude.{◌≡◌, ◌≤◌, ◌↔◌, ◌&&◌, ◌||◌, not, true, length};
 ghost use Rattle.dtx_values.specs.Ends.{is_in, same_connection};
+ghost use Rattle.dtx_values.specs.TxIds.{number_of};
 ghost use Rattle.dtx_values.specs.declared.entry.Entry.TheVariants.{Got};
 ghost use Rattle.dtx_values.specs.declared.limits.TheConstants.{DURABLES};
 ghost use Rattle.dtx_values.specs.declared.message.Conn.TheVariants.{Again};
@@ -16,7 +17,7 @@ use crate::stages::{is_active, is_recorded};
 use arrayvec::ArrayVec;
 use dtx_model::{Desk, Stage};
 use dtx_values::{
-    CONNECTIONS, Conn, DURABLES, Dir, EnlNo, Message, RmNo, TxNo, has_line, is_opening,
+    CONNECTIONS, Conn, DURABLES, Dir, EnlNo, Message, RmNo, TxId, has_line, is_opening,
 };
 use std::marker::Model;
 
@@ -43,7 +44,7 @@ mod sends;
 /// `may_free` those of `logged`, `log_full` and `freed`, and `is_stopped` those of `stopped` and `restarted`.
 #[derive(Drop)]
 pub struct Core {
-    transaction: TxNo,
+    transaction: TxId,
     stage: Stage,
     commit: bool,
     yes: bool,
@@ -82,7 +83,7 @@ impl Model for Core {
 
 impl Core {
     /// The coordinator's side of this transaction, of which nothing came yet.
-    pub fn new(t: TxNo) -> Core
+    pub fn new(t: TxId) -> Core
         ensures { result ≡ record { transaction = t; state = nothing } }
     {
         Core {
@@ -282,10 +283,10 @@ impl Core {
             .any(|d| d.enlistment == e && d.ballot.is_some())
     }
 
-    /// The transaction's identifier: the node 1 in the upper 64 bits, and the transaction's number in the lower.
+    /// The transaction's identifier.
     fn identifier(&self) -> u128
-        ensures { result ≡ identifier_of self.now.transaction.value }
+        ensures { result ≡ identifier_of (number_of self.now.transaction) }
     {
-        (1 << 64) + u128::from(self.transaction.get())
+        self.transaction.identifier()
     }
 }

@@ -1,8 +1,8 @@
 -- The records of the slots in memory.
 use Rattle.std.specs.Prelude.{count_by, is_none, is_some, position, replicate, IfNone, IfSome, IsSome}
-use Rattle.std.specs.List.{position_or_len}
+use Rattle.std.specs.List.{filter_map, position_or_len}
 use Rattle.std.specs.Option.{option_map}
-use Rattle.std.proofs.Common.{◌≡◌, ℕ, zero, suc, ◌≤◌, ◌<◌, Bool, true, false, cond, nat_lt, eqb, List, [], ◌∷◌, length, get_or, set, map, Option, Some, None, refl, sym, ap, ◌∙◌, inl, inr, arith, rules}
+use Rattle.std.proofs.Common.{◌≡◌, ℕ, zero, suc, ◌≤◌, ◌<◌, Bool, true, false, cond, nat_lt, eqb, List, [], ◌∷◌, ◌++◌, length, get_or, set, map, Option, Some, None, refl, sym, ap, ◌∙◌, inl, inr, arith, rules}
 use Rattle.std.proofs.lemmas.Bool.{cases_Bool}
 use Rattle.std.proofs.lemmas.Bool.Decides.{nat_tests}
 use Rattle.std.proofs.lemmas.List.{get_or-map, length-map}
@@ -152,3 +152,9 @@ length-open_records (Some r ∷ ss) = omega (arith, length-open_records ss, sum_
 pub none_open : (n : ℕ) → open_records (records_in (replicate n None)) ≡ []
 none_open zero = refl
 none_open (suc n) = none_open n
+
+-- the records of the slots that are kept are all there are
+pub kept_open : (ss : List (Option LogRecord)) (n : ℕ) → filter_map (option_map record_of) ss ≡ open_records (records_in (ss ++ replicate n None))
+kept_open [] n = sym (none_open n)
+kept_open (None ∷ ss) n = kept_open ss n
+kept_open (Some r ∷ ss) n = ap (λ (rs : List CommitRecord). record_of r ∷ rs) (kept_open ss n)

@@ -1,14 +1,14 @@
 //! The log.
-ghost use Rattle.std.specs.Prelude.{◌≡◌, ◌≢◌, ◌⊎◌, ◌↔◌, ◌≤◌, ◌<◌, ◌+◌, ◌-◌, ◌^◌, List, [], ℕ, length, true, IfOk, IfErr, IsOk, OnOk, is_ok, if◌then◌else◌, Err, Ok, IsErrOf, IsTrue, IsFalse, None, Some, false};
-ghost use Rattle.std.specs.List.{insert};
+ghost use Rattle.std.specs.Prelude.{◌≡◌, ◌≢◌, ◌⊎◌, ◌↔◌, ◌≤◌, ◌<◌, ◌+◌, ◌-◌, ◌^◌, List, [], ℕ, length, true, IfOk, IfErr, IsOk, OnOk, is_ok, if◌then◌else◌, Err, Ok, IsErrOf, IsTrue, IsFalse, None, Some, false, map};
+ghost use Rattle.std.specs.List.{filter_map, insert};
 ghost use Rattle.std.specs.Option.{option_map};
 ghost use Rattle.outside.specs.Disk.{AreWithin};
 ghost use Rattle.outside.specs.Faults.{Rose};
 ghost use Rattle.outside.specs.Images.{AreSame};
-ghost use Rattle.dtx_model.specs.Log.{first_of, log_has, record_of, without_first_of};
+ghost use Rattle.dtx_model.specs.Log.{first_of, log_has, record_of, slots_of, without_first_of};
 ghost use Rattle.dtx_values.specs.RecoveryInfo.{is_id};
 ghost use Rattle.coordinator_log.specs.Crash.{AllHold, AllHoldEither, Appends, Frees, IsLeftOf, IsOpened, with_record};
-ghost use Rattle.coordinator_log.specs.Slots.{Agrees, lowest_closed, open_records};
+ghost use Rattle.coordinator_log.specs.Slots.{Agrees, formed, lowest_closed, open_records, with_closed};
 ghost use Rattle.coordinator_log.specs.Stop.{BreaksOff, after_calls, is_done, is_found_after_append, is_found_after_free, stop_in};
 ghost use Rattle.coordinator_log.specs.declared.stop.ArmedStop.{ArmedStop};
 
@@ -96,8 +96,12 @@ impl<D: Disk> Log<D> {
         ensures unarmed { IfOk result (λ l. l.armed ≡ None) }
         ensures records { IsTrue D.honest → IfOk result (λ l. IsOpened D.seen disk l) }
         ensures images { IsTrue D.honest → IfOk result (λ l. AllHold (D.image l.disk) (open_records l.slots)) }
+        ensures slots { IsTrue D.honest → IfOk result (λ l. slots_of (D.seen disk) ≡ map formed l.slots) }
+        ensures seen { IsTrue D.honest → IfOk result (λ l. D.seen l.disk ≡ D.seen disk) }
         ensures within { IsTrue D.honest → IfOk result (λ l. AreWithin (D.image disk) (D.image l.disk)) }
+        ensures same_size { IfOk result (λ l. D.size l.disk ≡ D.size disk) }
         ensures smooth { IfOk result (λ l. D.faults l.disk ≡ D.faults disk) }
+        ensures grows { IfErr result (λ e. D.faults disk ≤ D.faults e.1) }
         ensures only { IfErr result (λ e. (e.0 ≡ LogRefusal.Fault) ⊎ ((e.0 ≡ LogRefusal.Memory) ⊎ ((p : ℕ) × (e.0 ≡ LogRefusal.NotALog p)))) }
         ensures fault { IfErr result (λ e. e.0 ≡ LogRefusal.Fault → Rose (D.faults disk) (D.faults e.1)) }
         ensures not_a_log { IsTrue D.honest → IfErr result (λ e. (p : ℕ) → e.0 ≡ LogRefusal.NotALog p → log_has (D.seen disk) ≡ Err p) }
@@ -288,6 +292,14 @@ impl<D: Disk> Log<D> {
     {
         let k = self.slots.found(id)?;
         self.slots.record(k)
+    }
+
+    /// The records of the first slots, in order of slots, with none where the gate is closed; the gates of the slots after them are closed.
+    pub fn records(&self) -> &[Option<LogRecord>]
+        ensures slots { map (option_map record_of) (with_closed 1024 result.now) ≡ self.now.slots }
+        ensures open { filter_map (option_map record_of) result.now ≡ open_records self.now.slots }
+    {
+        self.slots.records()
     }
 
     /// Arms a stop at the n-th write or sync of the appends and frees that come, n at least 1. A stop that was armed before is replaced.

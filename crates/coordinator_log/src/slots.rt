@@ -1,5 +1,6 @@
 //! The slots in memory.
-ghost use Rattle.std.specs.Prelude.{◌≡◌, ◌≤◌, ◌<◌, [], None, Some, length, set, slice_index_or, vec_capacity, IfNone, IfOk, IfSome, IsSome, count_by, is_none, is_some, position};
+ghost use Rattle.std.specs.Prelude.{◌≡◌, ◌≤◌, ◌<◌, [], None, Some, length, set, slice_index_or, vec_capacity, IfNone, IfOk, IfSome, IsSome, count_by, is_none, is_some, map, position};
+ghost use Rattle.std.specs.List.{filter_map};
 ghost use Rattle.std.specs.Option.{option_map};
 ghost use Rattle.dtx_model.specs.Log.{first_of, record_of, without_first_of};
 ghost use Rattle.coordinator_log.specs.Slots.{has_record_of, lowest_closed, open_records, with_closed};
@@ -73,6 +74,14 @@ impl Slots {
             Some(slot) => slot.as_ref(),
             None => None,
         }
+    }
+
+    /// The records of the first slots; the gates of those after them are closed.
+    pub fn records(&self) -> &[Option<LogRecord>]
+        ensures slots { map (option_map record_of) (with_closed 1024 result.now) ≡ self.now }
+        ensures open { filter_map (option_map record_of) result.now ≡ open_records self.now }
+    {
+        &self.records
     }
 
     /// Puts a record into slot k, or takes it out.

@@ -10,7 +10,7 @@ use Rattle.dtx_model.specs.Words.{always}
 use Rattle.dtx_model.specs.Outcome.{is_empty}
 use Rattle.dtx_model.specs.Wires.{MayCross, WireRun, in_transit, is_ended, is_lost_wire, is_next}
 use Rattle.dtx_model.proofs.Bools.{and_left, and_right}
-use Rattle.dtx_model.proofs.SameNumbers.{same_enlistment, same_manager}
+use Rattle.dtx_values.proofs.SameNumbers.{same_enlistment, same_manager}
 
 abbrev pub same_info : Info → Info → Bool
 same_info i j = (i.id == j.id) && ((i.rm.value == j.rm.value) && (i.enl.value == j.enl.value))

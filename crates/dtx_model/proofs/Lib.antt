@@ -6,7 +6,6 @@ pub mod Faults
 pub mod Scopes
 pub mod Digits
 pub mod Pasts
-pub mod SameNumbers
 pub mod Connections
 pub mod Counts
 pub mod Passing

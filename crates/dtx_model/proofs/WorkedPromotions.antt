@@ -13,7 +13,7 @@ use Rattle.dtx_values.specs.declared.script.Body.TheVariants.{Begin as BeginLine
 use Rattle.dtx_values.specs.declared.script.EnlistOption.TheVariants.{DuringPrepare}
 use Rattle.dtx_values.specs.declared.script.Line.{Line}
 use Rattle.dtx_values.specs.declared.script.Support.TheVariants.{SinglePhase, TwoPhase}
-use Rattle.dtx_values.specs.declared.words.Cause.TheVariants.{Marshal as MarshalCause, Second, Two}
+use Rattle.dtx_values.specs.declared.words.Cause.TheVariants.{Marshal as MarshalCause, Second}
 use Rattle.dtx_values.specs.declared.words.Class.TheVariants.{DurableSingle, DurableTwo, Promotable as PromotableClass, Zero}
 use Rattle.dtx_values.specs.declared.words.Outcome.TheVariants.{Committed, InDoubt}
 use Rattle.dtx_values.specs.declared.words.Timeout.TheVariants.{Default}

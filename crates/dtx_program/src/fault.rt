@@ -39,6 +39,8 @@ pub enum Fault {
     Memory,
     #[error("dtx: cannot open log")]
     NoLog,
+    #[error("dtx: log is none, at place {0}")]
+    NotALog(u64),
 }
 
 impl Fault {
@@ -51,6 +53,7 @@ impl Fault {
             Exit::NotThreadable(line) => Err(Fault::NotThreadable(line)),
             Exit::ReadFault => Err(Fault::Read),
             Exit::LogFault => Err(Fault::Log),
+            Exit::NotALog(place) => Err(Fault::NotALog(place)),
             Exit::WriteFault => Err(Fault::Write),
             Exit::Memory => Err(Fault::Memory),
         }
@@ -67,6 +70,7 @@ impl Fault {
             Fault::Log => 7,
             Fault::Memory => 8,
             Fault::NoLog => 11,
+            Fault::NotALog(_) => 12,
         }
     }
 }

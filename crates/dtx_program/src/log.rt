@@ -23,6 +23,14 @@ pub fn may_be_log<R: Files<File = File>>(rt: &R, path: &str) -> bool {
     found.is_file() && (found.len() == 0 || begins_as_log(rt, path))
 }
 
+/// Whether a log can be read in the file at this path, whatever it holds: it is there, and it is a regular file.
+pub fn is_file<R: Files<File = File>>(rt: &R, path: &str) -> bool {
+    match fs::metadata(rt, path) {
+        Ok(found) => found.is_file(),
+        Err(_) => false,
+    }
+}
+
 /// Whether the file at this path begins as a log does.
 fn begins_as_log<R: Files<File = File>>(rt: &R, path: &str) -> bool {
     let Ok(mut file) = File::open(rt, path) else {

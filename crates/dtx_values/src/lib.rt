@@ -21,6 +21,7 @@ mod row;
 mod scope;
 mod script;
 mod trace;
+mod tx_id;
 mod words;
 
 pub use call::Call;
@@ -44,6 +45,7 @@ pub use row::{CloneRow, Row};
 pub use scope::{Closed, Entered, OpenScope};
 pub use script::{BadCause, Body, EnlistOption, Line, Opening, Script, Support};
 pub use trace::{Place, Trace};
+pub use tx_id::TxId;
 pub use words::{
     Cause, Class, CloneKind, Image, Iso, IsoWord, Outcome, ScopeOption, Status, Timeout, Vote,
 };

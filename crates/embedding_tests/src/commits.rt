@@ -31,7 +31,7 @@ fn commits(manager: &mut Manager, rms: [RmNo; 2], o: &mut Objects, seen: &mut Se
         return seen.see(false);
     };
     enlists(manager, &tx, rms, o, seen);
-    seen.see(manager.identifier(&tx, o) == Ok((1 << 64) + 1));
+    seen.see(manager.identifier(&tx, o) == Ok((1 << 64) + 65_536 + 1));
     seen.see(manager.commit(&tx, o) == Ok(()));
     seen.see(o.times(Note::Prepare) == 32);
     seen.see(o.times(Note::Commit) == 32);
@@ -136,13 +136,13 @@ fn works(
     a: &mut Ambient,
 ) {
     let (required, isolation) = (ScopeOption::Required, IsoWord::Default);
-    let Ok(mut outer) = manager.open(a, required, Timeout::Default, isolation) else {
+    let Ok(mut outer) = manager.open_scope(a, required, Timeout::Default, isolation) else {
         return seen.see(false);
     };
     if let Some(tx) = outer.transaction() {
         seen.see(manager.enlist_volatile(tx, EnlistOption::Plain).is_ok());
     }
-    match manager.open(a, required, Timeout::Default, isolation) {
+    match manager.open_scope(a, required, Timeout::Default, isolation) {
         Ok(mut inner) => {
             seen.see(inner.complete(a) == Ok(()));
             seen.see(manager.dispose(a, inner, o) == Ok(()));

@@ -5,6 +5,8 @@
 #[cfg(test)]
 mod commits;
 #[cfg(test)]
+mod numbers;
+#[cfg(test)]
 mod objects;
 #[cfg(test)]
 mod waits;

@@ -62,12 +62,12 @@ fn clone_holds(
     }
 }
 
-/// The number of one that never came to the log is used again.
+/// The second one has a number of its own, and is the next.
 fn begins_twice(manager: &mut Manager, o: &mut Objects, seen: &mut Seen) {
-    for _ in 0..2 {
+    for n in 1..3 {
         match manager.begin(Timeout::Default) {
             Ok(tx) => {
-                seen.see(tx.number().get() == 1);
+                seen.see(tx.number().number() == 65_536 + n);
                 clone_holds(manager, tx, o, seen);
             }
             Err(_) => seen.see(false),

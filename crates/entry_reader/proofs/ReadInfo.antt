@@ -12,7 +12,7 @@ use Rattle.dtx_model.specs.TraceText.{id_at, is_message_fit, message_text}
 use Rattle.dtx_model.proofs.Bools.{and_left, and_right}
 use Rattle.line_tail.specs.Cut.{front}
 use Rattle.dtx_model.specs.Faults.{same_bytes}
-use Rattle.dtx_model.proofs.SameNumbers.{same_enlistment, same_manager}
+use Rattle.dtx_values.proofs.SameNumbers.{same_enlistment, same_manager}
 
 -- numbers that pass as equal are
 equal : (m n : ℕ) → (m == n) ≡ true → m ≡ n

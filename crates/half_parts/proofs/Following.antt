@@ -2,6 +2,7 @@
 use Rattle.std.proofs.Common.{◌≡◌, ℕ, ◌==◌, Bool, true, false, not, List, [], ◌∷◌, Option, Some, None, is_some, refl, ap, arith, sym, ◌∙◌}
 use Rattle.std.proofs.lemmas.Bool.Decides.{nat_tests}
 use Rattle.dtx_values.specs.declared.call.Call.{Call}
+use Rattle.dtx_values.specs.TxIds.{number_of}
 use Rattle.dtx_values.specs.declared.call.Call.TheVariants.{Durable, Await, Do, Lose, Gone, Reenlist, Recovered}
 use Rattle.dtx_values.specs.declared.entry.Answer.{Answer}
 use Rattle.dtx_values.specs.declared.entry.Answer.TheVariants.{Fine, True, Wait}
@@ -93,9 +94,9 @@ replied_to t w h g e r n f due fit same =
     goes_on t w h g (Replies e r) (reply_entries h e r) f (n, ap (λ (x : Half). due_of x.seen e.value) f.knows ∙ due, fit) (λ m a c i. i)
     (ap (λ (x : Half). reply_entries x e r) f.knows) same
 
-pub replied : (k g : Known) (w : World) (e : EnlNo) (r : Reply) (n : Note) → Follows k.transaction.value w k.half → due_of k.half.seen e.value ≡ Some n → fits r n ≡ true
-    → g ≡ known_after [] k (reply_entries k.half e r) → Follows k.transaction.value (after k.transaction.value w (Replies e r)) g.half
-replied k g w e r n f due fit same = replied_to k.transaction.value w k.half g.half e r n f due fit (ap (λ (x : Known). x.half) same)
+pub replied : (k g : Known) (w : World) (e : EnlNo) (r : Reply) (n : Note) → Follows (number_of k.transaction) w k.half → due_of k.half.seen e.value ≡ Some n → fits r n ≡ true
+    → g ≡ known_after [] k (reply_entries k.half e r) → Follows (number_of k.transaction) (after (number_of k.transaction) w (Replies e r)) g.half
+replied k g w e r n f due fit same = replied_to (number_of k.transaction) w k.half g.half e r n f due fit (ap (λ (x : Known). x.half) same)
 
 -- the local act, where one is pending
 pub acted : (t : ℕ) (w : World) (h g : Half) → Follows t w h → is_empty (act_entries h) ≡ false → g ≡ heeds_all [] h (act_entries h) → Follows t (after t w Acts) g

@@ -2,6 +2,7 @@
 use Rattle.std.proofs.Common.{◌≡◌, ◌<◌, ◌==◌, ◌+◌, ◌&&◌, ◌||◌, ℕ, suc, Bool, true, false, not, List, [], length, Option, Some, is_some, if◌then◌else◌, refl, sym, subst, ◌∙◌, arith}
 use Rattle.std.proofs.lemmas.Bool.Decides.{nat_tests}
 use Rattle.dtx_values.specs.declared.call.Call.{Call}
+use Rattle.dtx_values.specs.TxIds.{number_of}
 use Rattle.dtx_values.specs.declared.call.Call.TheVariants.{Durable, Marshal}
 use Rattle.dtx_values.specs.declared.entry.Answer.TheVariants.{Wait}
 use Rattle.dtx_values.specs.declared.entry.Entry.{Entry}
@@ -83,12 +84,12 @@ waits_more t h n c own waits free m r w l =
         rows-awaited h.seen.limit h.seen.promoted h.seen.table m h.waits (insert_by waiter_line (n, Place e q y) h.waits) same few.0 few.1 begun r
 
 -- the same, where what is kept shows as k
-pub waits_seen : (j k : Known) → j ≡ k → (n : ℕ) (c : Call) → is_its_own c ≡ true → local_answer k.transaction.value k.half c 0 ≡ Wait → is_free k.half n c ≡ true → (m : Option (EnlNo × RmNo))
+pub waits_seen : (j k : Known) → j ≡ k → (n : ℕ) (c : Call) → is_its_own c ≡ true → local_answer (number_of k.transaction) k.half c 0 ≡ Wait → is_free k.half n c ≡ true → (m : Option (EnlNo × RmNo))
     → AreRows j.half.seen.limit j.half.seen.promoted j.half.seen.table m j.half.waits → AreWaiting j.half.seen.table j.half.waits
     → AreLinked (is_some j.half.seen.decided) j.half.seen.table j.half.waits j.half.seen.branches j.half.seen.ends
     → IsMore j.half.seen.limit j.half.seen.promoted (is_some j.half.seen.decided) j.half.seen.table m j.half (insert_by waiter_line (n, wanted_by c) j.half.waits)
 waits_seen j k same n c own waits free m r w l =
-    waits_more j.transaction.value j.half n c own (subst (λ (x : Known). local_answer x.transaction.value x.half c 0 ≡ Wait) (sym same) waits) (subst (λ (x : Known). is_free x.half n c ≡ true) (sym same) free) m r w l
+    waits_more (number_of j.transaction) j.half n c own (subst (λ (x : Known). local_answer (number_of x.transaction) x.half c 0 ≡ Wait) (sym same) waits) (subst (λ (x : Known). is_free x.half n c ≡ true) (sym same) free) m r w l
 
 -- a promotion began where it succeeded or is under way
 pub started_cause : (promoted failed some : Bool) → (promoted || ((some && not promoted) && not failed)) ≡ true → (promoted || some) ≡ false → ⊥

@@ -8,7 +8,7 @@ use Rattle.dtx_values.specs.declared.entry.Entry.TheVariants.{Lost}
 use Rattle.dtx_values.specs.declared.note.Note.{Note}
 use Rattle.dtx_values.specs.declared.note.Reply.{Reply}
 use Rattle.dtx_values.specs.declared.number.EnlNo.{EnlNo}
-use Rattle.dtx_values.specs.declared.number.TxNo.{TxNo}
+use Rattle.dtx_values.specs.declared.tx_id.TxId.{TxId}
 use Rattle.dtx_values.specs.Outgoing.{Outgoing}
 use Rattle.dtx_model.specs.declared.branch.Branch.{Branch}
 use Rattle.dtx_model.specs.Words.{has, kth}
@@ -24,7 +24,7 @@ pub use Rattle.dtx_model.specs.Facts.{is_done, is_waiting_answer}
 
 -- the transaction, and what its local side knows of its calls and its history
 pub record Known : Type 0 where
-  pub transaction : TxNo
+  pub transaction : TxId
   pub half : Half
 
 -- what is known after a block of entries, where these calls are those of the block

@@ -26,7 +26,7 @@ use Rattle.dtx_model.specs.Half.{is_handed, over, is_promoting as sees_promoting
 use Rattle.dtx_model.specs.Arrivals.{arrived, enlisted_at, local_down, local_got, place_given}
 use Rattle.dtx_model.specs.World.{World, half}
 use Rattle.dtx_model.proofs.Bools.{and_left, and_never, not_both, or_case, or_right}
-use Rattle.dtx_model.proofs.SameNumbers.{same_enlistment}
+use Rattle.dtx_values.proofs.SameNumbers.{same_enlistment}
 use Rattle.history_table.proofs.Scans.{each_more, has_more}
 use Rattle.history_table.proofs.Table.{have_come, is_enlist_got, is_opening_got}
 use Rattle.history_table.proofs.Keeping.{Keeps}

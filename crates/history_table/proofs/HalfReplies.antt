@@ -27,7 +27,7 @@ use Rattle.dtx_model.specs.Wires.{opens}
 use Rattle.dtx_model.specs.Half.{is_gone, to_up, was_told}
 use Rattle.dtx_model.specs.Replies.{conn_due, due_of, fits, is_volatile_row, may_still_vote, note_of_conn, note_of_row, owes_vote, owes_promotion, owes_outcome, owes_request}
 use Rattle.dtx_model.proofs.Bools.{and_both, and_left, and_right, not_both, not_false, not_true}
-use Rattle.dtx_model.proofs.SameNumbers.{same_enlistment}
+use Rattle.dtx_values.proofs.SameNumbers.{same_enlistment}
 use Rattle.history_table.proofs.Tests.{five_hold, first_of_three, second_of_three}
 use Rattle.history_table.proofs.Lists.{found_at, has-at}
 use Rattle.history_table.proofs.EntryTests.{is_enlisted}

@@ -24,7 +24,7 @@ use Rattle.dtx_model.specs.Replies.{conn_due, due_conn}
 use Rattle.dtx_model.specs.Wires.{opens}
 use Rattle.dtx_model.specs.Coordinated.{accepts, ballot_of, coordinate, desk_number, follow, is_active, is_desk_of, is_prepared, unacked, with_ack, with_ballot}
 use Rattle.dtx_model.proofs.Bools.{and_both, and_left, and_right, not_both, or_case, or_right}
-use Rattle.dtx_model.proofs.SameNumbers.{same_enlistment}
+use Rattle.dtx_values.proofs.SameNumbers.{same_enlistment}
 use Rattle.history_table.proofs.Scans.{has_more, each_more, each-at}
 use Rattle.history_table.proofs.Keeping.{Keeps, keeps_before}
 use Rattle.history_table.proofs.Marks.{unopened_again}

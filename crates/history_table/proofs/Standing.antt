@@ -19,7 +19,7 @@ use Rattle.dtx_model.specs.Words.{has}
 use Rattle.dtx_model.specs.Entries.{is_decision, is_sealed, is_commit, is_asked}
 use Rattle.dtx_model.specs.Promotes.{is_begun_got, is_promoting}
 use Rattle.dtx_model.specs.Wires.{opens}
-use Rattle.dtx_model.proofs.SameNumbers.{same_enlistment}
+use Rattle.dtx_values.proofs.SameNumbers.{same_enlistment}
 use Rattle.dtx_model.proofs.Bools.{and_both, and_left, and_right, and_never, not_both, not_true, or_case, or_false, or_right}
 use Rattle.dtx_model.proofs.Connections.{same_is}
 use Rattle.history_table.proofs.Table.{is_opening_got, message_row, is_of_conn, is_volatile_conn, is_there, rule, stands_volatile, class_row, ends_with, ask_row, is_prepare_got}

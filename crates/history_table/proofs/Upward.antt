@@ -52,7 +52,7 @@ use Rattle.dtx_model.specs.Steps.{after, delivered, ended_at, got_by, Step, Call
 use Rattle.dtx_model.specs.Caused.{MayCome}
 use Rattle.dtx_model.proofs.Bools.{and_never, not_both, or_case, or_second, and_left, and_right, or_right, and_both}
 use Rattle.dtx_model.proofs.Heeding.{fresh}
-use Rattle.dtx_model.proofs.SameNumbers.{same_enlistment}
+use Rattle.dtx_values.proofs.SameNumbers.{same_enlistment}
 use Rattle.dtx_model.proofs.Quiet.{takes_next}
 use Rattle.history_table.proofs.Crossed.{cut_came, got_came, is_sent_on, opening_sent, sent_came, stopped_came, is_got_on}
 use Rattle.history_table.proofs.Messages.{ENLIST}

@@ -1,6 +1,7 @@
 //! What a thread does with the state of a transaction that it is lent, inside its lock.
 ghost use Rattle.std.specs.Prelude.{◌≡◌, ◌≢◌, ◌⊎◌, IfErr, IsSome, IsTrue, None, Ok, OnOk, Some, false, true};
 ghost use Rattle.dtx_model.specs.Entries.{client_told_of};
+ghost use Rattle.dtx_values.specs.TxIds.{first_id};
 ghost use Rattle.dtx_model.specs.Steps.{pending};
 ghost use Rattle.dtx_model.specs.Words.{kth, latest};
 ghost use Rattle.tx_cells.specs.Board.{Post};
@@ -31,8 +32,8 @@ pub enum Came {
 
 /// That the state is that of this transaction.
 pub fn is_of<N: Run>(state: &CellState<N>, t: TxNo) -> Result<(), TurnError>
-    ensures of { OnOk result (state.now.tx.transaction ≡ t) }
-    ensures other { IfErr result (λ e. (e ≡ TurnError.Differs (Differs.Cell t state.now.tx.transaction)) × (state.now.tx.transaction ≢ t)) }
+    ensures of { OnOk result (first_id t ≡ state.now.tx.transaction) }
+    ensures other { IfErr result (λ e. (e ≡ TurnError.Differs (Differs.Cell t state.now.tx.transaction.t)) × (state.now.tx.transaction.t ≢ t)) }
 {
     let found = state.t();
     if found != t {

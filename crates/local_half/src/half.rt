@@ -1,6 +1,7 @@
 //! What the local side of a transaction knows of its calls and its history.
 ghost use Rattle.std.specs.Prelude.{ℕ, ◌&&◌, ◌≡◌, ◌≤◌, ◌↔◌, [], ◌∷◌, ◌++◌, length, is_some, true, false, find, None, Some, IfOk, IfSome};
 ghost use Rattle.dtx_values.specs.Lines.{has_line};
+ghost use Rattle.dtx_values.specs.TxIds.{number_of};
 ghost use Rattle.dtx_values.specs.Outgoing.{written};
 ghost use Rattle.dtx_values.specs.Table.{rises_above};
 ghost use Rattle.dtx_values.specs.declared.entry.Answer.TheVariants.{Fine, Wait};
@@ -29,7 +30,7 @@ use dependent_clones::Clones;
 use dtx_model::{Branch, Listener, Wanted};
 use dtx_values::{
     Answer, Ask, CALLS, Call, Cause, Class, CloneKind, Conn, DURABLES, Dir, ENLISTMENTS, End,
-    EnlNo, Entry, Message, Outbox, Outcome, Party, RmNo, Row, TxNo, insert_in_order,
+    EnlNo, Entry, Message, Outbox, Outcome, Party, RmNo, Row, TxId, insert_in_order,
 };
 use durable_enlist::owner_of;
 use enlist_table::EnlistTable;
@@ -50,9 +51,6 @@ mod arrivals;
 mod decisions;
 mod facts;
 mod replies;
-
-/// The node of the identifiers, in their upper 64 bits.
-const NODE: u128 = 18_446_744_073_709_551_616;
 
 /// The local side of one transaction. Contracts see what it knows of its calls and its history. Only the
 /// constructor takes memory; each call writes into an outbox that has room.
@@ -121,7 +119,7 @@ const NODE: u128 = 18_446_744_073_709_551_616;
 /// began; where none did, no restart comes, and the history is `tied`.
 #[derive(Drop)]
 pub struct LocalHalf {
-    transaction: TxNo,
+    transaction: TxId,
     /// The timeout in milliseconds, once it is begun.
     limit: Option<u32>,
     clock: u64,
@@ -223,7 +221,7 @@ impl LocalHalf {
     ///
     /// [`AllocError`] where memory ran out.
     #[tactic(auto, unfolding(dtx_model::specs::Observed::observe))]
-    pub fn new(alloc: Global, t: TxNo) -> Result<Self, AllocError>
+    pub fn new(alloc: Global, t: TxId) -> Result<Self, AllocError>
         ensures { IfOk result (λ m. m ≡ record { transaction = t; half = half_of [] [] }) }
     {
         Ok(LocalHalf {
@@ -254,7 +252,7 @@ impl LocalHalf {
     }
 
     /// The transaction.
-    pub fn transaction(&self) -> TxNo
+    pub fn transaction(&self) -> TxId
         ensures { result ≡ self.now.transaction }
     {
         self.transaction
@@ -390,16 +388,16 @@ impl LocalHalf {
 
     /// Whether no promotion began.
     pub fn is_unpromoted(&self) -> bool
-        ensures { (w : World) → Follows self.now.transaction.value w self.now.half → result ≡ is_unpromoted w.past }
+        ensures { (w : World) → Follows (number_of self.now.transaction) w self.now.half → result ≡ is_unpromoted w.past }
     {
         self.handover.cause().is_none()
     }
 
     /// The transaction's identifier at the coordinator.
     fn identifier(&self) -> u128
-        ensures { result ≡ identifier_of self.now.transaction.value }
+        ensures { result ≡ identifier_of (number_of self.now.transaction) }
     {
-        NODE + u128::from(self.transaction.get())
+        self.transaction.identifier()
     }
 
     /// Whether the enlistment was told the outcome.
@@ -453,7 +451,7 @@ impl LocalHalf {
     fn wait(&mut self, line: u32, c: &Call)
         requires own { is_its_own c.now ≡ true }
         requires started { has_promotion self.old.half.seen ≡ true }
-        requires waits { local_answer self.old.transaction.value self.old.half c.now 0 ≡ Wait }
+        requires waits { local_answer (number_of self.old.transaction) self.old.half c.now 0 ≡ Wait }
         requires new { is_free self.old.half line c.now ≡ true }
         ensures { self.new ≡ with_waiter line c.now self.old }
     {
@@ -465,7 +463,7 @@ impl LocalHalf {
     fn wait_first(&mut self, line: u32, c: &Call, cause: Cause, out: &mut Outbox)
         requires own { is_its_own c.now ≡ true }
         requires unstarted { has_promotion self.old.half.seen ≡ false }
-        requires waits { local_answer self.old.transaction.value self.old.half c.now 0 ≡ Wait }
+        requires waits { local_answer (number_of self.old.transaction) self.old.half c.now 0 ≡ Wait }
         requires new { is_free self.old.half line c.now ≡ true }
         requires room { IsRoom 1 0 out.old }
         ensures state { self.new ≡ after [] (with_waiter line c.now self.old) (Promoting cause ∷ []) }
@@ -619,16 +617,13 @@ impl LocalHalf {
     fn hand_on(&mut self, news: &ProxyNews, out: &mut Outbox) -> HandoverAct
         requires { IsRoom 1 0 out.old }
         ensures act { result ≡ act_at self.old.half.seen news.now }
-        ensures state { self.new ≡ after [] self.old (promoted_at self.old.transaction.value self.old.half.seen.cause result) }
-        ensures out { out.new ≡ written out.old (promoted_at self.old.transaction.value self.old.half.seen.cause result) }
+        ensures state { self.new ≡ after [] self.old (promoted_at (number_of self.old.transaction) self.old.half.seen.cause result) }
+        ensures out { out.new ≡ written out.old (promoted_at (number_of self.old.transaction) self.old.half.seen.cause result) }
     {
         let act = self.handover.got(news);
         if act == HandoverAct::Over {
             if let Some(cause) = self.handover.cause() {
-                put_out(
-                    Entry::Promoted(NODE + u128::from(self.transaction.get()), cause),
-                    out,
-                );
+                put_out(Entry::Promoted(self.transaction.identifier(), cause), out);
             }
         }
         act

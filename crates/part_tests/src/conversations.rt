@@ -1,7 +1,7 @@
 //! Worked conversations: what comes to the coordinator, and what it answers.
 use coordinator_core::{Core, CoreAct};
 use dtx_model::{Ballot, Stage};
-use dtx_values::{Conn, Dir, EnlNo, Info, LogRecord, Message, Outbox, RmNo, TxNo};
+use dtx_values::{Conn, Dir, EnlNo, Info, LogRecord, Message, Outbox, RmNo, TxId, TxNo};
 use std::process::Abort;
 use std::test::Fail;
 
@@ -48,7 +48,7 @@ fn converse(rt: &impl Abort, core: &mut Core, out: &mut Outbox, exchanges: &[Exc
 
 /// A transaction that its client has begun.
 fn begun(rt: &impl Abort, out: &mut Outbox) -> Core {
-    let mut core = Core::new(TxNo::new(1).expect(rt, "no such number"));
+    let mut core = Core::new(TxId::first(TxNo::new(1).expect(rt, "no such number")));
     assert!(rt; core.act() == None);
     let begun = [(Conn::Begin, Message::BeginBegun(ID))];
     converse(

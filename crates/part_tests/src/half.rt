@@ -3,7 +3,7 @@
 use dtx_values::{
     ActorNo, Answer, Ask, Call, Cause, Class, CloneKind, CloneNo, Conn, Dir, ENLISTMENTS, EnlNo,
     EnlistOption, Entry, Info, Message, Note, Outbox, Outcome, Party, Reply, RmNo, Support,
-    Timeout, TxNo, Vote,
+    Timeout, TxId, TxNo, Vote,
 };
 use local_half::LocalHalf;
 use std::alloc::{AllocError, Global};
@@ -46,7 +46,7 @@ impl Stage {
     /// Nothing was done yet.
     fn new(rt: &impl Abort, alloc: Global) -> Result<Stage, AllocError> {
         let out = Outbox::with_room(alloc)?;
-        let half = LocalHalf::new(alloc, transaction(rt))?;
+        let half = LocalHalf::new(alloc, TxId::first(transaction(rt)))?;
         Ok(Stage { half, out })
     }
 }
@@ -216,7 +216,7 @@ fn rolls_back(rt: &impl Abort, s: &mut Stage) {
         (Call::Tick(t, 59_999), Answer::Fine),
         (Call::Rollback(t), Answer::Fine),
     ];
-    assert!(rt; s.half.transaction() == t);
+    assert!(rt; s.half.transaction() == TxId::first(t));
     calls(rt, s, &cases);
     act(rt, s, &[Entry::Told(Party::Client, Outcome::Aborted)]);
     let aborted = call(rt, s, &Call::Status(t));

@@ -1,4 +1,5 @@
 pub mod FormText
 pub mod Judged
+pub mod Listed
 pub mod Refusal
 pub mod Transfer

@@ -1,7 +1,7 @@
 //! How the top call ends.
 use script_text::BadCause;
 
-/// How the top call ends. The order in which the answers are given is Usage, ReadFault, BadScript, NotThreadable, LogFault, WriteFault; want of memory may
+/// How the top call ends. The order in which the answers are given is Usage, ReadFault, BadScript, NotThreadable, LogFault, NotALog, WriteFault; want of memory may
 /// come at any point.
 #[derive(Clone, Copy, PartialEq, Eq, Debug)]
 pub enum Exit {
@@ -15,8 +15,10 @@ pub enum Exit {
     NotThreadable(u32),
     /// The source met a fault.
     ReadFault,
-    /// The disk met a fault while the log was formatted.
+    /// The disk met a fault while the log was formatted, or read for its listing.
     LogFault,
+    /// What the disk holds is no log, which was to be listed; the first place, from 0, of another form.
+    NotALog(u64),
     /// The sink met a fault.
     WriteFault,
     /// Memory ran out.

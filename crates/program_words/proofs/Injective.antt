@@ -7,7 +7,7 @@ use Rattle.program_words.specs.Commands.{Asks, form_words, is_command, is_count,
 use Rattle.program_words.specs.declared.command.Form.{Form}
 use Rattle.program_words.specs.declared.command.Form.TheVariants.{Plain, Wire, Json, Summary}
 use Rattle.program_words.specs.declared.command.Command.{Command}
-use Rattle.program_words.specs.declared.command.Command.TheVariants.{Replay, Make, Demo, Threads}
+use Rattle.program_words.specs.declared.command.Command.TheVariants.{Replay, Make, Demo, Threads, Log}
 
 few : (n : ℕ) → is_count n ≡ true → n < 2 ^ 64
 few n h = let k : n ≤ 256 = grind (arith, nat_tests) in omega arith
@@ -79,6 +79,15 @@ same (Demo n) (Threads j g) h k e = let k : ◌≡◌ {A = ℕ} 100 116 = ap (le
 same (Threads i f) (Replay g) h k e = let k : ◌≡◌ {A = ℕ} 116 114 = ap (letter 0) e in absurd (omega arith)
 same (Threads i f) (Make m) h k e = let k : ◌≡◌ {A = ℕ} 116 109 = ap (letter 0) e in absurd (omega arith)
 same (Threads i f) (Demo m) h k e = let k : ◌≡◌ {A = ℕ} 116 100 = ap (letter 0) e in absurd (omega arith)
+same (Replay f) Log h k e = let k : ◌≡◌ {A = ℕ} 114 108 = ap (letter 0) e in absurd (omega arith)
+same (Make n) Log h k e = let k : ◌≡◌ {A = ℕ} 109 108 = ap (letter 0) e in absurd (omega arith)
+same (Demo n) Log h k e = let k : ◌≡◌ {A = ℕ} 100 108 = ap (letter 0) e in absurd (omega arith)
+same (Threads i f) Log h k e = let k : ◌≡◌ {A = ℕ} 116 108 = ap (letter 0) e in absurd (omega arith)
+same Log (Replay g) h k e = let k : ◌≡◌ {A = ℕ} 108 114 = ap (letter 0) e in absurd (omega arith)
+same Log (Make m) h k e = let k : ◌≡◌ {A = ℕ} 108 109 = ap (letter 0) e in absurd (omega arith)
+same Log (Demo m) h k e = let k : ◌≡◌ {A = ℕ} 108 100 = ap (letter 0) e in absurd (omega arith)
+same Log (Threads j g) h k e = let k : ◌≡◌ {A = ℕ} 108 116 = ap (letter 0) e in absurd (omega arith)
+same Log Log h k e = refl
 same (Threads i f) (Threads j g) h k e =
     let rest = behind _ _ _ e in
     let helpers = helped i j (within f i h) (within g j k) (head_same _ _ _ _ rest) in

@@ -24,4 +24,6 @@ pub enum Command {
     Demo(u16),
     /// Run the script that is read on threads, each actor on one of its own and so many helpers beside them, from 1 to 16, and write the trace, as it is or its summary.
     Threads(u8, Form),
+    /// List the log that is on the disk, and change nothing of it.
+    Log,
 }

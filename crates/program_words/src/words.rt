@@ -16,6 +16,8 @@ const DEMO: &[u8] = b"demo";
 
 const THREADS: &[u8] = b"threads";
 
+const LOG: &[u8] = b"log";
+
 const WIRE: &[u8] = b"--wire";
 
 const JSON: &[u8] = b"--json";
@@ -63,10 +65,12 @@ fn single_of(word: &[u8]) -> Option<Command>
     ensures none { IfNone result (AsksNothing (word.now ∷ [])) }
 {
     if word == REPLAY {
-        Some(Command::Replay(Form::Plain))
-    } else {
-        None
+        return Some(Command::Replay(Form::Plain));
     }
+    if word == LOG {
+        return Some(Command::Log);
+    }
+    None
 }
 
 /// The command of two words.

@@ -18,7 +18,7 @@ use Rattle.dtx_model.specs.Words.{holds, latest, or_else, past_of}
 use Rattle.dtx_model.specs.World.{is_connected, is_finished_there, reenlist_by}
 use Rattle.dtx_model.proofs.Pasts.{length-past}
 use Rattle.dtx_model.proofs.Prefixes.{past-more}
-use Rattle.dtx_model.proofs.SameNumbers.{same_enlistment}
+use Rattle.dtx_values.proofs.SameNumbers.{same_enlistment}
 use Rattle.reenlist_recovery.specs.declared.standing.Standing.{Standing}
 use Rattle.reenlist_recovery.specs.declared.wire.Wire.{Wire}
 use Rattle.reenlist_recovery.specs.Connections.{wire_after, wire_of}

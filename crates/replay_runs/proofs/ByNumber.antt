@@ -10,7 +10,7 @@ use Rattle.dtx_model.specs.Words.{onto}
 use Rattle.dtx_model.specs.Traces.{Placed, placed}
 use Rattle.dtx_model.specs.AtLog.{one_if, transactions, tx_number}
 use Rattle.dtx_model.specs.Replay.{put_at}
-use Rattle.dtx_model.proofs.SameNumbers.{same_transaction}
+use Rattle.dtx_values.proofs.SameNumbers.{same_transaction}
 use Rattle.script_histories.proofs.PutAt.{is_tx}
 
 -- The numbers rise, from above n on.

@@ -1,6 +1,8 @@
 -- A call that was entered at a transaction of a run: what holds of the run holds after it, and it is a turn of the trace.
 use Rattle.std.proofs.Common.{◌≡◌, ◌≢◌, ◌≤◌, ◌-◌, ℕ, Bool, true, false, ◌&&◌, not, arith, List, [], ◌∷◌, ◌++◌, length, get_or, set, inl, inr, refl, ap, sym, subst, ◌∙◌, if◌then◌else◌}
 use Rattle.dtx_values.specs.declared.call.Call.{Call}
+use Rattle.dtx_values.specs.TxIds.{first_id, number_of}
+use Rattle.dtx_values.specs.declared.tx_id.TxId.{TxId}
 use Rattle.dtx_values.specs.declared.entry.Entry.{Entry}
 use Rattle.dtx_values.specs.declared.entry.Entry.TheVariants.{Stopped}
 use Rattle.dtx_values.specs.declared.number.ActorNo.{ActorNo}
@@ -58,7 +60,7 @@ pub record Entered {D : Type 0} (faults : D → ℕ) (log : LogState D) (t : TxN
 -- the world after it
 world_after : {D : Type 0} (faults : D → ℕ) (log : LogState D) (t : TxNo) (n : ℕ) (a : ActorNo) (c : Call) (m : ℕ) (x y : TxState) (old new : RunState)
     → Entered faults log t n a c m x y old new → y.world ≡ turned log.is_up t.value x.world (Calls n a c m)
-world_after faults log t n a c m x y old new e = e.does.world ∙ ap (λ (u : TxNo). turned log.is_up u.value x.world (Calls n a c m)) e.own.transaction
+world_after faults log t n a c m x y old new e = e.does.world ∙ ap (λ (u : TxId). turned log.is_up (number_of u) x.world (Calls n a c m)) e.own.transaction
 
 -- the transaction stays tied to its history
 tied_here : {D : Type 0} (faults : D → ℕ) (log : LogState D) (t : TxNo) (n : ℕ) (a : ActorNo) (c : Call) (m : ℕ) (x y : TxState) (old new : RunState)
@@ -176,7 +178,7 @@ entered_turn faults honest image log t n a c m x y old new e h =
 -- The run has entered a call, where its transaction stood at t's place and was put there again.
 pub entered_at_place : {D : Type 0} (faults : D → ℕ) (log : LogState D) (t : TxNo) (n : ℕ) (a : ActorNo) (c : Call) (m : ℕ) (x y : TxState) (old new : RunState) (ws : List TxState) → AreNumbered ws
     → t.value ≤ length ws → x ≡ get_or ws (t.value - 1) x → ((u : TxNo) → state_of u ws ≡ state_of u old.worlds) → new.script ≡ old.script → new.objects ≡ old.objects → new.worlds ≡ set ws (t.value - 1) y
-    → IsOwnRun x.transaction.value x.world → Does faults (Calls n a c m) x log y log → (y.ours ≡ x.ours) × (y.unsure ≡ x.unsure) → IsRecordKept y → new.trace ≡ old.trace ++ placed t (written log.is_up t.value x.world (Calls n a c m))
+    → IsOwnRun (number_of x.transaction) x.world → Does faults (Calls n a c m) x log y log → (y.ours ≡ x.ours) × (y.unsure ≡ x.unsure) → IsRecordKept y → new.trace ≡ old.trace ++ placed t (written log.is_up t.value x.world (Calls n a c m))
     → Entered faults log t n a c m x y old new
 entered_at_place faults log t n a c m x y old new ws numbered made here same script objects worlds run does ours kept noted =
     let at : state_of t ws ≡ x = state_reached t ws x made here in
@@ -206,17 +208,17 @@ may_enter_here s o T old ws t n a c x made here same once tied given below =
 
 -- and may answer as it may in the run
 pub may_answer_here : (old ws : List TxState) (t : TxNo) (c : Call) (m : ℕ) (x : TxState) → AreNumbered ws → t.value ≤ length ws → x ≡ get_or ws (t.value - 1) x
-    → ((u : TxNo) → state_of u ws ≡ state_of u old) → MayAnswer t.value (state_of t old).world c m → MayAnswer x.transaction.value x.world c m
+    → ((u : TxNo) → state_of u ws ≡ state_of u old) → MayAnswer t.value (state_of t old).world c m → MayAnswer (number_of x.transaction) x.world c m
 may_answer_here old ws t c m x numbered made here same answers =
-    let number : x.transaction ≡ t = ap (λ (z : TxState). z.transaction) (sym (state_reached t ws x made here)) ∙ numbered.numbered t in
-    subst (λ (u : TxNo). MayAnswer u.value x.world c m) (sym number) (subst (λ (z : TxState). MayAnswer t.value z.world c m) (was_here old ws t x made here same) answers)
+    let number : x.transaction ≡ first_id t = ap (λ (z : TxState). z.transaction) (sym (state_reached t ws x made here)) ∙ numbered.numbered t in
+    subst (λ (u : TxId). MayAnswer (number_of u) x.world c m) (sym number) (subst (λ (z : TxState). MayAnswer t.value z.world c m) (was_here old ws t x made here same) answers)
 
 -- what a call writes stands after what was written before
 pub past_after : {D : Type 0} (faults : D → ℕ) (log : LogState D) (ws : List TxState) (t : TxNo) (step : Step) (x y : TxState) → AreNumbered ws → t.value ≤ length ws → x ≡ get_or ws (t.value - 1) x
     → Does faults step x log y log → y.world.past ≡ onto x.world.past (written log.is_up t.value x.world step)
 past_after faults log ws t step x y numbered made here does =
-    let number : x.transaction ≡ t = ap (λ (z : TxState). z.transaction) (sym (state_reached t ws x made here)) ∙ numbered.numbered t in
-    ap (λ (w : World). w.past) (does.world ∙ ap (λ (u : TxNo). turned log.is_up u.value x.world step) number) ∙ turned_past log.is_up t.value x.world step
+    let number : x.transaction ≡ first_id t = ap (λ (z : TxState). z.transaction) (sym (state_reached t ws x made here)) ∙ numbered.numbered t in
+    ap (λ (w : World). w.past) (does.world ∙ ap (λ (u : TxId). turned log.is_up (number_of u) x.world step) number) ∙ turned_past log.is_up t.value x.world step
 
 -- a history with a block behind it is no shorter
 onto_longer : (h es : List Entry) → length h ≤ length (onto h es)
@@ -225,7 +227,7 @@ onto_longer h (x ∷ es) = let rest = onto_longer (x ∷ h) es in omega (arith, 
 
 pub past_longer : {D : Type 0} (faults : D → ℕ) (log : LogState D) (step : Step) (x y : TxState) (n : ℕ) → Does faults step x log y log → n ≡ length x.world.past → n ≤ length y.world.past
 past_longer faults log step x y n does many =
-    let past : y.world.past ≡ onto x.world.past (written log.is_up x.transaction.value x.world step) = ap (λ (w : World). w.past) does.world ∙ turned_past log.is_up x.transaction.value x.world step in
-    let longer = onto_longer x.world.past (written log.is_up x.transaction.value x.world step) in
+    let past : y.world.past ≡ onto x.world.past (written log.is_up (number_of x.transaction) x.world step) = ap (λ (w : World). w.past) does.world ∙ turned_past log.is_up (number_of x.transaction) x.world step in
+    let longer = onto_longer x.world.past (written log.is_up (number_of x.transaction) x.world step) in
     let same = ap length past in
     omega (arith, longer, same, many)

@@ -13,7 +13,7 @@ use Rattle.dtx_model.specs.World.{World}
 use Rattle.dtx_model.specs.Steps.{Calls}
 use Rattle.dtx_model.specs.Caused.{AreMadeOnce, IsCallOf, IsIn, made_by}
 use Rattle.dtx_model.proofs.Bools.{and_both, and_left, and_right, not_false, or_false}
-use Rattle.dtx_model.proofs.SameNumbers.{same_transaction}
+use Rattle.dtx_values.proofs.SameNumbers.{same_transaction}
 use Rattle.tx_world.specs.State.{TxState, is_maker, may_enter, turned}
 use Rattle.turn_parts.proofs.Turned.{same_made, turned_calls}
 use Rattle.replay_runs.specs.RunState.{AreBelow, IsBelow, state_of}

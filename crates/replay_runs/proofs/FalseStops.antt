@@ -1,5 +1,5 @@
 -- Two false traces of replays, refused. Of the first the disk met one fault, and two entries are of faults. A restart is answered `fault`, and later a stop is armed at the ninth device call, which an append of four doesn't reach, and the log is stopped all the same.
-use Rattle.std.proofs.Common.{◌≡◌, ◌≤◌, Bool, true, false, List, [], ◌∷◌, refl}
+use Rattle.std.proofs.Common.{◌≡◌, Bool, true, false, List, [], ◌∷◌, refl}
 use Rattle.dtx_values.specs.declared.Image.TheVariants.{Lose}
 use Rattle.dtx_values.specs.declared.entry.Answer.TheVariants.{Fault, Fine}
 use Rattle.dtx_values.specs.declared.entry.Entry.TheVariants.{Called, Got, LogWord, Restarted, Stopped}

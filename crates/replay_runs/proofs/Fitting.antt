@@ -3,6 +3,8 @@ use Rattle.std.proofs.Common.{◌≡◌, ◌≢◌, ◌⊎◌, ◌≤◌, ℕ, B
 use Rattle.std.specs.Prelude.{IsTrue, IsFalse, IfOk, Result, Ok, Err, is_some}
 use Rattle.std.proofs.lemmas.Bool.{cases_Bool}
 use Rattle.dtx_values.specs.declared.number.TxNo.{TxNo}
+use Rattle.dtx_values.specs.TxIds.{first_id, number_of}
+use Rattle.dtx_values.specs.declared.tx_id.TxId.{TxId}
 use Rattle.outside.specs.Disk.{AreWithin}
 use Rattle.dtx_model.specs.Log.{CommitRecord, first_of, is_record_of, log_has}
 use Rattle.dtx_model.specs.Promotes.{identifier_of}
@@ -24,7 +26,7 @@ ok_more P Q (Err e) f k = tt
 
 -- the other transactions have other identifiers
 apart : (ws : List TxState) (t u : TxNo) → AreNumbered ws → u ≢ t → id_of (state_of u ws) ≢ id_of (state_of t ws)
-apart ws t u n k = λ e. own_identifier u t k (sym (ap (λ (v : TxNo). identifier_of v.value) (n.numbered u)) ∙ (e ∙ ap (λ (v : TxNo). identifier_of v.value) (n.numbered t)))
+apart ws t u n k = λ e. own_identifier (first_id u) (first_id t) (λ e. k (ap (λ (x : TxId). x.t) e)) (sym (ap (λ (v : TxId). identifier_of (number_of v)) (n.numbered u)) ∙ (e ∙ ap (λ (v : TxId). identifier_of (number_of v)) (n.numbered t)))
 
 -- What a step of one transaction leaves of an honest log fits each other as before: of a log that is up, its records and those of each image; and one that is stopped isn't touched.
 other_fits : {D : Type 0} (image : D → List ℕ → Type 0) (z x y : TxState) (from to : LogState D) → id_of z ≢ id_of x → KeepsLog image x from y to → (IsTrue to.is_up → IsTrue from.is_up) → (IsFalse from.is_up → to ≡ from)
@@ -80,7 +82,7 @@ had_turn {D} ws t y from to n made keeps still had u = elim (is_it u t) [ inl e 
 -- A transaction that keeps the same of the log fits it as before.
 fits_by : (y x : TxState) (rs : List CommitRecord) → y.transaction ≡ x.transaction → y.ours ≡ x.ours → y.unsure ≡ x.unsure → Fits x rs → Fits y rs
 fits_by y x rs number ours unsure f =
-    subst (λ (u : TxNo). IsFit (identifier_of u.value) y.ours y.unsure rs) (sym number)
+    subst (λ (u : TxId). IsFit (identifier_of (number_of u)) y.ours y.unsure rs) (sym number)
     (subst (λ (o : Option CommitRecord). IsFit (id_of x) o y.unsure rs) (sym ours) (subst (λ b. IsFit (id_of x) x.ours b rs) (sym unsure) f))
 
 pub fits_as : {D : Type 0} (image : D → List ℕ → Type 0) (log : LogState D) (x y : TxState) → y.transaction ≡ x.transaction → y.ours ≡ x.ours → y.unsure ≡ x.unsure → FitsLog image log x → FitsLog image log y
@@ -91,7 +93,7 @@ fits_as image log x y number ours unsure f =
     }
 
 pub had_as : {D : Type 0} (log : LogState D) (x y : TxState) → y.transaction ≡ x.transaction → y.ours ≡ x.ours → IsHad x log → IsHad y log
-had_as log x y number ours had = λ up some none. had up (subst (λ (o : Option CommitRecord). is_some o ≡ true) ours some) (subst (λ (v : TxNo). first_of (identifier_of v.value) (open_records log.slots) ≡ None) number none)
+had_as log x y number ours had = λ up some none. had up (subst (λ (o : Option CommitRecord). is_some o ≡ true) ours some) (subst (λ (v : TxId). first_of (identifier_of (number_of v)) (open_records log.slots) ≡ None) number none)
 
 -- An opening of the log finds the records of one of the images before it: so they fit each transaction, in memory and in each image.
 pub fits_opened : {D : Type 0} (image : D → List ℕ → Type 0) (seen : D → List ℕ) (from to : LogState D) (x : TxState) → image from.disk (seen from.disk) → IsOpened seen from.disk to → AreWithin (image from.disk) (image to.disk) → FitsLog image from x
@@ -100,30 +102,30 @@ fits_opened image seen from to x among opened within f =
     record { fits = λ up. found_so (Fits x) (log_has (seen from.disk)) (open_records to.slots) opened (f.imaged (seen from.disk) among); imaged = λ c i. f.imaged c (within c i) }
 
 -- What a step leaves of the records that are no transaction's,
-foreign_same : (x : TxState) (before rs qs : List CommitRecord) → of_others (id_of x) qs ≡ of_others (id_of x) rs → AreForeignSame before rs → AreForeignSame before qs
-foreign_same x before rs qs e f = λ id none. kept_other (id_of x) id rs qs e (λ s. none x.transaction (sym s)) ∙ f id none
+foreign_same : (x : TxState) (t : TxNo) → x.transaction ≡ first_id t → (before rs qs : List CommitRecord) → of_others (id_of x) qs ≡ of_others (id_of x) rs → AreForeignSame before rs → AreForeignSame before qs
+foreign_same x t own before rs qs e f = λ id none. kept_other (id_of x) id rs qs e (λ s. none t (sym (ap (λ (y : TxId). identifier_of (number_of y)) own) ∙ sym s)) ∙ f id none
 
-foreign_turn : {D : Type 0} (image : D → List ℕ → Type 0) (x y : TxState) (from to : LogState D) (before : List CommitRecord) → KeepsLog image x from y to → (IsTrue to.is_up → IsTrue from.is_up) → (IsFalse from.is_up → to ≡ from)
+foreign_turn : {D : Type 0} (image : D → List ℕ → Type 0) (x y : TxState) (t : TxNo) → x.transaction ≡ first_id t → (from to : LogState D) (before : List CommitRecord) → KeepsLog image x from y to → (IsTrue to.is_up → IsTrue from.is_up) → (IsFalse from.is_up → to ≡ from)
     → IsForeignKept image before from → IsForeignKept image before to
-foreign_turn {D} image x y from to before keeps still quiet f = by (cases_Bool from.is_up)
+foreign_turn {D} image x y t own from to before keeps still quiet f = by (cases_Bool from.is_up)
   where
     by : (from.is_up ≡ true) ⊎ (from.is_up ≡ false) → IsForeignKept image before to
     by (inl up) =
         let here = f.up up in
         record {
-          up = λ u. foreign_same x before (open_records from.slots) (open_records to.slots) keeps.others here;
+          up = λ u. foreign_same x t own before (open_records from.slots) (open_records to.slots) keeps.others here;
           imaged = λ c i. elim (keeps.others_imaged c i) [
             | inl old ↦ f.imaged c old
-            | inr o ↦ ok_more (λ rs. of_others (id_of x) rs ≡ of_others (id_of x) (open_records from.slots)) (AreForeignSame before) (log_has c) (λ rs e. foreign_same x before (open_records from.slots) rs e here) o
+            | inr o ↦ ok_more (λ rs. of_others (id_of x) rs ≡ of_others (id_of x) (open_records from.slots)) (AreForeignSame before) (log_has c) (λ rs e. foreign_same x t own before (open_records from.slots) rs e here) o
           ];
         }
     by (inr down) = subst (λ (l : LogState D). IsForeignKept image before l) (sym (quiet down)) f
 
 -- and so the log goes on as it should: in a step,
-pub goes_turn : {D : Type 0} (faults : D → ℕ) (honest : Bool) (image : D → List ℕ → Type 0) (x y : TxState) (from to : LogState D) → faults from.disk ≤ faults to.disk → (IsTrue to.is_up → IsTrue from.is_up) → (IsFalse from.is_up → to ≡ from)
+pub goes_turn : {D : Type 0} (faults : D → ℕ) (honest : Bool) (image : D → List ℕ → Type 0) (x y : TxState) (t : TxNo) → x.transaction ≡ first_id t → (from to : LogState D) → faults from.disk ≤ faults to.disk → (IsTrue to.is_up → IsTrue from.is_up) → (IsFalse from.is_up → to ≡ from)
     → (IsTrue honest → KeepsLog image x from y to) → LogGoes faults honest image from to
-goes_turn faults honest image x y from to grows still quiet keeps =
-    record { grows = grows; logs = λ h. (keeps h).logs; foreign = λ h before. foreign_turn image x y from to before (keeps h) still quiet }
+goes_turn faults honest image x y t own from to grows still quiet keeps =
+    record { grows = grows; logs = λ h. (keeps h).logs; foreign = λ h before. foreign_turn image x y t own from to before (keeps h) still quiet }
 
 -- and in an opening.
 pub goes_opened : {D : Type 0} (faults : D → ℕ) (honest : Bool) (image : D → List ℕ → Type 0) (seen : D → List ℕ) (from to : LogState D) → faults from.disk ≤ faults to.disk → (IsTrue honest → AreWithin (image from.disk) (image to.disk))

@@ -3,6 +3,8 @@ use Rattle.std.proofs.Common.{◌≡◌, ◌≢◌, ◌⊎◌, ℕ, Bool, true, 
 use Rattle.std.specs.Prelude.{IsFalse}
 use Rattle.std.proofs.lemmas.Bool.{cases_Bool, or_left}
 use Rattle.dtx_values.specs.declared.entry.Entry.{Entry}
+use Rattle.dtx_values.specs.TxIds.{number_of}
+use Rattle.dtx_values.specs.declared.tx_id.TxId.{TxId}
 use Rattle.dtx_values.specs.declared.entry.Entry.TheVariants.{Restarted, Stopped}
 use Rattle.dtx_values.specs.declared.number.TxNo.{TxNo}
 use Rattle.dtx_model.specs.Words.{each, has, onto}
@@ -243,8 +245,8 @@ stands {D} faults t x from to m own may e goes = by m may e
 pub goes_step : {D : Type 0} (faults : D → ℕ) (t : TxNo) (x y : TxState) (from to : LogState D) (m : Step) → IsOwn t x → Does faults m x from y to → to.life ≡ from.life → GoesWith from x
     → MayTurn x.world m → GoesWith to y
 goes_step {D} faults t x y from to m own did life goes may =
-    let world : y.world ≡ turned from.is_up t.value x.world m = did.world ∙ ap (λ (u : TxNo). turned from.is_up u.value x.world m) own.transaction in
-    let own_life : y.life ≡ life_after from.life t.value x.world m x.life = did.life ∙ ap (λ (u : TxNo). life_after from.life u.value x.world m x.life) own.transaction in
+    let world : y.world ≡ turned from.is_up t.value x.world m = did.world ∙ ap (λ (u : TxId). turned from.is_up (number_of u) x.world m) own.transaction in
+    let own_life : y.life ≡ life_after from.life t.value x.world m x.life = did.life ∙ ap (λ (u : TxId). life_after from.life (number_of u) x.world m x.life) own.transaction in
     record {
       life = lives from.is_up t.value x y from to m world own_life life goes.life;
       stopped = subst (λ (w : World). (core w).stopped ≡ (has is_begin_sent w.past && not to.is_up)) (sym world) (stands faults t x from to m own may did.answered goes);

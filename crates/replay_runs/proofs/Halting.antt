@@ -3,6 +3,8 @@ use Rattle.std.proofs.Common.{◌≡◌, ◌≢◌, ◌⊎◌, ◌≤◌, ◌<�
 use Rattle.std.proofs.lemmas.Bool.{cases_lt}
 use Rattle.std.proofs.lemmas.Bool.Decides.{leb_tells}
 use Rattle.dtx_values.specs.declared.entry.Entry.{Entry}
+use Rattle.dtx_values.specs.TxIds.{first_id, number_of}
+use Rattle.dtx_values.specs.declared.tx_id.TxId.{TxId}
 use Rattle.dtx_values.specs.declared.entry.Entry.TheVariants.{Restarted, Stopped}
 use Rattle.dtx_values.specs.declared.number.TxNo.{TxNo}
 use Rattle.dtx_values.specs.declared.script.Line.{Line}
@@ -18,7 +20,7 @@ use Rattle.dtx_model.specs.Traces.{Placed, history, placed}
 use Rattle.dtx_model.specs.Wires.{is_stopped}
 use Rattle.dtx_model.specs.World.{World, core}
 use Rattle.dtx_model.proofs.Bools.{and_both, and_left, and_never}
-use Rattle.dtx_model.proofs.SameNumbers.{same_transaction}
+use Rattle.dtx_values.proofs.SameNumbers.{same_transaction}
 use Rattle.history_table.proofs.CoreStages.{stopped_same}
 use Rattle.script_histories.proofs.PutAt.{history-hit, history-known, is_tx, many-hit, many-known, one_more}
 use Rattle.script_calls.proofs.RightReplies.{is_right, right_onto}
@@ -140,20 +142,20 @@ through_trace g p f ws vs T U n q us a all is blank same many =
 -- Two that are the same in each part are one.
 pub same_state : (x y : TxState) → x.transaction ≡ y.transaction → x.world ≡ y.world → x.ours ≡ y.ours → x.unsure ≡ y.unsure → x.life ≡ y.life → x ≡ y
 same_state x y a b c d e =
-    ap (λ (t : TxNo). record { transaction = t; world = x.world; ours = x.ours; unsure = x.unsure; life = x.life }) a
+    ap (λ (t : TxId). record { transaction = t; world = x.world; ours = x.ours; unsure = x.unsure; life = x.life }) a
     ∙ (ap (λ (w : World). record { transaction = y.transaction; world = w; ours = x.ours; unsure = x.unsure; life = x.life }) b
     ∙ (ap (λ (o : Option CommitRecord). record { transaction = y.transaction; world = y.world; ours = o; unsure = x.unsure; life = x.life }) c
     ∙ (ap (λ (u : Bool). record { transaction = y.transaction; world = y.world; ours = y.ours; unsure = u; life = x.life }) d
     ∙ ap (λ (n : ℕ). record { transaction = y.transaction; world = y.world; ours = y.ours; unsure = y.unsure; life = n }) e)))
 
 -- A stop: what it makes of a transaction,
-pub is_halted : (life : ℕ) (x y : TxState) → y.transaction ≡ x.transaction → y.world ≡ (if is_hit_by life x then after x.transaction.value x.world Stops else x.world) → y.ours ≡ x.ours
+pub is_halted : (life : ℕ) (x y : TxState) → y.transaction ≡ x.transaction → y.world ≡ (if is_hit_by life x then after (number_of x.transaction) x.world Stops else x.world) → y.ours ≡ x.ours
     → y.unsure ≡ x.unsure → y.life ≡ x.life → y ≡ halted life x
 is_halted life x y number world ours unsure own = by (is_hit_by life x) world
   where
-    by : (b : Bool) → y.world ≡ (if b then after x.transaction.value x.world Stops else x.world)
-        → y ≡ (if b then record { transaction = x.transaction; world = after x.transaction.value x.world Stops; ours = x.ours; unsure = x.unsure; life = x.life } else x)
-    by true w = same_state y (record { transaction = x.transaction; world = after x.transaction.value x.world Stops; ours = x.ours; unsure = x.unsure; life = x.life }) number w ours unsure own
+    by : (b : Bool) → y.world ≡ (if b then after (number_of x.transaction) x.world Stops else x.world)
+        → y ≡ (if b then record { transaction = x.transaction; world = after (number_of x.transaction) x.world Stops; ours = x.ours; unsure = x.unsure; life = x.life } else x)
+    by true w = same_state y (record { transaction = x.transaction; world = after (number_of x.transaction) x.world Stops; ours = x.ours; unsure = x.unsure; life = x.life }) number w ours unsure own
     by false w = same_state y x number w ours unsure own
 
 -- what it writes there,
@@ -180,12 +182,12 @@ pub halted_as : (life : ℕ) (x : TxState) → IsAsHalted life x (halted life x)
 halted_as life x = by (is_hit_by life x) refl
   where
     by : (b : Bool) → is_hit_by life x ≡ b
-        → IsAsHalted life x (if b then record { transaction = x.transaction; world = after x.transaction.value x.world Stops; ours = x.ours; unsure = x.unsure; life = x.life } else x)
+        → IsAsHalted life x (if b then record { transaction = x.transaction; world = after (number_of x.transaction) x.world Stops; ours = x.ours; unsure = x.unsure; life = x.life } else x)
     by true e =
         record {
           transaction = refl;
-          past = hit_past true x.transaction.value x.world ∙ ap (λ b. onto x.world.past (one_where b Stopped)) (sym e);
-          calls = hit_calls true x.transaction.value x.world;
+          past = hit_past true (number_of x.transaction) x.world ∙ ap (λ b. onto x.world.past (one_where b Stopped)) (sym e);
+          calls = hit_calls true (number_of x.transaction) x.world;
           ours = refl;
           unsure = refl;
           life = refl;
@@ -250,8 +252,8 @@ pub halted_named : (life : ℕ) (x : TxState) → NamesPrepared x → NamesPrepa
 unfolding after block_at
 halted_named life x named = by (is_hit_by life x)
   where
-    by : (b : Bool) → NamesPrepared (if b then record { transaction = x.transaction; world = after x.transaction.value x.world Stops; ours = x.ours; unsure = x.unsure; life = x.life } else x)
-    by true = named_halt x.transaction x.world (after x.transaction.value x.world Stops) (record { ours = x.ours; unsure = x.unsure; life = x.life }) x refl refl named
+    by : (b : Bool) → NamesPrepared (if b then record { transaction = x.transaction; world = after (number_of x.transaction) x.world Stops; ours = x.ours; unsure = x.unsure; life = x.life } else x)
+    by true = named_halt x.transaction x.world (after (number_of x.transaction) x.world Stops) (record { ours = x.ours; unsure = x.unsure; life = x.life }) x refl refl named
     by false = named
 
 -- An opening: the record that is kept names who said PREPARED, where those of the log fit what was kept;
@@ -260,37 +262,37 @@ unfolding after block_at
 reopened_named {D} log x fits named = by (is_reached_by log.life x)
   where
     found : Option CommitRecord
-    found = record_in log.slots x.transaction.value
+    found = record_in log.slots (number_of x.transaction)
 
-    told : (b : Bool) → (core x.world).stopped ≡ b → (after x.transaction.value x.world (Restarts (is_some found))).past ≡ Restarted (is_some found) ∷ stop_if (not b) x.world.past
+    told : (b : Bool) → (core x.world).stopped ≡ b → (after (number_of x.transaction) x.world (Restarts (is_some found))).past ≡ Restarted (is_some found) ∷ stop_if (not b) x.world.past
     told true s = ap (λ (c : Bool). onto x.world.past (restarted c (is_some found))) s
     told false s = ap (λ (c : Bool). onto x.world.past (restarted c (is_some found))) s
 
-    by : (b : Bool) → NamesPrepared (if b then record { transaction = x.transaction; world = after x.transaction.value x.world (Restarts (is_some found)); ours = found; unsure = false; life = log.life } else x)
+    by : (b : Bool) → NamesPrepared (if b then record { transaction = x.transaction; world = after (number_of x.transaction) x.world (Restarts (is_some found)); ours = found; unsure = false; life = log.life } else x)
     by true =
-        named_told x.transaction x.world (after x.transaction.value x.world (Restarts (is_some found))) (record { ours = x.ours; unsure = x.unsure; life = x.life }) (record { ours = found; unsure = false; life = log.life }) x
+        named_told x.transaction x.world (after (number_of x.transaction) x.world (Restarts (is_some found))) (record { ours = x.ours; unsure = x.unsure; life = x.life }) (record { ours = found; unsure = false; life = log.life }) x
         (not (core x.world).stopped) found (told (core x.world).stopped refl) refl fits.tie refl named
     by false = named
 
 -- and what it makes of a transaction,
 pub is_reopened : {D : Type 0} (log : LogState D) (x y : TxState) → y.transaction ≡ x.transaction
-    → (is_reached_by log.life x ≡ true → (y.world ≡ after x.transaction.value x.world (Restarts (is_some (first_of (id_of x) (open_records log.slots)))))
+    → (is_reached_by log.life x ≡ true → (y.world ≡ after (number_of x.transaction) x.world (Restarts (is_some (first_of (id_of x) (open_records log.slots)))))
     × (y.ours ≡ first_of (id_of x) (open_records log.slots)) × (y.unsure ≡ false) × (y.life ≡ log.life))
     → (is_reached_by log.life x ≡ false → y ≡ x) → y ≡ reopened log x
 is_reopened {D} log x y number reached unreached = by (is_reached_by log.life x) refl
   where
     there : TxState
     there =
-        record { transaction = x.transaction; world = after x.transaction.value x.world (Restarts (is_some (record_in log.slots x.transaction.value))); ours = record_in log.slots x.transaction.value; unsure = false; life = log.life }
+        record { transaction = x.transaction; world = after (number_of x.transaction) x.world (Restarts (is_some (record_in log.slots (number_of x.transaction)))); ours = record_in log.slots (number_of x.transaction); unsure = false; life = log.life }
 
     by : (b : Bool) → is_reached_by log.life x ≡ b
-        → y ≡ (if b then record { transaction = x.transaction; world = after x.transaction.value x.world (Restarts (is_some (record_in log.slots x.transaction.value))); ours = record_in log.slots x.transaction.value; unsure = false; life = log.life } else x)
+        → y ≡ (if b then record { transaction = x.transaction; world = after (number_of x.transaction) x.world (Restarts (is_some (record_in log.slots (number_of x.transaction)))); ours = record_in log.slots (number_of x.transaction); unsure = false; life = log.life } else x)
     by true e = let r = reached e in same_state y there number r.0 r.1 r.2 r.3
     by false e = unreached e
 
 -- what it writes there, where the coordinator stands stopped,
 pub reopened_past : {D : Type 0} (log : LogState D) (x : TxState) → (has is_begin_sent x.world.past ≡ true → (core x.world).stopped ≡ true)
-    → (reopened log x).world.past ≡ onto x.world.past (one_where (is_reached_by log.life x) (Restarted (is_some (record_in log.slots x.transaction.value))))
+    → (reopened log x).world.past ≡ onto x.world.past (one_where (is_reached_by log.life x) (Restarted (is_some (record_in log.slots (number_of x.transaction)))))
 unfolding after block_at
 reopened_past {D} log x stopped = by (is_reached_by log.life x) refl
   where
@@ -298,9 +300,9 @@ reopened_past {D} log x stopped = by (is_reached_by log.life x) refl
     begun e = and_left (has is_begin_sent x.world.past) (not (nat_le log.life x.life)) e
 
     by : (b : Bool) → is_reached_by log.life x ≡ b
-        → (if b then record { transaction = x.transaction; world = after x.transaction.value x.world (Restarts (is_some (record_in log.slots x.transaction.value))); ours = record_in log.slots x.transaction.value; unsure = false; life = log.life } else x).world.past
-        ≡ onto x.world.past (one_where b (Restarted (is_some (record_in log.slots x.transaction.value))))
-    by true e = ap (λ (c : Bool). onto x.world.past (restarted c (is_some (record_in log.slots x.transaction.value)))) (stopped (begun e))
+        → (if b then record { transaction = x.transaction; world = after (number_of x.transaction) x.world (Restarts (is_some (record_in log.slots (number_of x.transaction)))); ours = record_in log.slots (number_of x.transaction); unsure = false; life = log.life } else x).world.past
+        ≡ onto x.world.past (one_where b (Restarted (is_some (record_in log.slots (number_of x.transaction)))))
+    by true e = ap (λ (c : Bool). onto x.world.past (restarted c (is_some (record_in log.slots (number_of x.transaction))))) (stopped (begun e))
     by false e = refl
 
 pub reopened_calls : {D : Type 0} (log : LogState D) (x : TxState) → (reopened log x).world.calls ≡ x.world.calls
@@ -308,7 +310,7 @@ unfolding after
 reopened_calls {D} log x = by (is_reached_by log.life x)
   where
     by : (b : Bool)
-        → (if b then record { transaction = x.transaction; world = after x.transaction.value x.world (Restarts (is_some (record_in log.slots x.transaction.value))); ours = record_in log.slots x.transaction.value; unsure = false; life = log.life } else x).world.calls
+        → (if b then record { transaction = x.transaction; world = after (number_of x.transaction) x.world (Restarts (is_some (record_in log.slots (number_of x.transaction)))); ours = record_in log.slots (number_of x.transaction); unsure = false; life = log.life } else x).world.calls
         ≡ x.world.calls
     by true = refl
     by false = refl
@@ -317,7 +319,7 @@ pub reopened_number : {D : Type 0} (log : LogState D) (x : TxState) → (reopene
 reopened_number {D} log x = by (is_reached_by log.life x)
   where
     by : (b : Bool)
-        → (if b then record { transaction = x.transaction; world = after x.transaction.value x.world (Restarts (is_some (record_in log.slots x.transaction.value))); ours = record_in log.slots x.transaction.value; unsure = false; life = log.life } else x).transaction
+        → (if b then record { transaction = x.transaction; world = after (number_of x.transaction) x.world (Restarts (is_some (record_in log.slots (number_of x.transaction)))); ours = record_in log.slots (number_of x.transaction); unsure = false; life = log.life } else x).transaction
         ≡ x.transaction
     by true = refl
     by false = refl
@@ -343,11 +345,11 @@ reopened_trace s o log ws vs T U n a all tied lives =
     (λ t. reached_same s o log.life t T (state_of t ws) (tied t) (lives t)) (λ u. many-known u T)
 
 -- each is tied to the trace with it
-pub reopened_tied : {D : Type 0} (s : List Line) (o : ℕ) (log : LogState D) (t : TxNo) (T : List Placed) (x : TxState) → x.transaction ≡ t → IsTied s o t T x
+pub reopened_tied : {D : Type 0} (s : List Line) (o : ℕ) (log : LogState D) (t : TxNo) (T : List Placed) (x : TxState) → x.transaction ≡ first_id t → IsTied s o t T x
     → (has is_begin_sent x.world.past ≡ true → (core x.world).stopped ≡ true) → (has is_begin_sent x.world.past ≡ true → x.life < log.life)
     → IsTied s o t (put_at (λ u. Restarted (is_some (record_in log.slots u.value))) (known T) T) (reopened log x)
 reopened_tied {D} s o log t T x number tied stopped lives =
-    let found = Restarted (is_some (record_in log.slots x.transaction.value)) in
+    let found = Restarted (is_some (record_in log.slots (number_of x.transaction))) in
     let past = reopened_past log x stopped in
     record {
       past =
@@ -355,13 +357,13 @@ reopened_tied {D} s o log t T x number tied stopped lives =
           ∙ (one_more_where (is_reached_by log.life x) found x.world.past
           ∙ (ap (λ b. one_more b found x.world.past) (reached_same s o log.life t T x tied lives)
           ∙ (ap (λ h. one_more (is_known T t) found h) tied.past
-          ∙ (ap (λ (u : TxNo). one_more (is_known T t) (Restarted (is_some (record_in log.slots u.value))) (history t.value T)) number
+          ∙ (ap (λ (u : TxId). one_more (is_known T t) (Restarted (is_some (record_in log.slots (number_of u)))) (history t.value T)) number
           ∙ sym (history-known t (λ u. Restarted (is_some (record_in log.slots u.value))) T T)))));
       given = given_same s t.value x.world (reopened log x).world (reopened_calls log x) tied.given;
       planned = subst (λ (h : List Entry). IsToPlan s o h) (sym past) (right_onto (plans_of s) (has_object s o) x.world.past (one_where (is_reached_by log.life x) found) tied.planned (as_planned (is_reached_by log.life x)));
     }
   where
-    as_planned : (b : Bool) → each (is_right (plans_of s) (has_object s o)) (one_where b (Restarted (is_some (record_in log.slots x.transaction.value)))) ≡ true
+    as_planned : (b : Bool) → each (is_right (plans_of s) (has_object s o)) (one_where b (Restarted (is_some (record_in log.slots (number_of x.transaction))))) ≡ true
     as_planned true = refl
     as_planned false = refl
 
@@ -383,11 +385,11 @@ goes_halted {D} log x c down lives stopped = by (is_hit_by log.life x) refl
     begun e = and_left (has is_begin_sent x.world.past) (not (core x.world).stopped) (and_left (has is_begin_sent x.world.past && not (core x.world).stopped) (nat_le x.life log.life) e)
 
     by : (b : Bool) → is_hit_by log.life x ≡ b
-        → GoesWith log (if b then record { transaction = x.transaction; world = after x.transaction.value x.world Stops; ours = x.ours; unsure = x.unsure; life = x.life } else x)
+        → GoesWith log (if b then record { transaction = x.transaction; world = after (number_of x.transaction) x.world Stops; ours = x.ours; unsure = x.unsure; life = x.life } else x)
     by true e =
         record {
           life = λ k. lives (begun e);
-          stopped = stops_core x.transaction.value x.world ∙ sym (and_both (has is_begin_sent x.world.past) (not log.is_up) (begun e) (ap not down));
+          stopped = stops_core (number_of x.transaction) x.world ∙ sym (and_both (has is_begin_sent x.world.past) (not log.is_up) (begun e) (ap not down));
         }
     by false e = record { life = lives; stopped = run (has is_begin_sent x.world.past) (core x.world).stopped near stopped e }
 
@@ -400,12 +402,12 @@ goes_reopened {D} log x c up lives stopped = by (is_reached_by log.life x) refl
     never b = sym (ap (λ u. b && not u) up ∙ and_never b)
 
     by : (b : Bool) → is_reached_by log.life x ≡ b
-        → GoesWith log (if b then record { transaction = x.transaction; world = after x.transaction.value x.world (Restarts (is_some (record_in log.slots x.transaction.value))); ours = record_in log.slots x.transaction.value; unsure = false; life = log.life } else x)
+        → GoesWith log (if b then record { transaction = x.transaction; world = after (number_of x.transaction) x.world (Restarts (is_some (record_in log.slots (number_of x.transaction)))); ours = record_in log.slots (number_of x.transaction); unsure = false; life = log.life } else x)
     by true e =
         record {
           life = λ k. refl;
-          stopped = restarts_core x.transaction.value x.world (is_some (record_in log.slots x.transaction.value))
-              ∙ never (has is_begin_sent (after x.transaction.value x.world (Restarts (is_some (record_in log.slots x.transaction.value)))).past);
+          stopped = restarts_core (number_of x.transaction) x.world (is_some (record_in log.slots (number_of x.transaction)))
+              ∙ never (has is_begin_sent (after (number_of x.transaction) x.world (Restarts (is_some (record_in log.slots (number_of x.transaction))))).past);
         }
     by false e =
         let none : has is_begin_sent x.world.past ≡ false = sym (reached_known log.life x.life (has is_begin_sent x.world.past) lives) ∙ e in

@@ -3,6 +3,7 @@ use Rattle.std.proofs.Common.{◌≡◌, ◌⊎◌, ◌∙◌, ◌≤◌, inl, i
 use Rattle.std.specs.Prelude.{is_some}
 use Rattle.std.proofs.lemmas.Bool.{or_left}
 use Rattle.dtx_values.specs.RecoveryInfo.{pair_of}
+use Rattle.dtx_values.specs.TxIds.{number_of}
 use Rattle.dtx_values.specs.declared.entry.Entry.{Entry}
 use Rattle.dtx_values.specs.declared.entry.Entry.TheVariants.{Got, Recovered, Restarted, Stopped}
 use Rattle.dtx_values.specs.declared.message.Conn.TheVariants.{Begin, Voter, Enl, Again}
@@ -133,28 +134,28 @@ only_found id (x ∷ rs) r one f = by (is_record_of id x) one f (only_found id r
 
 -- What a transaction keeps, and its history, tell of the law.
 history_keeps : (x : TxState) → IsRecordKept x → tied x.world.past ≡ true → Keeps x.world.past
-history_keeps x kept sound = run_keeps (IsIn x.world.calls) x.transaction.value kept.own.0 x.world kept.once kept.own.1 sound
+history_keeps x kept sound = run_keeps (IsIn x.world.calls) (number_of x.transaction) kept.own.0 x.world kept.once kept.own.1 sound
 
 -- its record, where that is the one that is found
-own_record : (x : TxState) (rs : List CommitRecord) → NamesPrepared x → Fits x rs → first_of (id_of x) rs ≡ x.ours → is_some x.ours ≡ true → filter (is_record_of (id_of x)) rs ≡ record_after x.transaction.value x.world.past ∷ []
-own_record x rs named fits found some = only_found (id_of x) rs (record_after x.transaction.value x.world.past) fits.one (found ∙ named some)
+own_record : (x : TxState) (rs : List CommitRecord) → NamesPrepared x → Fits x rs → first_of (id_of x) rs ≡ x.ours → is_some x.ours ≡ true → filter (is_record_of (id_of x)) rs ≡ record_after (number_of x.transaction) x.world.past ∷ []
+own_record x rs named fits found some = only_found (id_of x) rs (record_after (number_of x.transaction) x.world.past) fits.one (found ∙ named some)
 
 -- The log is up: where there is a record by the history, it is the one that the coordinator writes.
 pub written_up : (x : TxState) (rs : List CommitRecord) → IsRecordKept x → NamesPrepared x → (core x.world).stopped ≡ false → Fits x rs → has_mark x.world.past ≡ true → is_some x.ours ≡ has_mark x.world.past
-    → filter (is_record_of (id_of x)) rs ≡ record_after x.transaction.value x.world.past ∷ []
+    → filter (is_record_of (id_of x)) rs ≡ record_after (number_of x.transaction) x.world.past ∷ []
 written_up x rs kept named runs fits marked there = own_record x rs named fits (one_found (id_of x) x.ours x.unsure rs (kept.ours.sure runs) fits) (there ∙ marked)
 
 pub named_up : (x : TxState) (rs : List CommitRecord) → IsRecordKept x → tied x.world.past ≡ true → has_mark x.world.past ≡ true
-    → filter (is_record_of (id_of x)) rs ≡ record_after x.transaction.value x.world.past ∷ [] → are_named x.world.past (filter (is_record_of (id_of x)) rs) ≡ true
+    → filter (is_record_of (id_of x)) rs ≡ record_after (number_of x.transaction) x.world.past ∷ [] → are_named x.world.past (filter (is_record_of (id_of x)) rs) ≡ true
 named_up x rs kept sound marked is =
-    subst (λ (qs : List CommitRecord). are_named x.world.past qs ≡ true) (sym is) (record_names x.transaction.value x.world.past (history_keeps x kept sound) marked)
+    subst (λ (qs : List CommitRecord). are_named x.world.past qs ≡ true) (sym is) (record_names (number_of x.transaction) x.world.past (history_keeps x kept sound) marked)
 
 -- Whatever records fit a transaction: none of its identifier is there, or the one that the coordinator writes,
 pub written_there : (x : TxState) (rs : List CommitRecord) → NamesPrepared x → Fits x rs → (first_of (id_of x) rs ≡ None → filter (is_record_of (id_of x)) rs ≡ [])
-    → (filter (is_record_of (id_of x)) rs ≡ []) ⊎ (filter (is_record_of (id_of x)) rs ≡ record_after x.transaction.value x.world.past ∷ [])
+    → (filter (is_record_of (id_of x)) rs ≡ []) ⊎ (filter (is_record_of (id_of x)) rs ≡ record_after (number_of x.transaction) x.world.past ∷ [])
 written_there x rs named fits none = elim fits.tie [ inl e ↦ by x.ours refl e | inr e ↦ inl (none e.0) ]
   where
-    by : (o : Option CommitRecord) → x.ours ≡ o → first_of (id_of x) rs ≡ x.ours → (filter (is_record_of (id_of x)) rs ≡ []) ⊎ (filter (is_record_of (id_of x)) rs ≡ record_after x.transaction.value x.world.past ∷ [])
+    by : (o : Option CommitRecord) → x.ours ≡ o → first_of (id_of x) rs ≡ x.ours → (filter (is_record_of (id_of x)) rs ≡ []) ⊎ (filter (is_record_of (id_of x)) rs ≡ record_after (number_of x.transaction) x.world.past ∷ [])
     by None q e = inl (none (e ∙ q))
     by (Some r) q e = inr (own_record x rs named fits e (ap (λ (o : Option CommitRecord). is_some o) q))
 
@@ -175,7 +176,7 @@ named_there x rs kept named sound fits marked = elim fits.tie [ inl e ↦ named_
         let can : can_free (before_last_stop h) ≡ true = subst (λ b. (not b || can_free (before_last_stop h)) ≡ true) marked (tried.unsure u) in
         let done = and_right (has_mark (before_last_stop h)) (each (is_done_there (before_last_stop h)) (all_of enlist_got (before_last_stop h))) can in
         done_named h (filter (is_record_of (id_of x)) rs)
-        (done_still h (wire_run (IsIn x.world.calls) x.transaction.value kept.own.0 x.world kept.own.1) (sym (stopped_same h) ∙ stopped u (core x.world).stopped refl) done)
+        (done_still h (wire_run (IsIn x.world.calls) (number_of x.transaction) kept.own.0 x.world kept.own.1) (sym (stopped_same h) ∙ stopped u (core x.world).stopped refl) done)
 
 -- A record that is gone was freed, and then all were finished. So where there ever was one, each that isn't finished is named.
 as_enlist : (i : Info) (x : Entry) → is_enlist_as i.enl.value i.rm.value x ≡ true → is_enlist_got i.enl.value x ≡ true
@@ -207,4 +208,4 @@ ever_named h rs k freed named r = by (has_mark h) refl
 
 pub ever_there : (x : TxState) (rs : List CommitRecord) → IsRecordKept x → tied x.world.past ≡ true → (has_mark x.world.past ≡ true → are_named x.world.past rs ≡ true) → has is_record x.world.past ≡ true → are_ever_named x.world.past rs ≡ true
 ever_there x rs kept sound named r =
-    ever_named x.world.past rs (history_keeps x kept sound) (ran_returning (IsIn x.world.calls) x.transaction.value kept.own.0 x.world kept.once kept.own.1 sound).freed named r
+    ever_named x.world.past rs (history_keeps x kept sound) (ran_returning (IsIn x.world.calls) (number_of x.transaction) kept.own.0 x.world kept.once kept.own.1 sound).freed named r

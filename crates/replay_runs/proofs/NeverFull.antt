@@ -3,6 +3,8 @@ use Rattle.std.proofs.Common.{◌≡◌, ◌⊎◌, ◌≤◌, ◌<◌, ◌-◌,
 use Rattle.std.specs.Prelude.{IsTrue}
 use Rattle.std.proofs.lemmas.List.Folds.{list_any-append}
 use Rattle.dtx_values.specs.declared.entry.Entry.TheVariants.{Stopped}
+use Rattle.dtx_values.specs.TxIds.{number_of}
+use Rattle.dtx_values.specs.declared.tx_id.TxId.{TxId}
 use Rattle.dtx_values.specs.declared.number.TxNo.{TxNo}
 use Rattle.dtx_values.specs.declared.trace.Place.TheVariants.{Context, Log, Transaction}
 use Rattle.dtx_model.specs.Log.{CommitRecord}
@@ -54,7 +56,7 @@ pub never_full : {D : Type 0} (image : D → List ℕ → Type 0) (log : LogStat
     → IsForeignKept image before log → lowest_closed log.slots ≡ 1024 → ⊥
 never_full image log ws before empty numbered up fits foreign full =
     has_room log.slots
-    (few (open_records log.slots) (λ t. subst (λ (u : TxNo). AtMostOne (identifier_of u.value) (open_records log.slots)) (numbered.numbered t) ((fits t).fits up).one)
+    (few (open_records log.slots) (λ t. subst (λ (u : TxId). AtMostOne (identifier_of (number_of u)) (open_records log.slots)) (numbered.numbered t) ((fits t).fits up).one)
     (subst (λ (rs : List CommitRecord). AreForeignSame rs (open_records log.slots)) empty (foreign.up up))) full
 
 -- Where no append of a trace found the log full, none of a transaction did.

@@ -7,7 +7,7 @@ use Rattle.dtx_model.specs.Words.{onto, past_of}
 use Rattle.dtx_model.specs.Traces.{Placed, history, placed}
 use Rattle.dtx_model.proofs.Histories.{history-other, history-same, onto-append}
 use Rattle.dtx_model.proofs.Pasts.{length-past}
-use Rattle.dtx_model.proofs.SameNumbers.{same_transaction}
+use Rattle.dtx_values.proofs.SameNumbers.{same_transaction}
 
 -- A history that is turned round twice is itself.
 turned : {E : Type 0} (ys acc xs : List E) → onto ys (onto acc xs) ≡ onto (xs ++ ys) acc

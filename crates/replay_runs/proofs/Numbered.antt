@@ -4,8 +4,9 @@ use Rattle.std.proofs.lemmas.Bool.{cases_lt}
 use Rattle.std.proofs.lemmas.Bool.Decides.{eqb_tells}
 use Rattle.std.proofs.lemmas.List.{get_or_append_left, get_or_past, get_or_push, get_or_read, get_or-set_other, get_or-set_same}
 use Rattle.dtx_values.specs.declared.number.TxNo.{TxNo}
+use Rattle.dtx_values.specs.TxIds.{first_id}
 use Rattle.dtx_values.specs.declared.number.TheConstants.TxNo.{MAX}
-use Rattle.dtx_model.proofs.SameNumbers.{same_transaction}
+use Rattle.dtx_values.proofs.SameNumbers.{same_transaction}
 use Rattle.tx_world.specs.State.{TxState}
 use Rattle.turn_parts.specs.Runs.{untouched}
 use Rattle.replay_runs.specs.RunState.{AreNumbered, state_of}
@@ -46,7 +47,7 @@ numbered_set t ws y n made same =
       few = subst (λ (k : ℕ). k ≤ MAX) (sym (length-set ws (t.value - 1) y)) n.few;
       numbered = λ u. elim (is_it u t) [
         | inl e ↦
-            subst (λ (v : TxNo). (state_of v (set ws (t.value - 1) y)).transaction ≡ v) (sym e)
+            subst (λ (v : TxNo). (state_of v (set ws (t.value - 1) y)).transaction ≡ first_id v) (sym e)
             (ap (λ (x : TxState). x.transaction) (state_here t ws y made) ∙ (same ∙ n.numbered t))
         | inr k ↦ ap (λ (x : TxState). x.transaction) (state_there u t ws y k) ∙ n.numbered u
       ];

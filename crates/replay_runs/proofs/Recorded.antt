@@ -3,6 +3,8 @@ use Rattle.std.proofs.Common.{◌≡◌, ◌⊎◌, ◌≤◌, ◌∙◌, ℕ, z
 use Rattle.std.specs.Prelude.{IsTrue, IfOk, Ok, filter, is_some, length, if◌then◌else◌}
 use Rattle.std.proofs.lemmas.Bool.{false_from_ne_true, or_left}
 use Rattle.dtx_values.specs.declared.entry.Entry.{Entry}
+use Rattle.dtx_values.specs.TxIds.{first_id, number_of}
+use Rattle.dtx_values.specs.declared.tx_id.TxId.{TxId}
 use Rattle.dtx_values.specs.declared.entry.Entry.TheVariants.{Restarted}
 use Rattle.dtx_values.specs.declared.number.TxNo.{TxNo}
 use Rattle.dtx_values.specs.declared.script.Line.{Line}
@@ -71,13 +73,13 @@ pub ours_mark : (x : TxState) → IsRecordKept x → (core x.world).stopped ≡ 
 ours_mark x k s = k.ours.recorded s ∙ recorded_mark x.world.past
 
 -- So the log has one of it exactly where its history has one.
-recorded_there : (t : TxNo) (T : List Placed) (x : TxState) (rs : List CommitRecord) → x.transaction ≡ t → x.world.past ≡ history t.value T → IsRecordKept x → (core x.world).stopped ≡ false → Fits x rs
+recorded_there : (t : TxNo) (T : List Placed) (x : TxState) (rs : List CommitRecord) → x.transaction ≡ first_id t → x.world.past ≡ history t.value T → IsRecordKept x → (core x.world).stopped ≡ false → Fits x rs
     → length (records_of t.value rs) ≡ (if has_mark (history t.value T) then 1 else 0)
 recorded_there t T x rs named past kept runs fits =
     let there : length (filter (is_record_of (id_of x)) rs) ≡ (if is_some (first_of (id_of x) rs) then 1 else 0) = one_there (id_of x) rs fits.one in
     let found : is_some (first_of (id_of x) rs) ≡ has_mark (history t.value T) =
     ap (λ (o : Option CommitRecord). is_some o) (one_found (id_of x) x.ours x.unsure rs (kept.ours.sure runs) fits) ∙ ours_mark x kept runs ∙ ap has_mark past in
-    subst (λ (u : TxNo). length (filter (is_record_of (identifier_of u.value)) rs) ≡ (if has_mark (history t.value T) then 1 else 0)) named (there ∙ ap (λ b. if b then 1 else 0) found)
+    subst (λ (u : TxId). length (filter (is_record_of (identifier_of (number_of u))) rs) ≡ (if has_mark (history t.value T) then 1 else 0)) named (there ∙ ap (λ b. if b then 1 else 0) found)
 
 -- Whatever records fit a transaction, a restart that finds them finds what may be found there.
 pub found_tied : (x : TxState) (rs : List CommitRecord) → IsTried x.world.past (record { ours = x.ours; unsure = x.unsure; life = x.life }) → Fits x rs → is_tied x.world.past (Restarted (has (is_record_of (id_of x)) rs)) ≡ true
@@ -106,7 +108,7 @@ unknown_none x rs kept runs unbegun fits = none_first (id_of x) rs (none_found (
     none (Some r) e =
         let recorded : is_recorded (core x.world).stage ≡ true = sym (kept.ours.recorded runs) ∙ ap (λ (o : Option CommitRecord). is_some o) e in
         absurd (not_both (has is_begin_sent x.world.past)
-        (recorded_begun x.transaction.value x.world kept.own recorded) unbegun)
+        (recorded_begun (number_of x.transaction) x.world kept.own recorded) unbegun)
 
 -- a coordinator runs while the log is up, and before BEGIN
 runs_up : {D : Type 0} (log : LogState D) (x : TxState) → GoesWith log x → IsTrue log.is_up → (core x.world).stopped ≡ false
@@ -120,7 +122,7 @@ runs_unbegun : {D : Type 0} (log : LogState D) (x : TxState) → GoesWith log x 
 runs_unbegun log x g unbegun = g.stopped ∙ ap (λ b. b && not log.is_up) unbegun
 
 -- So the log at the end of a run is as its trace says.
-pub ends_as : {D : Type 0} (faults : D → ℕ) (image : D → List ℕ → Type 0) (start log : LogState D) (r : RunState) (T : List Placed) → T ≡ r.trace → ((t : TxNo) → (state_of t r.worlds).transaction ≡ t)
+pub ends_as : {D : Type 0} (faults : D → ℕ) (image : D → List ℕ → Type 0) (start log : LogState D) (r : RunState) (T : List Placed) → T ≡ r.trace → ((t : TxNo) → (state_of t r.worlds).transaction ≡ first_id t)
     → Holds true image log r → IsForeignKept image (open_records start.slots) log → AreLogs (image log.disk) → (IsTrue log.is_up → AllHold (image log.disk) (open_records log.slots)) → EndsAs image (open_records start.slots) log (past_of T)
 ends_as {D} faults image start log r T same numbered holds foreign logs held =
     subst (λ (U : List Placed). EndsAs image (open_records start.slots) log (past_of U)) (sym same)
@@ -143,7 +145,7 @@ ends_as {D} faults image start log r T same numbered holds foreign logs held =
     })
   where
     own_up : (t : TxNo) → IsTrue log.is_up → has_mark (state_of t r.worlds).world.past ≡ true
-        → filter (is_record_of (id_of (state_of t r.worlds))) (open_records log.slots) ≡ record_after (state_of t r.worlds).transaction.value (state_of t r.worlds).world.past ∷ []
+        → filter (is_record_of (id_of (state_of t r.worlds))) (open_records log.slots) ≡ record_after (number_of (state_of t r.worlds).transaction) (state_of t r.worlds).world.past ∷ []
     own_up t up marked =
         let x = state_of t r.worlds in
         let runs = runs_up log x (holds.goes t) up in
@@ -153,36 +155,36 @@ ends_as {D} faults image start log r T same numbered holds foreign logs held =
     written t up marked =
         let x = state_of t r.worlds in
         let here = (holds.tied t).past in
-        subst (λ (u : TxNo). records_of u.value (open_records log.slots) ≡ record_after u.value (history t.value (past_of r.trace)) ∷ []) (numbered t)
-        (subst (λ (h : List Entry). filter (is_record_of (id_of x)) (open_records log.slots) ≡ record_after x.transaction.value h ∷ []) here (own_up t up (ap has_mark here ∙ marked)))
+        subst (λ (u : TxId). records_of (number_of u) (open_records log.slots) ≡ record_after (number_of u) (history t.value (past_of r.trace)) ∷ []) (numbered t)
+        (subst (λ (h : List Entry). filter (is_record_of (id_of x)) (open_records log.slots) ≡ record_after (number_of x.transaction) h ∷ []) here (own_up t up (ap has_mark here ∙ marked)))
 
     named_now : (t : TxNo) → IsTrue log.is_up → has_mark (history t.value (past_of r.trace)) ≡ true → are_named (history t.value (past_of r.trace)) (records_of t.value (open_records log.slots)) ≡ true
     named_now t up marked =
         let x = state_of t r.worlds in
         let here = (holds.tied t).past in
         let there : has_mark x.world.past ≡ true = ap has_mark here ∙ marked in
-        subst (λ (u : TxNo). are_named (history t.value (past_of r.trace)) (records_of u.value (open_records log.slots)) ≡ true) (numbered t)
+        subst (λ (u : TxId). are_named (history t.value (past_of r.trace)) (records_of (number_of u) (open_records log.slots)) ≡ true) (numbered t)
         (subst (λ (h : List Entry). are_named h (filter (is_record_of (id_of x)) (open_records log.slots)) ≡ true) here
         (named_up x (open_records log.slots) (holds.kept t) (holds.sound refl t) there (own_up t up there)))
 
     may_be : (c : List ℕ) → image log.disk c → (rs : List CommitRecord) → log_has c ≡ Ok rs → MayBeRecorded (past_of r.trace) (open_records start.slots) rs
     may_be c i rs e =
         let fits : (t : TxNo) → Fits (state_of t r.worlds) rs = λ t. found_so (Fits (state_of t r.worlds)) (log_has c) rs e ((holds.fits refl t).imaged c i) in
-        let named : (t : TxNo) → id_of (state_of t r.worlds) ≡ identifier_of t.value = λ t. ap (λ (u : TxNo). identifier_of u.value) (numbered t) in
+        let named : (t : TxNo) → id_of (state_of t r.worlds) ≡ identifier_of t.value = λ t. ap (λ (u : TxId). identifier_of (number_of u)) (numbered t) in
         record {
           one = λ t. subst (λ id. length (filter (is_record_of id) rs) ≤ 1) (named t) (fits t).one;
           written = λ t. let x = state_of t r.worlds in
-              subst (λ (u : TxNo). (records_of u.value rs ≡ []) ⊎ (records_of u.value rs ≡ record_after u.value (history t.value (past_of r.trace)) ∷ [])) (numbered t)
-              (subst (λ (h : List Entry). (filter (is_record_of (id_of x)) rs ≡ []) ⊎ (filter (is_record_of (id_of x)) rs ≡ record_after x.transaction.value h ∷ [])) (holds.tied t).past
+              subst (λ (u : TxId). (records_of (number_of u) rs ≡ []) ⊎ (records_of (number_of u) rs ≡ record_after (number_of u) (history t.value (past_of r.trace)) ∷ [])) (numbered t)
+              (subst (λ (h : List Entry). (filter (is_record_of (id_of x)) rs ≡ []) ⊎ (filter (is_record_of (id_of x)) rs ≡ record_after (number_of x.transaction) h ∷ [])) (holds.tied t).past
               (written_there x rs (holds.named refl t) (fits t) (none_first (id_of x) rs)));
           named = λ t marked. let x = state_of t r.worlds in
               let here = (holds.tied t).past in
-              subst (λ (u : TxNo). are_named (history t.value (past_of r.trace)) (records_of u.value rs) ≡ true) (numbered t)
+              subst (λ (u : TxId). are_named (history t.value (past_of r.trace)) (records_of (number_of u) rs) ≡ true) (numbered t)
               (subst (λ (h : List Entry). are_named h (filter (is_record_of (id_of x)) rs) ≡ true) here
               (named_there x rs (holds.kept t) (holds.named refl t) (holds.sound refl t) (fits t) (ap has_mark here ∙ marked)));
           ever = λ t ever. let x = state_of t r.worlds in
               let here = (holds.tied t).past in
-              subst (λ (u : TxNo). are_ever_named (history t.value (past_of r.trace)) (records_of u.value rs) ≡ true) (numbered t)
+              subst (λ (u : TxId). are_ever_named (history t.value (past_of r.trace)) (records_of (number_of u) rs) ≡ true) (numbered t)
               (subst (λ (h : List Entry). are_ever_named h (filter (is_record_of (id_of x)) rs) ≡ true) here
               (ever_there x (filter (is_record_of (id_of x)) rs) (holds.kept t) (holds.sound refl t) (λ m. named_there x rs (holds.kept t) (holds.named refl t) (holds.sound refl t) (fits t) m) (ap (has is_record) here ∙ ever)));
           known = λ t k. let x = state_of t r.worlds in

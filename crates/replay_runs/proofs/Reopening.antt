@@ -5,6 +5,8 @@ use Rattle.std.proofs.lemmas.Bool.{cases_Bool}
 use Rattle.std.proofs.lemmas.Bool.Decides.{leb_tells}
 use Rattle.outside.specs.Disk.{AreWithin}
 use Rattle.dtx_values.specs.declared.Image.{Image}
+use Rattle.dtx_values.specs.TxIds.{first_id, number_of}
+use Rattle.dtx_values.specs.declared.tx_id.TxId.{TxId}
 use Rattle.dtx_values.specs.declared.entry.Answer.{Answer}
 use Rattle.dtx_values.specs.declared.entry.Answer.TheVariants.{Fine}
 use Rattle.dtx_values.specs.declared.entry.Entry.{Entry}
@@ -158,7 +160,7 @@ holds_halted {D} honest image from to r q n a x down life within script objects 
 unknown_none : (x : TxState) → IsRecordKept x → (core x.world).stopped ≡ has is_begin_sent x.world.past → has is_begin_sent x.world.past ≡ false → is_some x.ours ≡ true → ⊥
 unknown_none x kept stopped none some =
     let runs : (core x.world).stopped ≡ false = stopped ∙ none in
-    let begun : has is_begin_sent x.world.past ≡ true = recorded_begun (IsIn x.world.calls) x.transaction.value x.world kept.own (sym (kept.ours.recorded runs) ∙ some) in
+    let begun : has is_begin_sent x.world.past ≡ true = recorded_begun (IsIn x.world.calls) (number_of x.transaction) x.world kept.own (sym (kept.ours.recorded runs) ∙ some) in
     let c : true ≡ false = sym begun ∙ none in cc
 
 -- So a record is found of those alone of which it knows.
@@ -188,8 +190,8 @@ had_reopened {D} log x kept lives stopped = by (is_reached_by log.life x) refl
     ]
 
     by : (b : Bool) → is_reached_by log.life x ≡ b
-        → IsHad (if b then record { transaction = x.transaction; world = after x.transaction.value x.world (Restarts (is_some (record_in log.slots x.transaction.value))); ours = record_in log.slots x.transaction.value; unsure = false; life = log.life } else x) log
-    by true e = λ up some none. found (record_in log.slots x.transaction.value) some none
+        → IsHad (if b then record { transaction = x.transaction; world = after (number_of x.transaction) x.world (Restarts (is_some (record_in log.slots (number_of x.transaction)))); ours = record_in log.slots (number_of x.transaction); unsure = false; life = log.life } else x) log
+    by true e = λ up some none. found (record_in log.slots (number_of x.transaction)) some none
     by false e = λ up some none. unknown_none x kept stopped (unknown e) some
 
 -- The records that were found fit it, in memory and in each image.
@@ -197,7 +199,7 @@ fits_found : {D : Type 0} (log : LogState D) (x : TxState) → Fits x (open_reco
 fits_found {D} log x f = by (is_reached_by log.life x)
   where
     by : (b : Bool)
-        → Fits (if b then record { transaction = x.transaction; world = after x.transaction.value x.world (Restarts (is_some (record_in log.slots x.transaction.value))); ours = record_in log.slots x.transaction.value; unsure = false; life = log.life } else x) (open_records log.slots)
+        → Fits (if b then record { transaction = x.transaction; world = after (number_of x.transaction) x.world (Restarts (is_some (record_in log.slots (number_of x.transaction)))); ours = record_in log.slots (number_of x.transaction); unsure = false; life = log.life } else x) (open_records log.slots)
     by true = record { tie = inl refl; one = f.one }
     by false = f
 
@@ -216,7 +218,7 @@ halts_at log x down g = g.stopped ∙ (ap (λ u. has is_begin_sent x.world.past 
 -- The log was opened.
 pub holds_opened : {D : Type 0} (honest : Bool) (image : D → List ℕ → Type 0) (seen : D → List ℕ) (from to : LogState D) (r q : RunState) (n : ℕ) → from.is_up ≡ false → to.is_up ≡ true → to.life ≡ from.life + 1
     → (IsTrue honest → image from.disk (seen from.disk)) → (IsTrue honest → IsOpened seen from.disk to) → (IsTrue honest → AreWithin (image from.disk) (image to.disk)) → (IsTrue honest → AllHold (image to.disk) (open_records to.slots))
-    → ((t : TxNo) → (state_of t r.worlds).transaction ≡ t) → q.script ≡ r.script → q.objects ≡ r.objects → ((t : TxNo) → state_of t q.worlds ≡ reopened to (state_of t r.worlds))
+    → ((t : TxNo) → (state_of t r.worlds).transaction ≡ first_id t) → q.script ≡ r.script → q.objects ≡ r.objects → ((t : TxNo) → state_of t q.worlds ≡ reopened to (state_of t r.worlds))
     → past_of q.trace ≡ put_at (λ t. Restarted (is_some (record_in to.slots t.value))) (known (at_the_log (LogWord (Opened n)) (past_of r.trace))) (at_the_log (LogWord (Opened n)) (past_of r.trace))
     → ((t : TxNo) → IsRecordKept (state_of t q.worlds)) → (IsTrue honest → (t : TxNo) → is_tied_history (state_of t q.worlds).world.past ≡ true) → Holds honest image from r → Holds honest image to q
 holds_opened {D} honest image seen from to r q n was up life among opened within hold numbered script objects worlds trace kept sound h =
@@ -258,12 +260,12 @@ pub record IsHalted {D : Type 0} (honest : Bool) (image : D → List ℕ → Typ
   pub contexts : q.contexts ≡ r.contexts
   pub calls : HaveSameCalls r.worlds q.worlds
   pub trace : past_of q.trace ≡ after_halt n a x (past_of r.trace)
-  pub numbered : (t : TxNo) → (state_of t q.worlds).transaction ≡ t
+  pub numbered : (t : TxNo) → (state_of t q.worlds).transaction ≡ first_id t
   pub holds : (to : LogState D) → to.is_up ≡ false → to.life ≡ from.life → (IsTrue honest → AreWithin (image from.disk) (image to.disk)) → Holds honest image to q
 
 -- where the log was down,
 pub halted_down : {D : Type 0} (honest : Bool) (image : D → List ℕ → Type 0) (from : LogState D) (n : ℕ) (a : ActorNo) (x : Answer) (r q : RunState) → from.is_up ≡ false → q.script ≡ r.script → q.objects ≡ r.objects → q.contexts ≡ r.contexts → q.worlds ≡ r.worlds
-    → past_of q.trace ≡ at_the_log (Called n a x) (past_of r.trace) → ((t : TxNo) → (state_of t r.worlds).transaction ≡ t) → Holds honest image from r → IsHalted honest image from n a x r q
+    → past_of q.trace ≡ at_the_log (Called n a x) (past_of r.trace) → ((t : TxNo) → (state_of t r.worlds).transaction ≡ first_id t) → Holds honest image from r → IsHalted honest image from n a x r q
 halted_down honest image from n a x r q was script objects contexts worlds trace numbered h = record {
   script = script;
   objects = objects;
@@ -278,7 +280,7 @@ halted_down honest image from n a x r q was script objects contexts worlds trace
 pub halted_up : {D : Type 0} (honest : Bool) (image : D → List ℕ → Type 0) (from : LogState D) (n : ℕ) (a : ActorNo) (x : Answer) (r q : RunState) → from.is_up ≡ true → q.script ≡ r.script → q.objects ≡ r.objects → q.contexts ≡ r.contexts → HaveSameCalls r.worlds q.worlds
     → ((t : TxNo) → state_of t q.worlds ≡ halted from.life (state_of t r.worlds))
     → past_of q.trace ≡ put_at (λ u. Stopped) (hit (at_the_log Stopped (at_the_log (Called n a x) (past_of r.trace)))) (at_the_log Stopped (at_the_log (Called n a x) (past_of r.trace)))
-    → ((t : TxNo) → IsRecordKept (state_of t q.worlds)) → ((t : TxNo) → (state_of t r.worlds).transaction ≡ t) → Holds honest image from r → IsHalted honest image from n a x r q
+    → ((t : TxNo) → IsRecordKept (state_of t q.worlds)) → ((t : TxNo) → (state_of t r.worlds).transaction ≡ first_id t) → Holds honest image from r → IsHalted honest image from n a x r q
 halted_up honest image from n a x r q was script objects contexts calls worlds trace kept numbered h = record {
   script = script;
   objects = objects;
@@ -326,13 +328,13 @@ opened_just {D} faults honest image seen start from to r q n a x m T U up among 
     own = subst (λ before. AreForeignSame before (open_records to.slots)) empty ((goes.foreign is (open_records start.slots) (told.foreign is)).up up)
 
     one : (t : TxNo) → length (filter (is_record_of (identifier_of t.value)) (open_records to.slots)) ≤ 1
-    one t = subst (λ (u : TxNo). length (filter (is_record_of (identifier_of u.value)) (open_records to.slots)) ≤ 1) (halts.numbered t) (fit t).one
+    one t = subst (λ (u : TxId). length (filter (is_record_of (identifier_of (number_of u))) (open_records to.slots)) ≤ 1) (halts.numbered t) (fit t).one
 
     there : (t : TxNo) → is_some (first_of (identifier_of t.value) (open_records to.slots)) ≡ true → how_many (λ v. t.value == v.value) (known U) ≡ 1
     there t found =
         let begun =
         found_known (state_of t q.worlds) (open_records to.slots) (h.kept t) (halts_at (halted_log from) (state_of t q.worlds) refl (h.goes t)) (fit t)
-        (subst (λ (u : TxNo). is_some (first_of (identifier_of u.value) (open_records to.slots)) ≡ true) (sym (halts.numbered t)) found) in
+        (subst (λ (u : TxId). is_some (first_of (identifier_of (number_of u)) (open_records to.slots)) ≡ true) (sym (halts.numbered t)) found) in
         let here : is_known U t ≡ true = ap (λ V. has is_begin_sent (history t.value V)) (ends ∙ sym halts.trace) ∙ (ap (has is_begin_sent) (sym (h.tied t).past) ∙ begun) in
         many-known t U ∙ ap (λ b. one_if b 0) here
 

@@ -3,6 +3,8 @@ use Rattle.std.proofs.Common.{◌≡◌, ◌≢◌, ◌⊎◌, ◌<◌, ℕ, ◌
 use Rattle.std.specs.Prelude.{IsTrue, IsFalse}
 use Rattle.std.proofs.lemmas.Bool.Decides.{Decides-eqb, eqb_tells}
 use Rattle.dtx_values.specs.declared.entry.Entry.{Entry}
+use Rattle.dtx_values.specs.TxIds.{number_of}
+use Rattle.dtx_values.specs.declared.tx_id.TxId.{TxId}
 use Rattle.dtx_values.specs.declared.entry.Entry.TheVariants.{Stopped}
 use Rattle.dtx_values.specs.declared.number.TxNo.{TxNo}
 use Rattle.dtx_values.specs.declared.script.Line.{Line}
@@ -20,7 +22,7 @@ use Rattle.dtx_model.specs.Traces.{Placed, history, placed}
 use Rattle.dtx_model.specs.Replay.{after_stop, after_turn, at_the_log, others, put_at}
 use Rattle.dtx_model.proofs.Bools.{not_both}
 use Rattle.dtx_model.proofs.Histories.{past_of-snoc}
-use Rattle.dtx_model.proofs.SameNumbers.{same_transaction}
+use Rattle.dtx_values.proofs.SameNumbers.{same_transaction}
 use Rattle.script_histories.proofs.PutAt.{log-put, many-hit, many-others}
 use Rattle.coordinator_log.specs.State.{LogState}
 use Rattle.coordinator_log.specs.Stop.{stop_in}
@@ -155,7 +157,7 @@ halted_here life y stopped = by (is_hit_by life y) (unhit (has is_begin_sent y.w
     unhit false true d e = refl
     unhit b false d e = absurd cc
 
-    by : (b : Bool) → b ≡ false → (if b then record { transaction = y.transaction; world = after y.transaction.value y.world Stops; ours = y.ours; unsure = y.unsure; life = y.life } else y) ≡ y
+    by : (b : Bool) → b ≡ false → (if b then record { transaction = y.transaction; world = after (number_of y.transaction) y.world Stops; ours = y.ours; unsure = y.unsure; life = y.life } else y) ≡ y
     by true e = absurd cc
     by false e = refl
 
@@ -232,7 +234,7 @@ stopped_finds {D} faults honest image seen start a mid at d up down left =
     let old = past_of a.run.trace in
     let k = core (was a).world in
     let known : coordinate (history a.t.value old) ≡ k = ap coordinate (sym d.did.tied.past) in
-    let own : IsLeftAsWished faults seen k (identifier_of a.t.value) a.from a.to = subst (λ (u : TxNo). IsLeftAsWished faults seen k (identifier_of u.value) a.from a.to) d.did.own.transaction left in
+    let own : IsLeftAsWished faults seen k (identifier_of a.t.value) a.from a.to = subst (λ (u : TxId). IsLeftAsWished faults seen k (identifier_of (number_of u)) a.from a.to) d.did.own.transaction left in
     finds_on faults seen start a.from a.to old (after_stop a.t old) at.leaves.later.grows
     (found_stopped faults seen a.from a.to old a.t (others a.t (hit old)) k (act_calls k) (at.holds.uncalled up) known (d.answered.cause refl) (d.answered.used refl) (λ s e. own up down s e))
 

@@ -3,6 +3,8 @@ use Rattle.std.proofs.Common.{◌≡◌, ◌≢◌, ◌⊎◌, ◌≤◌, ◌<�
 use Rattle.std.specs.Prelude.{IsTrue}
 use Rattle.std.proofs.lemmas.Bool.{cases_Bool}
 use Rattle.dtx_values.specs.declared.call.Call.{Call}
+use Rattle.dtx_values.specs.TxIds.{first_id, number_of}
+use Rattle.dtx_values.specs.declared.tx_id.TxId.{TxId}
 use Rattle.dtx_values.specs.declared.entry.Entry.{Entry}
 use Rattle.dtx_values.specs.declared.entry.Entry.TheVariants.{Freed, Logged, Stopped}
 use Rattle.dtx_values.specs.declared.number.ActorNo.{ActorNo}
@@ -86,7 +88,7 @@ pub record IsStepAt {D : Type 0} (faults : D → ℕ) (honest : Bool) (image : D
   pub numbered : AreNumbered a.run.worlds
   pub names : are_named_well a.run.script ≡ true
   pub made : a.t.value ≤ length a.run.worlds
-  pub own : IsOwnRun x.transaction.value x.world
+  pub own : IsOwnRun (number_of x.transaction) x.world
   pub may : MayGive a.run.script a.run.objects x.world a.k a.given
   pub does : DoesGiven faults a.given a.k x a.from a.y a.to
   pub nearer : steps_left a.y.world < steps_left x.world
@@ -119,11 +121,11 @@ pub did_step : {D : Type 0} (faults : D → ℕ) (honest : Bool) (image : D → 
 did_step faults honest image a d =
     let z = was a in
     let m = d.does.step in
-    let is : z.transaction ≡ a.t = d.numbered.numbered a.t in
-    let world : a.y.world ≡ turned a.from.is_up a.t.value z.world m = d.does.done.world ∙ ap (λ (u : TxNo). turned a.from.is_up u.value z.world m) is in
+    let is : z.transaction ≡ first_id a.t = d.numbered.numbered a.t in
+    let world : a.y.world ≡ turned a.from.is_up a.t.value z.world m = d.does.done.world ∙ ap (λ (u : TxId). turned a.from.is_up (number_of u) z.world m) is in
     let calls : a.y.world.calls ≡ z.world.calls =
     ap (λ (w : World). w.calls) world ∙ (turned_calls a.from.is_up a.t.value z.world m ∙ no_call_entered z.world.calls m (named_no_call z.world d.does.name m d.does.named)) in
-    let own : IsOwn a.t z = record { transaction = is; run = subst (λ (u : TxNo). IsOwnRun u.value z.world) is d.own } in
+    let own : IsOwn a.t z = record { transaction = is; run = subst (λ (u : TxId). IsOwnRun (number_of u) z.world) is d.own } in
     let tied = d.holds.tied a.t in
     record {
       own = own;
@@ -140,12 +142,12 @@ did_step faults honest image a d =
       in_replay = named_in_replay faults a.t z a.from a.to d.does.name m own d.does.named d.does.done.answered (d.holds.goes a.t);
       sound = λ h.
           subst (λ (w : World). is_tied_history w.past ≡ true) (sym d.does.done.world)
-          (turned_tied a.from.is_up z.transaction.value z.world m (named_elsewhere z.world d.does.name m d.does.named) (d.holds.sound h a.t));
+          (turned_tied a.from.is_up (number_of z.transaction) z.world m (named_elsewhere z.world d.does.name m d.does.named) (d.holds.sound h a.t));
     }
 
 -- What it leaves of the log.
 pub step_log : {D : Type 0} (faults : D → ℕ) (honest : Bool) (image : D → List ℕ → Type 0) (a : StepOf D) → IsStep faults honest image a → LogGoes faults honest image a.from a.to
-step_log faults honest image a d = goes_turn faults honest image (was a) a.y a.from a.to d.leaves.later.grows d.leaves.later.still (answered_down faults (was a) a.from a.to d.does.step d.does.done.answered) d.leaves.kept
+step_log faults honest image a d = goes_turn faults honest image (was a) a.y a.t (d.numbered.numbered a.t) a.from a.to d.leaves.later.grows d.leaves.later.still (answered_down faults (was a) a.from a.to d.does.step d.does.done.answered) d.leaves.kept
 
 stays_up : {D : Type 0} (faults : D → ℕ) (x : TxState) (from to : LogState D) (m : Step) → IsAnswered faults x from to m → IsTrue from.is_up → from.armed ≡ None
     → IsTrue to.is_up ⊎ Rose (faults from.disk) (faults to.disk)

@@ -2,6 +2,8 @@
 use Rattle.std.proofs.Common.{◌≡◌, ◌-◌, ◌<◌, ℕ, suc, Bool, true, false, ◌&&◌, not, List, [], ◌∷◌, ◌++◌, Option, None, Some, is_some, refl, ap, sym, subst, ◌∙◌, if◌then◌else◌}
 use Rattle.std.specs.Prelude.{IfSome, slice_index_or}
 use Rattle.dtx_values.specs.declared.call.Call.{Call}
+use Rattle.dtx_values.specs.TxIds.{first_id, number_of}
+use Rattle.dtx_values.specs.declared.tx_id.TxId.{TxId}
 use Rattle.dtx_values.specs.declared.entry.Entry.{Entry}
 use Rattle.dtx_values.specs.declared.entry.Entry.TheVariants.{Stopped}
 use Rattle.dtx_values.specs.declared.note.Note.{Note}
@@ -45,13 +47,13 @@ use Rattle.replay_runs.specs.RunState.{AreNumbered, IsTied, state_of}
 
 -- what holds of each world, of that of transaction t
 pub record IsOwn (t : TxNo) (x : TxState) : Type 0 where
-  pub transaction : x.transaction ≡ t
+  pub transaction : x.transaction ≡ first_id t
   pub run : IsOwnRun t.value x.world
 
-pub own_at : (t : TxNo) (ws : List TxState) (x : TxState) → AreNumbered ws → state_of t ws ≡ x → IsOwnRun x.transaction.value x.world → IsOwn t (state_of t ws)
+pub own_at : (t : TxNo) (ws : List TxState) (x : TxState) → AreNumbered ws → state_of t ws ≡ x → IsOwnRun (number_of x.transaction) x.world → IsOwn t (state_of t ws)
 own_at t ws x n at run =
-    let moved : IsOwnRun (state_of t ws).transaction.value (state_of t ws).world = subst (λ (z : TxState). IsOwnRun z.transaction.value z.world) (sym at) run in
-    record { transaction = n.numbered t; run = subst (λ (u : TxNo). IsOwnRun u.value (state_of t ws).world) (n.numbered t) moved }
+    let moved : IsOwnRun (number_of (state_of t ws).transaction) (state_of t ws).world = subst (λ (z : TxState). IsOwnRun (number_of z.transaction) z.world) (sym at) run in
+    record { transaction = n.numbered t; run = subst (λ (u : TxId). IsOwnRun (number_of u) (state_of t ws).world) (n.numbered t) moved }
 
 -- What its own calls made, the script's calls made, where each is one of these.
 by_script : (s : List Line) (t : ℕ) (w : World) → ((n : ℕ) (a : ActorNo) (c : Call) → IsIn w.calls n a c → IsCallOf s t n a c) → IsOwnRun t w → IsRun (IsCallOf s t) t w
@@ -118,11 +120,11 @@ stops_behind up t w m = by (sends_begin t w m) up refl
     by true false e = (true, e, refl)
     by false u e = (false, refl, refl)
 
-pub has_stepped : {D : Type 0} (faults : D → ℕ) (t : TxNo) (k m : ℕ) (start : World) (given : Option (EnlNo × Reply)) (x y : TxState) (from to : LogState D) → x.transaction ≡ t → DoesGiven faults given k x from y to
+pub has_stepped : {D : Type 0} (faults : D → ℕ) (t : TxNo) (k m : ℕ) (start : World) (given : Option (EnlNo × Reply)) (x y : TxState) (from to : LogState D) → x.transaction ≡ first_id t → DoesGiven faults given k x from y to
     → HasStepped t.value k m start x.world → HasStepped t.value k (suc m) start y.world
 has_stepped faults t k m start given x y from to at d h =
     let s = stops_behind from.is_up t.value x.world d.step in
-    let world : y.world ≡ stopped_if s.0 t.value (after t.value x.world d.step) = d.done.world ∙ (ap (λ (u : TxNo). turned from.is_up u.value x.world d.step) at ∙ s.2) in
+    let world : y.world ≡ stopped_if s.0 t.value (after t.value x.world d.step) = d.done.world ∙ (ap (λ (u : TxId). turned from.is_up (number_of u) x.world d.step) at ∙ s.2) in
     (x.world, h, d.name, d.step, d.stands, d.named, s.0, s.1, world)
 
 -- The coordinator acts only where BEGIN was sent: a stop of its act would stop it.
@@ -166,12 +168,12 @@ pub given_named : (w : World) (k : ℕ) (e : EnlNo) (r : Reply) → MayReply w k
 given_named w k e r may = let there = reply_pending w e may.note (kth (pending w) k) may.due in (there.0, (r, may.note, there.1, may.fitting, refl))
 
 -- It leaves fewer steps,
-pub reply_nearer : {D : Type 0} (faults : D → ℕ) (k : ℕ) (e : EnlNo) (r : Reply) (x : TxState) (from : LogState D) (y : TxState) (to : LogState D) → IsOwnRun x.transaction.value x.world → MayReply x.world k e r
+pub reply_nearer : {D : Type 0} (faults : D → ℕ) (k : ℕ) (e : EnlNo) (r : Reply) (x : TxState) (from : LogState D) (y : TxState) (to : LogState D) → IsOwnRun (number_of x.transaction) x.world → MayReply x.world k e r
     → Does faults (Replies e r) x from y to → steps_left y.world < steps_left x.world
 reply_nearer faults k e r x from y to run may did =
     let there = given_named x.world k e r may in
     let P : World → Type 0 = λ w. steps_left w < steps_left x.world in
-    subst P (sym did.world) (step_nearer (IsIn x.world.calls) from.is_up x.transaction.value run.0 x.world (ReplyOf e) (Replies e r) k run.1 there.0 there.1)
+    subst P (sym did.world) (step_nearer (IsIn x.world.calls) from.is_up (number_of x.transaction) run.0 x.world (ReplyOf e) (Replies e r) k run.1 there.0 there.1)
 
 -- and a reply that is planned or given is right: it is the one that the script plans, or that of an enlistment whose manager has an object, which isn't silent.
 pub right_here : {D : Type 0} (faults : D → ℕ) (s : List Line) (o : ℕ) (t : TxNo) (T : List Placed) (x : TxState) (given : Option (EnlNo × Reply)) (k : ℕ) (from : LogState D) (y : TxState) (to : LogState D) → are_named_well s ≡ true

@@ -1,6 +1,7 @@
 -- A replay under way.
 use Rattle.std.specs.Prelude.{ℕ, suc, ◌-◌, ◌<◌, ◌≤◌, ◌≡◌, ◌≢◌, nat_lt, Bool, true, false, ◌&&◌, not, List, [], length, Option, None, Some, is_some, IsTrue, slice_index_or, if◌then◌else◌}
 use Rattle.dtx_values.specs.declared.entry.Entry.{Entry}
+use Rattle.dtx_values.specs.TxIds.{first_id, number_of}
 use Rattle.dtx_values.specs.declared.number.ActorNo.{ActorNo}
 use Rattle.dtx_values.specs.declared.number.TxNo.{TxNo}
 use Rattle.dtx_values.specs.declared.number.TheConstants.TxNo.{MAX}
@@ -45,7 +46,7 @@ state_of t ws = slice_index_or ws (t.value - 1) (untouched t)
 -- each has its own number, and there are no more than a script can name
 pub record AreNumbered (ws : List TxState) : Type 0 where
   pub few : length ws ≤ MAX
-  pub numbered : (t : TxNo) → (state_of t ws).transaction ≡ t
+  pub numbered : (t : TxNo) → (state_of t ws).transaction ≡ first_id t
 
 -- each reply in the history is the planned one, or that of an enlistment whose manager has an object, as the first k have
 abbrev pub IsToPlan : List Line → ℕ → List Entry → Type 0
@@ -59,7 +60,7 @@ pub record IsTied (s : List Line) (k : ℕ) (t : TxNo) (T : List Placed) (x : Tx
 
 -- A transaction is what its own calls made; what its coordinator keeps of the log is what it knows; and where each restart found what may be found, it is what its history says. No two of its calls make the same enlistment or the same clone.
 pub record IsRecordKept (x : TxState) : Type 0 where
-  pub own : IsOwnRun x.transaction.value x.world
+  pub own : IsOwnRun (number_of x.transaction) x.world
   pub once : AreMadeOnce (IsIn x.world.calls)
   pub ours : IsOurs (id_of x) (core x.world) (record { ours = x.ours; unsure = x.unsure; life = x.life })
   pub tried : is_tied_history x.world.past ≡ true → IsTried x.world.past (record { ours = x.ours; unsure = x.unsure; life = x.life })
@@ -165,7 +166,7 @@ AreSettledBelow s t T = (v : TxNo) → v.value < t → Settled s (history v.valu
 
 -- a transaction after a stop of this life of the log: where that hits it, its coordinator stops
 abbrev pub halted : ℕ → TxState → TxState
-halted life x = if is_hit_by life x then record { transaction = x.transaction; world = after x.transaction.value x.world Stops; ours = x.ours; unsure = x.unsure; life = x.life } else x
+halted life x = if is_hit_by life x then record { transaction = x.transaction; world = after (number_of x.transaction) x.world Stops; ours = x.ours; unsure = x.unsure; life = x.life } else x
 
 -- the record of a transaction of this number, where these have one
 abbrev pub record_in : List (Option CommitRecord) → ℕ → Option CommitRecord
@@ -175,5 +176,5 @@ record_in slots t = first_of (identifier_of t) (open_records slots)
 abbrev pub reopened : {D : Type 0} → LogState D → TxState → TxState
 reopened log x =
     if is_reached_by log.life x
-    then record { transaction = x.transaction; world = after x.transaction.value x.world (Restarts (is_some (record_in log.slots x.transaction.value))); ours = record_in log.slots x.transaction.value; unsure = false; life = log.life }
+    then record { transaction = x.transaction; world = after (number_of x.transaction) x.world (Restarts (is_some (record_in log.slots (number_of x.transaction)))); ours = record_in log.slots (number_of x.transaction); unsure = false; life = log.life }
     else x

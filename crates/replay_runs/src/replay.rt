@@ -1,6 +1,7 @@
 //! A replay: the lines in order, and then the rounds at the end.
 ghost use Rattle.std.specs.Prelude.{ℕ, ◌≡◌, ◌⊎◌, ◌≢◌, ◌≤◌, ◌<◌, ◌+◌, ◌-◌, ◌^◌, ◌&&◌, not, List, [], ◌∷◌, ◌++◌, IfOk, OnErr, OnOk, IsTrue, is_some, None, Ok, Some, true, false, length, map, replicate, slice_get, suc};
 ghost use Rattle.dtx_values.specs.declared.call.Call.{Call};
+ghost use Rattle.dtx_values.specs.TxIds.{first_id};
 ghost use Rattle.dtx_values.specs.declared.entry.Entry.{Entry};
 ghost use Rattle.dtx_values.specs.declared.entry.Answer.TheVariants.{Fine};
 ghost use Rattle.dtx_values.specs.declared.entry.Entry.TheVariants.{Called, LogWord, Restarted, Stopped};
@@ -40,7 +41,7 @@ use crate::objects::{asked, do_kth};
 use coordinator_log::Log;
 use dtx_values::{
     ActorNo, Answer, Body, Call, Entry, Image, Line, LogNote, Outbox, Place, Resource, RmNo,
-    Script, TxNo,
+    Script, TxId, TxNo,
 };
 use entry_lists::{PlacedEntries, Trace};
 use outcome_law::{crossings, lifting, replay};
@@ -98,7 +99,7 @@ fn add(alloc: Global, worlds: &mut Vec<TxWorld>, t: TxNo) -> Result<(), WorldErr
     ensures memory { OnErr result (worlds.new.items ≡ worlds.old.items) }
 {
     worlds.reserve(1)?;
-    worlds.push_reserved(TxWorld::new(alloc, t)?);
+    worlds.push_reserved(TxWorld::new(alloc, TxId::first(t))?);
     Ok(())
 }
 
@@ -561,7 +562,7 @@ impl<'a> Run<'a> {
     /// The trace so far.
     fn into_trace(self) -> Trace
         ensures trace { result ≡ self.entry.trace }
-        ensures numbered { (t : TxNo) → (state_of t self.entry.worlds).transaction ≡ t }
+        ensures numbered { (t : TxNo) → (state_of t self.entry.worlds).transaction ≡ first_id t }
     {
         Trace::new(self.trace)
     }

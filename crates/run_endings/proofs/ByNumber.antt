@@ -11,7 +11,7 @@ use Rattle.tx_cells.specs.Cell.{Cell}
 
 -- the numbers of the cells' transactions
 abbrev pub numbers : List Cell → List ℕ
-numbers cells = map (λ c. c.tx.transaction.value) cells
+numbers cells = map (λ c. c.tx.transaction.t.value) cells
 
 -- the transactions from number n on
 unfoldable pub made_from : List Line → ℕ → List ℕ
@@ -51,11 +51,11 @@ rest_passed s cells rest n less not is = record { same = (λ e. is.same.0 e ∙ 
 equal : (a b : ℕ) → not (a == b) ≡ false → a ≡ b
 equal a b same = elim (eqb_tells a b) [ inl e ↦ e.1 | inr e ↦ let other : not (a == b) ≡ true = ap not e.0 in absurd (cc) ]
 
-pub rest_next : (s : List Line) (cells others : List Cell) (x : Cell) (n : ℕ) → n < 257 → is_made s (OfTransaction n) ≡ true → not (x.tx.transaction.value == n) ≡ false → IsRest s cells (x ∷ others) n → IsRest s cells others (n + 1)
-rest_next s cells others x n less made same is = let at : x.tx.transaction.value ≡ n = equal x.tx.transaction.value n same in record {
+pub rest_next : (s : List Line) (cells others : List Cell) (x : Cell) (n : ℕ) → n < 257 → is_made s (OfTransaction n) ≡ true → not (x.tx.transaction.t.value == n) ≡ false → IsRest s cells (x ∷ others) n → IsRest s cells others (n + 1)
+rest_next s cells others x n less made same is = let at : x.tx.transaction.t.value ≡ n = equal x.tx.transaction.t.value n same in record {
   same = (
-    λ e. let both : x.tx.transaction.value ∷ numbers others ≡ n ∷ made_from s (n + 1) = is.same.0 e ∙ from_made s n less made in cc,
-    λ e. let both : x.tx.transaction.value ∷ numbers others ≡ n ∷ made_from s (n + 1) = cc in is.same.1 (both ∙ sym (from_made s n less made)),
+    λ e. let both : x.tx.transaction.t.value ∷ numbers others ≡ n ∷ made_from s (n + 1) = is.same.0 e ∙ from_made s n less made in cc,
+    λ e. let both : x.tx.transaction.t.value ∷ numbers others ≡ n ∷ made_from s (n + 1) = cc in is.same.1 (both ∙ sym (from_made s n less made)),
   );
 }
 
@@ -65,11 +65,11 @@ rest_short s cells [] n less made none is e = let both : [] ≡ n ∷ made_from 
 rest_short s cells (x ∷ rest) n less made none is e = absurd (omega (arith, none))
 
 -- the next is of another number
-pub rest_other : (s : List Line) (cells others : List Cell) (x : Cell) (n : ℕ) → n < 257 → is_made s (OfTransaction n) ≡ true → not (x.tx.transaction.value == n) ≡ true → IsRest s cells (x ∷ others) n → numbers cells ≡ transactions_of s → ⊥
+pub rest_other : (s : List Line) (cells others : List Cell) (x : Cell) (n : ℕ) → n < 257 → is_made s (OfTransaction n) ≡ true → not (x.tx.transaction.t.value == n) ≡ true → IsRest s cells (x ∷ others) n → numbers cells ≡ transactions_of s → ⊥
 rest_other s cells others x n less made other is e =
-    let both : x.tx.transaction.value ∷ numbers others ≡ n ∷ made_from s (n + 1) = is.same.0 e ∙ from_made s n less made in
-    let at : x.tx.transaction.value ≡ n = cc in
-    let same : not (x.tx.transaction.value == n) ≡ false = ap not (ap (λ m. x.tx.transaction.value == m) (sym at) ∙ eq_self x.tx.transaction.value) in
+    let both : x.tx.transaction.t.value ∷ numbers others ≡ n ∷ made_from s (n + 1) = is.same.0 e ∙ from_made s n less made in
+    let at : x.tx.transaction.t.value ≡ n = cc in
+    let same : not (x.tx.transaction.t.value == n) ≡ false = ap not (ap (λ m. x.tx.transaction.t.value == m) (sym at) ∙ eq_self x.tx.transaction.t.value) in
     absurd (cc)
 
 -- no number is left

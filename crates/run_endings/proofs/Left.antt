@@ -8,7 +8,7 @@ use Rattle.std.proofs.lemmas.Bool.Decides.{nat_tests}
 use Rattle.dtx_values.specs.declared.call.Call.{Call}
 use Rattle.dtx_values.specs.declared.number.ActorNo.{ActorNo}
 use Rattle.dtx_model.specs.Words.{each}
-use Rattle.dtx_model.proofs.SameNumbers.{same_actor}
+use Rattle.dtx_values.proofs.SameNumbers.{same_actor}
 use Rattle.history_table.proofs.Tests.{eq_self}
 use Rattle.script_calls.specs.declared.calls.LogCall.{LogCall}
 use Rattle.script_calls.specs.declared.rows.Due.{Due}

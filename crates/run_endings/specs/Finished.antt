@@ -16,7 +16,7 @@ use Rattle.tx_cells.specs.Ties.{TiesWith}
 -- The cells of a run of the script s after its threads ended and the caller did the rest: they are those of the script's transactions, by number; each call was entered at each of them and at the log; nothing is pending; each ties with the log, and
 -- follows it; and at each, and at the log, the calls of the lines before `par` come first.
 pub record AreFinished {D : Type 0} (s : List Line) (cells : List Cell) (log : LogCell D) : Type 0 where
-  pub named : map (λ c. c.tx.transaction.value) cells ≡ transactions_of s
+  pub named : map (λ c. c.tx.transaction.t.value) cells ≡ transactions_of s
   pub entered : each (λ c. are_entered c.rows) cells ≡ true
   pub entered_at_log : are_entered log.rows ≡ true
   pub settled : each (λ c. is_empty (pending c.tx.world)) cells ≡ true

@@ -37,7 +37,7 @@ HasOvertaken s cells log = ((c : Cell) × Contains cells c × (are_first (par_li
 
 -- they aren't those of the script, by number
 abbrev pub AreOthers : List Line → List Cell → Type 0
-AreOthers s cells = map (λ c. c.tx.transaction.value) cells ≢ transactions_of s
+AreOthers s cells = map (λ c. c.tx.transaction.t.value) cells ≢ transactions_of s
 
 -- Why a run stops whose transactions and log are these then: memory ran out; or one of the transactions doesn't tie with the log, and the two values that differ are named.
 abbrev pub StopsFor : {D : Type 0} → List Cell → LogCell D → RunStop → Type 0

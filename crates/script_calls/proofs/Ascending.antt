@@ -12,7 +12,7 @@ use Rattle.dtx_model.specs.Words.{all_of, kth, onto, past_of, put}
 use Rattle.dtx_model.specs.Calls.{call_of}
 use Rattle.dtx_model.specs.Caused.{IsCallOf}
 use Rattle.dtx_model.specs.Contexts.{calls_by, lines_before, scope_calls, scopes_of}
-use Rattle.dtx_model.proofs.SameNumbers.{same_actor}
+use Rattle.dtx_values.proofs.SameNumbers.{same_actor}
 use Rattle.history_table.proofs.Lists.{OfEach, of-at, of-more}
 use Rattle.script_histories.proofs.ScopesApart.{AreApart, IsBeside, own_line, scope_calls_apart}
 use Rattle.history_table.proofs.Tests.{eq_self}

@@ -13,7 +13,7 @@ use Rattle.dtx_model.specs.Entries.{is_call}
 use Rattle.dtx_model.specs.Words.{has, kth, past_of, put}
 use Rattle.dtx_model.proofs.Bools.{or_false}
 use Rattle.dtx_model.proofs.Histories.{past_of-snoc}
-use Rattle.dtx_model.proofs.SameNumbers.{same_actor}
+use Rattle.dtx_values.proofs.SameNumbers.{same_actor}
 use Rattle.history_table.proofs.Lists.{OfEach, of-all, of-at, of-map, of-more}
 use Rattle.script_histories.proofs.MoreLists.{of-both}
 use Rattle.history_table.proofs.Tests.{eq_self}

@@ -14,7 +14,7 @@ use Rattle.dtx_model.specs.Caused.{IsCallOf, IsIn, made_by}
 use Rattle.dtx_model.specs.Grammar.{Name, are_named_well}
 use Rattle.dtx_model.proofs.Bools.{and_left, and_right, or_false}
 use Rattle.dtx_model.proofs.Prefixes.{past-more}
-use Rattle.dtx_model.proofs.SameNumbers.{same_actor}
+use Rattle.dtx_values.proofs.SameNumbers.{same_actor}
 use Rattle.history_table.proofs.Lists.{OfEach, of-all, of-at, of-more}
 use Rattle.script_histories.proofs.MoreLists.{of-both}
 use Rattle.history_table.proofs.Names.{script_once}

@@ -10,7 +10,7 @@ use Rattle.dtx_values.specs.declared.script.Line.{Line}
 use Rattle.dtx_model.specs.Contexts.{calls_by}
 use Rattle.dtx_model.specs.Words.{all_of, past_of, put}
 use Rattle.dtx_model.proofs.Pasts.{length-past}
-use Rattle.dtx_model.proofs.SameNumbers.{same_actor}
+use Rattle.dtx_values.proofs.SameNumbers.{same_actor}
 use Rattle.script_calls.specs.declared.calls.LogCall.{LogCall}
 use Rattle.script_calls.specs.declared.rows.Due.{Due}
 use Rattle.script_calls.specs.Due.{calls_until, due_at, log_call, log_calls_until, log_due}

@@ -15,7 +15,7 @@ use Rattle.dtx_model.specs.History.{IsHistory, IsReplay}
 use Rattle.dtx_model.specs.Traces.{Placed, history, placed}
 use Rattle.dtx_model.specs.Replay.{block_in, is_passed, IsTurn, last_turn, world_at}
 use Rattle.dtx_model.proofs.Pasts.{past-reverse}
-use Rattle.dtx_model.proofs.SameNumbers.{same_transaction}
+use Rattle.dtx_values.proofs.SameNumbers.{same_transaction}
 use Rattle.script_histories.specs.LogQuiet.{is_log_sound}
 use Rattle.script_histories.proofs.ReplayTurns.{CallDone, IsAwait, IsDo, LineDone, LinesDone, ReplayDone, RoundsDone, StepsDone, after_block, replay_done}
 use Rattle.script_histories.proofs.PlannedReplays.{AllPlanned, IsOwn, line_planned_before, one_block, planned_before, rounds_planned_before, step_planned}

@@ -14,7 +14,7 @@ use Rattle.dtx_model.specs.AtLog.{at_log, hit, is_hit, is_known, known, one_if, 
 use Rattle.dtx_model.specs.Replay.{others, put_at}
 use Rattle.dtx_model.proofs.Bools.{and_left}
 use Rattle.dtx_model.proofs.Counts.{how_many-insert_by}
-use Rattle.dtx_model.proofs.SameNumbers.{same_transaction}
+use Rattle.dtx_values.proofs.SameNumbers.{same_transaction}
 use Rattle.history_table.proofs.Tests.{eq_swap}
 
 -- the transaction has this number

@@ -8,13 +8,13 @@ use Rattle.dtx_model.specs.Grammar.{Reads}
 use Rattle.script_calls.specs.Threadable.{IsThreadable}
 use Rattle.program_words.specs.Commands.{Asks}
 use Rattle.program_words.specs.declared.command.Command.{Command}
-use Rattle.program_words.specs.declared.command.Command.TheVariants.{Replay as AskReplay, Threads as AskThreads}
+use Rattle.program_words.specs.declared.command.Command.TheVariants.{Log as AskLog, Replay as AskReplay, Threads as AskThreads}
 use Rattle.program_words.specs.declared.command.Form.{Form}
 use Rattle.program_io.specs.Judged.{HasDoAt, IsJudged, first_do}
 use Rattle.script_runner.specs.Program.{AsksReplay, AsksRun, AsksThreads, CanBeDone, IsInputFor}
 use Rattle.program_io.specs.Refusal.{IsGoodFor, IsOnThreads, IsRunnable, Refuses}
 use Rattle.program_io.specs.declared.exit.Exit.{Exit}
-use Rattle.program_io.specs.declared.exit.Exit.TheVariants.{BadScript, Fine, LogFault, Memory, NotThreadable, ReadFault, Usage, WriteFault}
+use Rattle.program_io.specs.declared.exit.Exit.TheVariants.{BadScript, Fine, LogFault, Memory, NotALog, NotThreadable, ReadFault, Usage, WriteFault}
 use Rattle.program_io.specs.declared.way.Way.{Way}
 use Rattle.program_io.specs.declared.way.Way.TheVariants.{Replay, Threads}
 use Rattle.script_runner.proofs.Programs.{NeverBoth}
@@ -57,6 +57,7 @@ bad_answer either cause w given Memory h n c b told bad = inr (inr refl)
 bad_answer either cause w given Fine h n c b told bad = absurd h
 bad_answer either cause w given Usage h n c b told bad = absurd h
 bad_answer either cause w given LogFault h n c b told bad = absurd h
+bad_answer either cause w given (NotALog p) h n c b told bad = absurd h
 bad_answer either cause w given WriteFault h n c b told bad = absurd h
 
 pub do_answer : NeverBoth → OneScript → (w : Way) (given : Option (List ℕ)) (x : Exit) → Refuses w given x → (n : ℕ) → ForSome given (λ b. HasDoAt b n → (x ≡ NotThreadable n) ⊎ ((x ≡ ReadFault) ⊎ (x ≡ Memory)))
@@ -67,6 +68,7 @@ do_answer either one w given Memory h n b told at = inr (inr refl)
 do_answer either one w given Fine h n b told at = absurd h
 do_answer either one w given Usage h n b told at = absurd h
 do_answer either one w given LogFault h n b told at = absurd h
+do_answer either one w given (NotALog p) h n b told at = absurd h
 do_answer either one w given WriteFault h n b told at = absurd h
 
 -- of an input that is good only a fault of the source, or want of memory
@@ -78,6 +80,7 @@ good_answer either one w given Memory h good calm = inr refl
 good_answer either one w given Fine h good calm = absurd h
 good_answer either one w given Usage h good calm = absurd h
 good_answer either one w given LogFault h good calm = absurd h
+good_answer either one w given (NotALog p) h good calm = absurd h
 good_answer either one w given WriteFault h good calm = absurd h
 
 -- where a script came, none of both
@@ -88,16 +91,17 @@ pub do_never : OneScript → (w : Way) (given : Option (List ℕ)) (s : List Lin
 do_never one w given s read k n on b told at = never_do one w s b n on k (read b told) at
 
 -- The answers of a run whose script is good: none of the words, of the bytes, or of the source.
-pub sure_answer : (x : Exit) → (x ≡ Usage → ⊥) → ((n : ℕ) (c : BadCause) → x ≡ BadScript n c → ⊥) → ((n : ℕ) → x ≡ NotThreadable n → ⊥) → (x ≡ ReadFault → ⊥)
+pub sure_answer : (x : Exit) → (x ≡ Usage → ⊥) → ((p : ℕ) → x ≡ NotALog p → ⊥) → ((n : ℕ) (c : BadCause) → x ≡ BadScript n c → ⊥) → ((n : ℕ) → x ≡ NotThreadable n → ⊥) → (x ≡ ReadFault → ⊥)
     → (x ≡ Fine) ⊎ ((x ≡ LogFault) ⊎ ((x ≡ WriteFault) ⊎ (x ≡ Memory)))
-sure_answer Fine usage bad undone read = inl refl
-sure_answer Usage usage bad undone read = absurd (usage refl)
-sure_answer (BadScript n c) usage bad undone read = absurd (bad n c refl)
-sure_answer (NotThreadable n) usage bad undone read = absurd (undone n refl)
-sure_answer ReadFault usage bad undone read = absurd (read refl)
-sure_answer LogFault usage bad undone read = inr (inl refl)
-sure_answer WriteFault usage bad undone read = inr (inr (inl refl))
-sure_answer Memory usage bad undone read = inr (inr (inr refl))
+sure_answer Fine usage unlisted bad undone read = inl refl
+sure_answer Usage usage unlisted bad undone read = absurd (usage refl)
+sure_answer (BadScript n c) usage unlisted bad undone read = absurd (bad n c refl)
+sure_answer (NotThreadable n) usage unlisted bad undone read = absurd (undone n refl)
+sure_answer ReadFault usage unlisted bad undone read = absurd (read refl)
+sure_answer LogFault usage unlisted bad undone read = inr (inl refl)
+sure_answer (NotALog p) usage unlisted bad undone read = absurd (unlisted p refl)
+sure_answer WriteFault usage unlisted bad undone read = inr (inr (inl refl))
+sure_answer Memory usage unlisted bad undone read = inr (inr (inr refl))
 
 -- a replay isn't on threads
 pub not_on_threads : IsOnThreads Replay → ⊥
@@ -165,3 +169,54 @@ sure_do x (inl a) n e = cc
 sure_do x (inr (inl a)) n e = cc
 sure_do x (inr (inr (inl a))) n e = cc
 sure_do x (inr (inr (inr a))) n e = cc
+
+-- no answer of a refused script is that of a listing
+pub refuses_unlisted : (w : Way) (given : Option (List ℕ)) (x : Exit) → Refuses w given x → (p : ℕ) → x ≡ NotALog p → ⊥
+refuses_unlisted w given x h p e = subst (λ (y : Exit). Refuses w given y) e h
+
+-- where the log is listed, no line is judged
+abbrev pub IsOfListing : Exit → Type 0
+IsOfListing x = (x ≡ Fine) ⊎ ((x ≡ LogFault) ⊎ ((x ≡ WriteFault) ⊎ ((x ≡ Memory) ⊎ ((p : ℕ) × (x ≡ NotALog p)))))
+
+pub list_bad : (x : Exit) → IsOfListing x → (n : ℕ) (c : BadCause) → x ≡ BadScript n c → ⊥
+list_bad x (inl a) n c e = cc
+list_bad x (inr (inl a)) n c e = cc
+list_bad x (inr (inr (inl a))) n c e = cc
+list_bad x (inr (inr (inr (inl a)))) n c e = cc
+list_bad x (inr (inr (inr (inr (p, a))))) n c e = cc
+
+pub list_do : (x : Exit) → IsOfListing x → (n : ℕ) → x ≡ NotThreadable n → ⊥
+list_do x (inl a) n e = cc
+list_do x (inr (inl a)) n e = cc
+list_do x (inr (inr (inl a))) n e = cc
+list_do x (inr (inr (inr (inl a)))) n e = cc
+list_do x (inr (inr (inr (inr (p, a))))) n e = cc
+
+-- an answer that is y is neither of two others
+other : (x y : Exit) → x ≡ y → (x ≡ Usage) ⊎ (x ≡ ReadFault) → (y ≡ Usage → ⊥) → (y ≡ ReadFault → ⊥) → ⊥
+other x y same (inl e) usage read = usage (sym same ∙ e)
+other x y same (inr e) usage read = read (sym same ∙ e)
+
+-- it is neither usage nor a fault of the source
+pub list_sure : (x : Exit) → IsOfListing x → (x ≡ Usage) ⊎ (x ≡ ReadFault) → ⊥
+list_sure x (inl a) e = other x Fine a e (λ k. cc) (λ k. cc)
+list_sure x (inr (inl a)) e = other x LogFault a e (λ k. cc) (λ k. cc)
+list_sure x (inr (inr (inl a))) e = other x WriteFault a e (λ k. cc) (λ k. cc)
+list_sure x (inr (inr (inr (inl a)))) e = other x Memory a e (λ k. cc) (λ k. cc)
+list_sure x (inr (inr (inr (inr (p, a))))) e = other x (NotALog p) a e (λ k. cc) (λ k. cc)
+
+-- what `log` asks for isn't done by an input
+pub no_input : (ws : List (List ℕ)) (given : Option (List ℕ)) → ((c : Command) → Asks ws c → c ≡ AskLog) → CanBeDone ws given → ⊥
+no_input ws given one (c, asks, input) = subst (λ (d : Command). IsInputFor d given) (one c asks) input
+
+-- where a script is made, or its replay is shown, no log is listed
+pub made_unlisted : (x : Exit) → (x ≡ Fine) ⊎ ((x ≡ WriteFault) ⊎ (x ≡ Memory)) → (p : ℕ) → x ≡ NotALog p → ⊥
+made_unlisted x (inl a) p e = cc
+made_unlisted x (inr (inl a)) p e = cc
+made_unlisted x (inr (inr a)) p e = cc
+
+pub sure_unlisted : (x : Exit) → (x ≡ Fine) ⊎ ((x ≡ LogFault) ⊎ ((x ≡ WriteFault) ⊎ (x ≡ Memory))) → (p : ℕ) → x ≡ NotALog p → ⊥
+sure_unlisted x (inl a) p e = cc
+sure_unlisted x (inr (inl a)) p e = cc
+sure_unlisted x (inr (inr (inl a))) p e = cc
+sure_unlisted x (inr (inr (inr a))) p e = cc

@@ -4,7 +4,7 @@ use Rattle.outside.specs.Faults.{Rose}
 use Rattle.program_io.specs.declared.exit.Exit.{Exit}
 use Rattle.program_io.specs.declared.exit.Exit.TheVariants.{LogFault, ReadFault, WriteFault}
 
--- The faults of a call are those of the source, of the disk while the log was formatted, and of the sink, each of which counts its own: the answer that names a fault came where that count rose; and where the answer doesn't name it, the source's count and the
+-- The faults of a call are those of the source, of the disk while the log was formatted or read for its listing, and of the sink, each of which counts its own: the answer that names a fault came where that count rose; and where the answer doesn't name it, the source's count and the
 -- sink's are as they were, and the disk's didn't fall.
 pub record TellsFaults (exit : Exit) (source_before source_after disk_before disk_after sink_before sink_after : ℕ) : Type 0 where
   pub read_fault : exit ≡ ReadFault → Rose source_before source_after

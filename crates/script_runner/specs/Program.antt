@@ -8,7 +8,7 @@ use Rattle.dtx_model.specs.Traces.{Placed}
 use Rattle.dtx_model.specs.Words.{each}
 use Rattle.program_words.specs.Commands.{Asks}
 use Rattle.program_words.specs.declared.command.Command.{Command}
-use Rattle.program_words.specs.declared.command.Command.TheVariants.{Replay, Threads}
+use Rattle.program_words.specs.declared.command.Command.TheVariants.{Log, Replay, Threads}
 use Rattle.program_words.specs.declared.command.Form.{Form}
 use Rattle.thread_runs.specs.Run.{EndsOnThreads, IsRunOnThreads}
 use Rattle.script_calls.specs.Threadable.{IsThreadable}
@@ -92,10 +92,12 @@ IsCutShortOnThreads f k from to honest image given before after = IsTextCutShort
 abbrev pub HasNoLogLine : Option (List ℕ) → Type 0
 HasNoLogLine given = (s : List Line) → IsScript s → ForSome given (λ b. Reads b s) → has_log_line s ≡ false
 
--- what the command asks for can be done with this input: a replay and a run on threads need a script, and that on threads one without a `do`; nothing else is read
+-- what the command asks for can be done with this input: a replay and a run on threads need a script, and that on threads one without a `do`; nothing else is read. What `log` lists is
+-- on the disk, and no input of the source's is for it.
 abbrev pub IsInputFor : Command → Option (List ℕ) → Type 0
 IsInputFor (Replay f) given = (b : List ℕ) × (s : List Line) × (given ≡ Some b) × Reads b s
 IsInputFor (Threads h f) given = (b : List ℕ) × (s : List Line) × (given ≡ Some b) × Reads b s × IsThreadable s
+IsInputFor Log given = ⊥
 IsInputFor _ given = Unit {0}
 
 -- the words ask for something that can be done with this input

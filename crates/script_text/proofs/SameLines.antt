@@ -39,7 +39,7 @@ use Rattle.dtx_values.specs.declared.words.Vote.TheVariants.{Yes, No, Done}
 use Rattle.dtx_model.specs.Grammar.{actor_name, transaction_name, enlistment_name, clone_name, scope_name, manager_name, words, command_words, opening_words, support_words, connection_word, image_word, asked_iso_word, timeout_word, option_word, vote_word, owner_word, promote_word, kind_word, is_from, is_timeout, is_opening_in_range, is_in_range}
 use Rattle.dtx_model.specs.Faults.{same_bytes}
 use Rattle.dtx_model.proofs.Bools.{and_left, and_right}
-use Rattle.dtx_model.proofs.SameNumbers.{same_actor, same_clone, same_enlistment, same_manager, same_scope, same_transaction}
+use Rattle.dtx_values.proofs.SameNumbers.{same_actor, same_clone, same_enlistment, same_manager, same_scope, same_transaction}
 use Rattle.dtx_model.proofs.Digits.{own}
 use Rattle.line_tail.proofs.SameBytes.{same_bytes-refl}
 use Rattle.script_words.proofs.Numbers.{to_high}

@@ -23,7 +23,7 @@ use Rattle.dtx_model.specs.Learned.{breaks_off}
 use Rattle.dtx_model.specs.Wires.{MayCross, ended_after, ends, is_ended, is_stopped, lost_since, opens}
 use Rattle.dtx_model.specs.Coordinated.{Coordinated, coordinate, follow, is_undecided, recovered_after, stage_after}
 use Rattle.dtx_model.proofs.Bools.{and_both, and_left, and_never, and_right, not_both, not_true, or_case, or_false, or_right}
-use Rattle.dtx_model.proofs.SameNumbers.{same_enlistment}
+use Rattle.dtx_values.proofs.SameNumbers.{same_enlistment}
 use Rattle.history_table.proofs.Lists.{each-insert}
 use Rattle.history_table.proofs.Keeping.{Keeps}
 use Rattle.history_table.proofs.Handing.{keeps_within}

@@ -38,7 +38,7 @@ use Rattle.dtx_model.specs.Steps.{ended_at}
 use Rattle.dtx_model.proofs.Writes.{Each, ByAct, ByCall, ByMessage, IsClosed, Source, e_cons, e_if, e_none, e_one, each_closed, is_outcome_message, replies, returns, writes, is_returning}
 use Rattle.dtx_model.proofs.Blocks.{of_abort_sends, of_ack, of_arrived, of_commit_sends, of_core_down, of_core_got, of_cuts, of_facts, of_gone_unlinked, of_local_down, of_veto, of_veto_if, of_whole_act}
 use Rattle.dtx_model.proofs.Bools.{and_left, and_never, and_right, not_both, not_false, or_case, or_right}
-use Rattle.dtx_model.proofs.SameNumbers.{same_enlistment}
+use Rattle.dtx_values.proofs.SameNumbers.{same_enlistment}
 use Rattle.settled_histories.proofs.Announced.{abort_kept, begin_kept, stage_down}
 use Rattle.settled_histories.proofs.Awaiting.{is_number, is_waiting_there}
 use Rattle.settled_histories.proofs.Back.{is_lasting, is_sent_to}

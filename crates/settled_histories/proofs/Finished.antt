@@ -35,7 +35,7 @@ use Rattle.dtx_model.specs.World.{is_out_row, is_finished_there}
 use Rattle.dtx_model.specs.Wires.{opens}
 use Rattle.dtx_model.specs.Coordinated.{is_desk_of, with_ack, with_ballot, ballot_of, accepts, coordinate, desk_number, follow, is_active, is_prepared, unacked}
 use Rattle.dtx_model.proofs.Bools.{not_both, and_left, or_right, and_never, not_true, or_false, or_first, or_second, and_right, or_case, and_both, not_false}
-use Rattle.dtx_model.proofs.SameNumbers.{same_enlistment}
+use Rattle.dtx_values.proofs.SameNumbers.{same_enlistment}
 use Rattle.history_table.proofs.HalfKnows.{unmapped}
 use Rattle.history_table.proofs.Lists.{has-insert, has_kept, if_kept, each-insert}
 use Rattle.history_table.proofs.Scans.{has_less, has_more, each_more}

@@ -39,7 +39,7 @@ use Rattle.dtx_model.specs.Steps.{Step, Calls, after, block_at}
 use Rattle.dtx_model.specs.Caused.{AreMadeOnce, Ran}
 use Rattle.dtx_model.proofs.Bools.{and_both, and_left, and_right, not_both, not_false, not_true, or_case, or_right}
 use Rattle.dtx_model.proofs.Reading.{has-onto}
-use Rattle.dtx_model.proofs.SameNumbers.{same_enlistment}
+use Rattle.dtx_values.proofs.SameNumbers.{same_enlistment}
 use Rattle.history_table.proofs.Lists.{has-insert, has_kept}
 use Rattle.history_table.proofs.Scans.{each_both, each_more, has_more}
 use Rattle.history_table.proofs.EntryTests.{is_enlisted}

@@ -54,7 +54,7 @@ use Rattle.dtx_model.specs.Steps.{LogAnswer, Done, Full, StoppedBefore, StoppedN
 use Rattle.dtx_model.specs.Caused.{AreMadeOnce, MayCome, Ran, may_coordinate}
 use Rattle.dtx_model.proofs.Bools.{and_both, and_left, and_right, not_both, not_false, not_true, or_case, or_first, or_right}
 use Rattle.dtx_model.proofs.Connections.{same_is, same_way_is}
-use Rattle.dtx_model.proofs.SameNumbers.{same_enlistment}
+use Rattle.dtx_values.proofs.SameNumbers.{same_enlistment}
 use Rattle.history_table.proofs.Tests.{eq_self}
 use Rattle.history_table.proofs.Scans.{each-at, find_none, has_more}
 use Rattle.history_table.proofs.Lists.{found_at, has-at}

@@ -90,32 +90,32 @@ AllOf P (c ∷ cs) = P c × AllOf P cs
 
 -- the numbers of their transactions
 abbrev pub numbers : List Cell → List ℕ
-numbers cs = map (λ c. c.tx.transaction.value) cs
+numbers cs = map (λ c. c.tx.transaction.t.value) cs
 
 -- The history of a transaction that has none of these cells is as before.
 no_history : (t : ℕ) (cs : List Cell) (T : List Placed) → is_among t (numbers cs) ≡ false → history t (with_histories cs T) ≡ history t T
 no_history t [] T none = refl
 no_history t (c ∷ cs) T none =
-    no_history t cs (placed c.tx.transaction c.tx.world.past ++ T) (or_second (t == c.tx.transaction.value) (is_among t (numbers cs)) none)
-    ∙ entries_there (is_at t) (Transaction c.tx.transaction) c.tx.world.past T (or_first (t == c.tx.transaction.value) (is_among t (numbers cs)) none)
+    no_history t cs (placed c.tx.transaction.t c.tx.world.past ++ T) (or_second (t == c.tx.transaction.t.value) (is_among t (numbers cs)) none)
+    ∙ entries_there (is_at t) (Transaction c.tx.transaction.t) c.tx.world.past T (or_first (t == c.tx.transaction.t.value) (is_among t (numbers cs)) none)
 
 -- A transaction has one of these cells, and its history is that cell's; or it has none, and its history is empty.
 abbrev pub IsFound : (Cell → Type 0) → ℕ → List Cell → List Entry → Type 0
-IsFound P t cs h = ((c : Cell) × (c.tx.transaction.value ≡ t) × P c × (h ≡ c.tx.world.past)) ⊎ ((is_among t (numbers cs) ≡ false) × (h ≡ []))
+IsFound P t cs h = ((c : Cell) × (c.tx.transaction.t.value ≡ t) × P c × (h ≡ c.tx.world.past)) ⊎ ((is_among t (numbers cs) ≡ false) × (h ≡ []))
 
 pub find_cell : (P : Cell → Type 0) (t n : ℕ) (cs : List Cell) (T : List Placed) → Rises n (numbers cs) → AllOf P cs → history t T ≡ [] → IsFound P t cs (history t (with_histories cs T))
 find_cell P t n [] T r all none = inr (refl, none)
-find_cell P t n (c ∷ cs) T r all none = elim (eqb_tells t c.tx.transaction.value) [ inl e ↦ inl (c, sym e.1, all.0, here e.0 e.1) | inr e ↦ there e.0 (find_cell P t (c.tx.transaction.value + 1) cs (placed c.tx.transaction c.tx.world.past ++ T) r.1 all.1 (beside e.0)) ]
+find_cell P t n (c ∷ cs) T r all none = elim (eqb_tells t c.tx.transaction.t.value) [ inl e ↦ inl (c, sym e.1, all.0, here e.0 e.1) | inr e ↦ there e.0 (find_cell P t (c.tx.transaction.t.value + 1) cs (placed c.tx.transaction.t c.tx.world.past ++ T) r.1 all.1 (beside e.0)) ]
   where
-    beside : (t == c.tx.transaction.value) ≡ false → history t (placed c.tx.transaction c.tx.world.past ++ T) ≡ []
-    beside other = entries_there (is_at t) (Transaction c.tx.transaction) c.tx.world.past T other ∙ none
+    beside : (t == c.tx.transaction.t.value) ≡ false → history t (placed c.tx.transaction.t c.tx.world.past ++ T) ≡ []
+    beside other = entries_there (is_at t) (Transaction c.tx.transaction.t) c.tx.world.past T other ∙ none
 
-    here : (t == c.tx.transaction.value) ≡ true → t ≡ c.tx.transaction.value → history t (with_histories cs (placed c.tx.transaction c.tx.world.past ++ T)) ≡ c.tx.world.past
+    here : (t == c.tx.transaction.t.value) ≡ true → t ≡ c.tx.transaction.t.value → history t (with_histories cs (placed c.tx.transaction.t c.tx.world.past ++ T)) ≡ c.tx.world.past
     here is same =
-        no_history t cs (placed c.tx.transaction c.tx.world.past ++ T) (none_below t (c.tx.transaction.value + 1) (numbers cs) (omega (arith, same)) r.1)
-        ∙ (entries_here (is_at t) (Transaction c.tx.transaction) c.tx.world.past T is ∙ (ap (λ (es : List Entry). c.tx.world.past ++ es) none ∙ append-nil c.tx.world.past))
+        no_history t cs (placed c.tx.transaction.t c.tx.world.past ++ T) (none_below t (c.tx.transaction.t.value + 1) (numbers cs) (omega (arith, same)) r.1)
+        ∙ (entries_here (is_at t) (Transaction c.tx.transaction.t) c.tx.world.past T is ∙ (ap (λ (es : List Entry). c.tx.world.past ++ es) none ∙ append-nil c.tx.world.past))
 
-    there : (t == c.tx.transaction.value) ≡ false → IsFound P t cs (history t (with_histories cs (placed c.tx.transaction c.tx.world.past ++ T)))
-        → IsFound P t (c ∷ cs) (history t (with_histories cs (placed c.tx.transaction c.tx.world.past ++ T)))
+    there : (t == c.tx.transaction.t.value) ≡ false → IsFound P t cs (history t (with_histories cs (placed c.tx.transaction.t c.tx.world.past ++ T)))
+        → IsFound P t (c ∷ cs) (history t (with_histories cs (placed c.tx.transaction.t c.tx.world.past ++ T)))
     there other (inl f) = inl f
     there other (inr f) = inr (rw other f.0, f.1)

@@ -4,6 +4,8 @@ use Rattle.std.specs.Prelude.{IsTrue, IfOk, Result, Ok, Err}
 use Rattle.std.specs.List.{All}
 use Rattle.std.proofs.lemmas.Bool.{cases_Bool}
 use Rattle.std.proofs.lemmas.Bool.Decides.{nat_tests}
+use Rattle.dtx_values.specs.declared.tx_id.TxId.{TxId}
+use Rattle.dtx_values.specs.TxIds.{number_of}
 use Rattle.dtx_values.specs.declared.entry.Entry.{Entry}
 use Rattle.dtx_values.specs.declared.number.ActorNo.{ActorNo}
 use Rattle.dtx_values.specs.declared.number.TxNo.{TxNo}
@@ -66,8 +68,8 @@ pub lines_there : {D : Type 0} (s : List Line) (k : ℕ) (honest : Bool) (log : 
 lines_there s k honest log t h whole unnamed (inl f) a =
     let c = f.0 in
     let d = f.2 in
-    let run = subst (λ (u : TxNo). IsOwnRun u.value c.tx.world) f.1 d.cell.run in
-    let prefix = subst (λ (u : TxNo). IsPrefix s u.value c.rows c.tx.world.calls) f.1 d.cell.kept.in_order in
+    let run = subst (λ (u : TxId). IsOwnRun (number_of u) c.tx.world) f.1 d.cell.run in
+    let prefix = subst (λ (u : TxId). IsPrefix s (number_of u) c.rows c.tx.world.calls) f.1 d.cell.kept.in_order in
     ap (lines_by a.value) f.3 ∙ whole c.rows c.tx.world run prefix d.entered a
 lines_there s k honest log t h whole unnamed (inr f) a = ap (lines_by a.value) f.1 ∙ ap lines_of (sym (unnamed (unmade s t f.0) a.value))
 

@@ -44,7 +44,7 @@ laid_block q (x ∷ h) T n m late is l = laid_entry q x (map (λ e. (q, e)) h ++
 pub laid_histories : (n m : ℕ) (cs : List Cell) (T : List Placed) → n ≤ 257 → m ≡ 16 + n → Rises n (numbers cs) → IsLaidBelow m T → IsLaidBelow 273 (with_histories cs T)
 laid_histories n m [] T few is r l = record { in_order = l.in_order; below = all_lower m 273 T (omega (arith, few, is)) l.below }
 laid_histories n m (c ∷ cs) T few is r l =
-    let t = c.tx.transaction in
+    let t = c.tx.transaction.t in
     let low = r.0 in
     let high = t.in_range.1 in
     laid_histories (t.value + 1) (16 + t.value + 1) cs (placed t c.tx.world.past ++ T) (omega (arith, high)) (omega arith) r.1

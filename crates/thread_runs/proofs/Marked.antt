@@ -3,7 +3,9 @@ use Rattle.std.proofs.Common.{◌≡◌, ◌⊎◌, ◌≤◌, ℕ, ◌==◌, na
 use Rattle.std.specs.Prelude.{IsTrue, is_some}
 use Rattle.std.proofs.lemmas.Bool.{cases_Bool}
 use Rattle.std.proofs.lemmas.Bool.Decides.{eqb_tells}
+use Rattle.dtx_values.specs.declared.tx_id.TxId.{TxId}
 use Rattle.dtx_values.specs.declared.entry.Entry.{Entry}
+use Rattle.dtx_values.specs.TxIds.{number_of}
 use Rattle.dtx_values.specs.declared.number.TxNo.{TxNo}
 use Rattle.dtx_values.specs.declared.script.Line.{Line}
 use Rattle.dtx_values.specs.Table.{how_many}
@@ -45,7 +47,7 @@ not_stopped l h f up begun (inr e) = e
 runs_there : {D : Type 0} (s : List Line) (k : ℕ) (honest : Bool) (log : LogCell D) (c : Cell) → IsDone s k honest log c → is_up_by log.past ≡ true → (core c.tx.world).stopped ≡ false
 runs_there s k honest log c d up =
     let h = c.tx.world.past in
-    stopped_same h ∙ not_stopped log.past h d.followed up (λ e. stopped_begun c.tx.transaction.value c.tx.world d.cell.run (stopped_same h ∙ e)) (cases_Bool (is_stopped h))
+    stopped_same h ∙ not_stopped log.past h d.followed up (λ e. stopped_begun (number_of c.tx.transaction) c.tx.world d.cell.run (stopped_same h ∙ e)) (cases_Bool (is_stopped h))
 
 -- So the log has one record of a cell's transaction exactly where its history has one.
 cell_marked : {D : Type 0} (s : List Line) (k : ℕ) (honest : Bool) (log : LogCell D) (c : Cell) → IsDone s k honest log c → is_up_by log.past ≡ true → IsTrue log.log.is_up → AreOwn s (open_records log.log.slots)
@@ -78,7 +80,7 @@ pub marked_there : {D : Type 0} (s : List Line) (k : ℕ) (honest : Bool) (log :
     → length (records_of t.value (open_records log.log.slots)) ≡ (if has_mark h then 1 else 0)
 marked_there s k honest log t h said up own (inl f) =
     subst (λ (x : List Entry). length (records_of t.value (open_records log.log.slots)) ≡ (if has_mark x then 1 else 0)) (sym f.3)
-    (subst (λ (u : TxNo). length (records_of u.value (open_records log.log.slots)) ≡ (if has_mark f.0.tx.world.past then 1 else 0)) f.1 (cell_marked s k honest log f.0 f.2 said up own))
+    (subst (λ (u : TxId). length (records_of (number_of u) (open_records log.log.slots)) ≡ (if has_mark f.0.tx.world.past then 1 else 0)) f.1 (cell_marked s k honest log f.0 f.2 said up own))
 marked_there s k honest log t h said up own (inr f) =
     subst (λ (x : List Entry). length (records_of t.value (open_records log.log.slots)) ≡ (if has_mark x then 1 else 0)) (sym f.1)
     (ap (λ (rs : List CommitRecord). length rs) (none_own s t.value (open_records log.log.slots) f.0 own.own))

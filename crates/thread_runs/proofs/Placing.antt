@@ -22,11 +22,11 @@ entries_there p q (x ∷ h) T k = rw k (entries_there p q h T k)
 pub contexts_kept : (a : ℕ) (cs : List Cell) (T : List Placed) → at_context a (with_histories cs T) ≡ at_context a T
 contexts_kept a [] T = refl
 contexts_kept a (c ∷ cs) T =
-    contexts_kept a cs (placed c.tx.transaction c.tx.world.past ++ T) ∙ entries_there (is_context a) (Transaction c.tx.transaction) c.tx.world.past T refl
+    contexts_kept a cs (placed c.tx.transaction.t c.tx.world.past ++ T) ∙ entries_there (is_context a) (Transaction c.tx.transaction.t) c.tx.world.past T refl
 
 pub log_kept : (cs : List Cell) (T : List Placed) → at_log (with_histories cs T) ≡ at_log T
 log_kept [] T = refl
-log_kept (c ∷ cs) T = log_kept cs (placed c.tx.transaction c.tx.world.past ++ T) ∙ entries_there is_log (Transaction c.tx.transaction) c.tx.world.past T refl
+log_kept (c ∷ cs) T = log_kept cs (placed c.tx.transaction.t c.tx.world.past ++ T) ∙ entries_there is_log (Transaction c.tx.transaction.t) c.tx.world.past T refl
 
 -- and the entries at the log are there alone.
 pub contexts_before_log : (a : ℕ) (h : List Entry) (T : List Placed) → at_context a (with_log h T) ≡ at_context a T

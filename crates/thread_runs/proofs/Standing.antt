@@ -4,7 +4,9 @@ use Rattle.std.specs.Prelude.{IsTrue}
 use Rattle.std.specs.List.{All}
 use Rattle.std.proofs.lemmas.Bool.Decides.{nat_tests}
 use Rattle.std.proofs.lemmas.List.Elements.{All-tail}
+use Rattle.dtx_values.specs.declared.tx_id.TxId.{TxId}
 use Rattle.dtx_values.specs.declared.entry.Entry.{Entry}
+use Rattle.dtx_values.specs.TxIds.{first_id, number_of}
 use Rattle.dtx_values.specs.declared.number.TxNo.{TxNo}
 use Rattle.dtx_values.specs.declared.script.Line.{Line}
 use Rattle.dtx_values.specs.Table.{how_many}
@@ -21,7 +23,7 @@ use Rattle.dtx_model.specs.Traces.{Placed, history}
 use Rattle.dtx_model.specs.Words.{each, has}
 use Rattle.dtx_model.proofs.Bools.{and_both, and_left, and_right}
 use Rattle.dtx_model.proofs.Lifting.{lift_ran}
-use Rattle.dtx_model.proofs.SameNumbers.{same_transaction}
+use Rattle.dtx_values.proofs.SameNumbers.{same_transaction}
 use Rattle.script_histories.proofs.ReplaySame.{pending_same}
 use Rattle.script_histories.proofs.ScriptCalls.{ran_calls}
 use Rattle.script_calls.specs.FirstCalls.{are_first, par_line}
@@ -29,6 +31,7 @@ use Rattle.script_calls.specs.Rows.{are_entered}
 use Rattle.tx_cells.specs.Board.{transactions_of}
 use Rattle.tx_cells.specs.Cell.{Cell, is_log_full}
 use Rattle.tx_cells.specs.LogCell.{LogCell}
+use Rattle.tx_cells.proofs.Kept.{of_first}
 use Rattle.tx_cells.specs.Ties.{TiesWith}
 use Rattle.thread_runs.specs.Gathering.{IsCellOf}
 use Rattle.thread_runs.proofs.ByCell.{AllOf, IsFound, is_among, numbers}
@@ -65,11 +68,11 @@ all_done s k honest log (c ∷ cs) entered settled ties followed first cells = (
 -- A transaction of the trace, newest first: the history of one of these cells, or none, and then no line of the script makes it.
 abbrev pub Stands : {D : Type 0} → List Line → ℕ → Bool → LogCell D → List Entry → TxNo → Type 0
 Stands s k honest log h t =
-    ((c : Cell) × (c.tx.transaction ≡ t) × IsDone s k honest log c × (h ≡ c.tx.world.past)) ⊎ ((is_among t.value (transactions_of s) ≡ false) × (h ≡ []))
+    ((c : Cell) × (c.tx.transaction ≡ first_id t) × IsDone s k honest log c × (h ≡ c.tx.world.past)) ⊎ ((is_among t.value (transactions_of s) ≡ false) × (h ≡ []))
 
 pub found_stands : {D : Type 0} (s : List Line) (k : ℕ) (honest : Bool) (log : LogCell D) (t : TxNo) (cs : List Cell) (h : List Entry) (T : List Placed) → numbers cs ≡ transactions_of s → h ≡ history t.value T
     → IsFound (IsDone s k honest log) t.value cs (history t.value T) → Stands s k honest log h t
-found_stands s k honest log t cs h T named is (inl f) = inl (f.0, same_transaction f.0.tx.transaction t f.1, f.2, is ∙ f.3)
+found_stands s k honest log t cs h T named is (inl f) = inl (f.0, sym (of_first f.0.tx.transaction f.2.cell.kept.first) ∙ ap first_id (same_transaction f.0.tx.transaction.t t f.1), f.2, is ∙ f.3)
 found_stands s k honest log t cs h T named is (inr f) = inr (ap (is_among t.value) (sym named) ∙ f.0, is ∙ f.1)
 
 -- Each transaction's history is caused by the script: one that it doesn't make has none.
@@ -77,7 +80,7 @@ none_caused : (s : List Line) (k t : ℕ) → Caused s k t []
 none_caused s k t = record { freely = ([], ([], (refl, refl))); planned = refl }
 
 pub caused_there : {D : Type 0} (s : List Line) (k : ℕ) (honest : Bool) (log : LogCell D) (t : TxNo) (h : List Entry) → Stands s k honest log h t → Caused s k t.value h
-caused_there s k honest log t h (inl f) = subst (λ (x : List Entry). Caused s k t.value x) (sym f.3) (subst (λ (u : TxNo). Caused s k u.value f.0.tx.world.past) f.1 f.2.cell.caused)
+caused_there s k honest log t h (inl f) = subst (λ (x : List Entry). Caused s k t.value x) (sym f.3) (subst (λ (u : TxId). Caused s k (number_of u) f.0.tx.world.past) f.1 f.2.cell.caused)
 caused_there s k honest log t h (inr f) = subst (λ (x : List Entry). Caused s k t.value x) (sym f.1) (none_caused s k t.value)
 
 -- It is settled.
@@ -91,7 +94,7 @@ none_settled s = refl
 
 cell_settled : {D : Type 0} (s : List Line) (k : ℕ) (honest : Bool) (log : LogCell D) (c : Cell) → IsDone s k honest log c → Settled s c.tx.world.past
 cell_settled s k honest log c d =
-    let t = c.tx.transaction.value in
+    let t = (number_of c.tx.transaction) in
     let run = d.cell.run in
     let by_script = lift_ran (IsIn c.tx.world.calls) (IsCallOf s t) d.cell.kept.given t run.0 c.tx.world run.1 in
     sym (pending_same s t c.tx.world.calls c.tx.world.past (ran_calls s t run.0 c.tx.world by_script)) ∙ empty_is (pending c.tx.world) d.settled

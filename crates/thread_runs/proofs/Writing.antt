@@ -79,15 +79,15 @@ up_to_more n m ess T U b at next wrote h =
     ]
 
 -- One more history is written after the others.
-pub one_history : (cs : List Cell) (c : Cell) (T : List Placed) → with_histories (cs ++ c ∷ []) T ≡ placed c.tx.transaction c.tx.world.past ++ with_histories cs T
+pub one_history : (cs : List Cell) (c : Cell) (T : List Placed) → with_histories (cs ++ c ∷ []) T ≡ placed c.tx.transaction.t c.tx.world.past ++ with_histories cs T
 one_history [] c T = refl
-one_history (d ∷ cs) c T = one_history cs c (placed d.tx.transaction d.tx.world.past ++ T)
+one_history (d ∷ cs) c T = one_history cs c (placed d.tx.transaction.t d.tx.world.past ++ T)
 
-pub histories_more : (cs : List Cell) (i j : ℕ) (c : Cell) (T U V : List Placed) → i < length cs → c ≡ slice_index_or cs i c → j ≡ i + 1 → past_of U ≡ with_histories (take i cs) T → past_of V ≡ placed c.tx.transaction c.tx.world.past ++ past_of U
+pub histories_more : (cs : List Cell) (i j : ℕ) (c : Cell) (T U V : List Placed) → i < length cs → c ≡ slice_index_or cs i c → j ≡ i + 1 → past_of U ≡ with_histories (take i cs) T → past_of V ≡ placed c.tx.transaction.t c.tx.world.past ++ past_of U
     → past_of V ≡ with_histories (take j cs) T
 histories_more cs i j c T U V less is next before wrote =
     wrote
-    ∙ (ap (λ (X : List Placed). placed c.tx.transaction c.tx.world.past ++ X) before
+    ∙ (ap (λ (X : List Placed). placed c.tx.transaction.t c.tx.world.past ++ X) before
     ∙ (sym (one_history (take i cs) c T)
     ∙ (ap (λ (d : Cell). with_histories (take i cs ++ d ∷ []) T) is ∙ (ap (λ (ds : List Cell). with_histories ds T) (sym (take_more cs i c less)) ∙ ap (λ (k : ℕ). with_histories (take k cs) T) (sym next)))))
 

@@ -1,6 +1,7 @@
 -- The trace of a run on threads, as it is put together: the contexts by actor, the transactions by number, then the log.
 use Rattle.std.specs.Prelude.{ℕ, ◌+◌, ◌≡◌, nat_le, nat_lt, Bool, true, List, [], ◌∷◌, ◌++◌, map}
 use Rattle.dtx_values.specs.declared.entry.Entry.{Entry}
+use Rattle.dtx_values.specs.TxIds.{number_of}
 use Rattle.dtx_values.specs.declared.number.ActorNo.{ActorNo}
 use Rattle.dtx_values.specs.declared.script.Line.{Line}
 use Rattle.dtx_values.specs.declared.trace.Place.{Place}
@@ -39,7 +40,7 @@ pub record HasContexts (ess : List (List Entry)) (T : List Placed) : Type 0 wher
 -- the trace with the history of each of these cells after it, in order; both are newest first
 abbrev pub with_histories : List Cell → List Placed → List Placed
 with_histories [] T = T
-with_histories (c ∷ cs) T = with_histories cs (placed c.tx.transaction c.tx.world.past ++ T)
+with_histories (c ∷ cs) T = with_histories cs (placed c.tx.transaction.t c.tx.world.past ++ T)
 
 -- the trace with these entries at the log after it; both are newest first
 abbrev pub with_log : List Entry → List Placed → List Placed
@@ -48,7 +49,7 @@ with_log h T = map (λ e. (Log, e)) h ++ T
 -- The cell is one of a run of the script s in which the first k managers have an object, over a disk that is honest or not: its history is caused by the script, and made by its own calls, which are the script's; and what it keeps of the log is what
 -- its coordinator knows.
 pub record IsCellOf (s : List Line) (k : ℕ) (honest : Bool) (c : Cell) : Type 0 where
-  pub caused : Caused s k c.tx.transaction.value c.tx.world.past
-  pub run : IsOwnRun c.tx.transaction.value c.tx.world
+  pub caused : Caused s k (number_of c.tx.transaction) c.tx.world.past
+  pub run : IsOwnRun (number_of c.tx.transaction) c.tx.world
   pub kept : IsKept s k honest c.tx c.rows
   pub ours : IsOurs (id_of c.tx) (core c.tx.world) (record { ours = c.tx.ours; unsure = c.tx.unsure; life = c.tx.life })

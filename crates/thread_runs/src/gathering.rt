@@ -98,7 +98,7 @@ fn write_histories<N: Run>(
 
 /// Puts at the end of the trace the history of this transaction.
 fn write_history<N: Run>(trace: &mut PlacedEntries, state: &CellState<N>) -> Result<(), AllocError>
-    ensures { OnOk result (past_of trace.new.items ≡ placed state.now.tx.transaction state.now.tx.world.past ++ past_of trace.old.items) }
+    ensures { OnOk result (past_of trace.new.items ≡ placed state.now.tx.transaction.t state.now.tx.world.past ++ past_of trace.old.items) }
 {
     let history = state.history();
     trace.reserve(history.len())?;

@@ -41,7 +41,7 @@ use Rattle.dtx_model.specs.Faults.{same_bytes}
 use Rattle.dtx_model.specs.Grammar.{actor_name, clone_name, connection_word, enlistment_name, image_word, iso_word, kind_word, manager_name, scope_name, transaction_name}
 use Rattle.dtx_model.specs.TraceText.{ambient_text, ask_text, cast_vote_text, cause_text, class_text, direction_text, found_text, id_text, outcome_text, party_text, place_text, promote_text, request_text}
 use Rattle.dtx_model.proofs.Digits.{own}
-use Rattle.dtx_model.proofs.SameNumbers.{same_actor, same_clone, same_enlistment, same_manager, same_scope, same_transaction}
+use Rattle.dtx_values.proofs.SameNumbers.{same_actor, same_clone, same_enlistment, same_manager, same_scope, same_transaction}
 use Rattle.line_words.proofs.Identifiers.{id_parses}
 
 -- what stands beside this word in a table, and x where it isn't there

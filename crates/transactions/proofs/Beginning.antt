@@ -1,34 +1,38 @@
 -- A transaction begins.
-use Rattle.std.proofs.Common.{ℕ, zero, suc, Bool, true, false, ◌≡◌, ◌≢◌, ◌≤◌, ◌<◌, ◌+◌, ◌-◌, ◌⊎◌, ◌∙◌, List, [], ◌∷◌, ◌++◌, Some, None, Result, Ok, Err, is_ok, filter, length, slice_get, slice_set, refl, ap, arith, subst, sym, inl, inr, if◌then◌else◌}
+use Rattle.std.proofs.Common.{ℕ, zero, suc, Bool, true, false, ◌≡◌, ◌≢◌, ◌≤◌, ◌<◌, ◌+◌, ◌-◌, ◌∙◌, ◌==◌, ◌&&◌, not, Option, List, [], ◌∷◌, ◌++◌, Some, None, Result, Ok, Err, is_ok, filter, length, slice_get, slice_set, refl, ap, arith, subst, sym, inl, inr, if◌then◌else◌}
 use Rattle.std.proofs.lemmas.Bool.Decides.{eqb_tells}
+use Rattle.dtx_values.specs.TxIds.{number_of}
 use Rattle.dtx_values.specs.declared.call.Call.TheVariants.{Begin}
 use Rattle.dtx_values.specs.declared.entry.Answer.{Answer}
 use Rattle.dtx_values.specs.declared.entry.Answer.TheVariants.{Fine}
 use Rattle.dtx_values.specs.declared.number.TxNo.{TxNo}
+use Rattle.dtx_values.specs.declared.tx_id.TxId.{TxId}
 use Rattle.dtx_values.specs.declared.words.Timeout.{Timeout}
 use Rattle.dtx_model.specs.Answers.{local_answer}
 use Rattle.dtx_model.specs.Log.{CommitRecord, first_of, is_record_of}
 use Rattle.dtx_model.specs.Promotes.{identifier_of}
 use Rattle.dtx_model.specs.World.{World, answer_at}
-use Rattle.dtx_model.proofs.SameNumbers.{same_transaction}
 use Rattle.coordinator_log.specs.Slots.{open_records}
 use Rattle.coordinator_log.specs.State.{LogState}
+use Rattle.log_epochs.specs.Epochs.{is_epoch}
+use Rattle.std.specs.Prelude.{IsTrue}
 use Rattle.tx_world.specs.AtLog.{Fits, id_of}
 use Rattle.tx_world.specs.State.{TxState}
 use Rattle.tx_world.proofs.Fitting.{fits_same}
 use Rattle.transactions.specs.Calling.{IsCalled}
 use Rattle.transactions.specs.Keeping.{AreNumbered, FitsAll}
-use Rattle.transactions.specs.Slots.{AreSame, is_unused, is_used, live_at, used}
+use Rattle.transactions.specs.Numbering.{IsTaken}
+use Rattle.transactions.specs.Slots.{AreSame, is_live, is_used, is_vacant, live_at, live_in}
 use Rattle.transactions.specs.State.{LiveState, blank}
-use Rattle.transactions.proofs.Standing.{numbered_set, put_at}
+use Rattle.transactions.proofs.Standing.{get_here, get_there, none_live, not_live, put_at}
 
--- the number is used, was one of a transaction that came to the log, or has a record there
-abbrev pub IsTaken : {D : Type 0} → LogState D → List LiveState → ℕ → Type 0
-IsTaken log xs n = (is_unused (slice_get xs (n - 1)) ≡ false) ⊎ (first_of (identifier_of n) (open_records log.slots) ≢ None)
+-- each number of the epoch after this one, and up to n, is taken
+abbrev pub AreTaken : {D : Type 0} → LogState D → ℕ → ℕ → List LiveState → ℕ → Type 0
+AreTaken log epoch after xs n = (p : TxNo) → after < p.value → p.value ≤ n → IsTaken log epoch xs p.value
 
--- each number up to n is taken
-abbrev pub AreTaken : {D : Type 0} → LogState D → List LiveState → ℕ → Type 0
-AreTaken log xs n = (u : TxNo) → u.value ≤ n → IsTaken log xs u.value
+-- each place up to n has a transaction
+abbrev pub AreUsed : List LiveState → ℕ → Type 0
+AreUsed xs n = (p : TxNo) → p.value ≤ n → is_vacant (slice_get xs (p.value - 1)) ≡ false
 
 -- what stands in a list at whose end one item was put
 pub get_end : {A : Type 0} (xs : List A) (y : A) → slice_get (xs ++ y ∷ []) (length xs) ≡ Some y
@@ -52,20 +56,58 @@ push_at {A} {P} xs y own other j z e = elim (eqb_tells j (length xs)) [ inl k �
     same k = the_same y z (sym (get_end xs y) ∙ (ap (slice_get (xs ++ y ∷ [])) (sym k) ∙ e))
 
 -- it goes on at the end
-pub live_end : (t : TxNo) (xs new : List LiveState) (y : LiveState) → new ≡ xs ++ y ∷ [] → length xs + 1 ≡ t.value → is_used y.usage ≡ true → live_at t new ≡ Some y
+pub live_end : (t : TxId) (xs new : List LiveState) (y : LiveState) → new ≡ xs ++ y ∷ [] → length xs + 1 ≡ t.t.value → is_live t y ≡ true → live_at t new ≡ Some y
 live_end t xs new y items place is =
-    let same : t.value - 1 ≡ length xs = omega (arith, place) in
-    ap (live_at t) items ∙ (ap used (ap (slice_get (xs ++ y ∷ [])) same ∙ get_end xs y) ∙ ap (λ b. if b then Some y else None) is)
+    let same : t.t.value - 1 ≡ length xs = omega (arith, place) in
+    ap (live_at t) items ∙ (ap (live_in t) (ap (slice_get (xs ++ y ∷ [])) same ∙ get_end xs y) ∙ ap (λ b. if b then Some y else None) is)
 
-pub others_before : (t : TxNo) (xs new : List LiveState) (y : LiveState) → new ≡ xs ++ y ∷ [] → length xs + 1 ≡ t.value → AreSame t xs new
-others_before t xs new y items place = λ u n. ap (live_at u) items ∙ ap used (get_before xs y (u.value - 1) (λ e. n (same_transaction u t (let low = u.in_range.0 in omega (arith, place, e, low)))))
+-- nothing stands behind the end
+nothing_after : {A : Type 0} (xs : List A) → slice_get xs (length xs) ≡ None
+nothing_after [] = refl
+nothing_after (x ∷ xs) = nothing_after xs
+
+pub others_before : (t : TxId) (xs new : List LiveState) (y : LiveState) → new ≡ xs ++ y ∷ [] → y.number ≡ t → AreSame t xs new
+others_before t xs new y items number u n = ap (live_at u) items ∙ elim (eqb_tells (u.t.value - 1) (length xs)) [
+  | inl k ↦ (
+      let after : slice_get (xs ++ y ∷ []) (u.t.value - 1) ≡ Some y = ap (slice_get (xs ++ y ∷ [])) k.1 ∙ get_end xs y in
+      let before : slice_get xs (u.t.value - 1) ≡ None = ap (slice_get xs) k.1 ∙ nothing_after xs in
+      ap (live_in u) after ∙ (none_live u y (not_live t u y number n) ∙ sym (ap (live_in u) before)))
+  | inr k ↦ ap (live_in u) (get_before xs y (u.t.value - 1) k.1)
+]
+
+-- what stands at a vacant place is no transaction that goes on
+pub vacant_none : (x : LiveState) (o : Option LiveState) → o ≡ Some x → is_vacant o ≡ true → (u : TxId) → is_live u x ≡ false
+vacant_none x o there free u = off (is_used x.usage) (number_of x.number == number_of u) (sym (ap is_vacant there) ∙ free)
+  where
+    off : (a b : Bool) → not a ≡ true → (a && b) ≡ false
+    off true b k = absurd cc
+    off false b k = refl
+
+-- the place of a transaction is vacant, by its place from 0
+pub place_free : (t : TxId) (i : ℕ) (xs : List LiveState) → i + 1 ≡ t.t.value → is_vacant (slice_get xs (t.t.value - 1)) ≡ true → is_vacant (slice_get xs i) ≡ true
+place_free t i xs place free =
+    let same : t.t.value - 1 ≡ i = omega (arith, place) in
+    subst (λ (j : ℕ). is_vacant (slice_get xs j) ≡ true) same free
+
+-- so no transaction of the place goes on
+pub vacant_fresh : (t : TxId) (o : Option LiveState) → is_vacant o ≡ true → live_in t o ≡ None
+vacant_fresh t None free = refl
+vacant_fresh t (Some x) free = none_live t x (vacant_none x (Some x) refl free t)
 
 -- the numbers are kept, at the end and at the place of one that is no more
-pub numbered_push : (xs : List LiveState) (y : LiveState) → AreNumbered xs → y.number.value ≡ length xs + 1 → y.tx.transaction ≡ y.number → AreNumbered (xs ++ y ∷ [])
-numbered_push xs y numbered place own = push_at {P = λ j (z : LiveState). (z.number.value ≡ j + 1) × (z.tx.transaction ≡ z.number)} xs y (place, own) numbered
+pub numbered_push : (xs : List LiveState) (y : LiveState) → AreNumbered xs → y.number.t.value ≡ length xs + 1 → y.tx.transaction ≡ y.number → AreNumbered (xs ++ y ∷ [])
+numbered_push xs y numbered place own = push_at {P = λ j (z : LiveState). (z.number.t.value ≡ j + 1) × (z.tx.transaction ≡ z.number)} xs y (place, own) numbered
 
-pub numbered_put : (xs : List LiveState) (i : ℕ) (x y : LiveState) → slice_get xs i ≡ Some x → AreNumbered xs → i + 1 ≡ y.number.value → y.tx.transaction ≡ y.number → AreNumbered (slice_set xs i y)
-numbered_put xs i x y here numbered place own = numbered_set xs i x y here numbered (same_transaction y.number x.number (sym place ∙ sym (numbered i x here).0)) own
+pub numbered_put : (xs : List LiveState) (i : ℕ) (x y : LiveState) → slice_get xs i ≡ Some x → AreNumbered xs → i + 1 ≡ y.number.t.value → y.tx.transaction ≡ y.number → AreNumbered (slice_set xs i y)
+numbered_put xs i x y here numbered place own j z e = elim (eqb_tells j i) [ inl k ↦ this k.1 | inr k ↦ numbered j z (sym (get_there xs i j y k.1) ∙ e) ]
+  where
+    the_same : {B : Type 0} (a b : B) → Some a ≡ Some b → a ≡ b
+    the_same a b q = cc
+
+    this : j ≡ i → (z.number.t.value ≡ j + 1) × (z.tx.transaction ≡ z.number)
+    this k =
+        let same : y ≡ z = the_same y z (sym (get_here xs i x y here) ∙ (ap (slice_get (slice_set xs i y)) (sym k) ∙ e)) in
+        subst (λ (v : LiveState). (v.number.t.value ≡ j + 1) × (v.tx.transaction ≡ v.number)) same (sym place ∙ ap (λ n. n + 1) (sym k), own)
 
 -- the log fits all, where it fits the new one
 pub fits_push : {D : Type 0} (log : LogState D) (xs : List LiveState) (y : LiveState) → Fits y.tx (open_records log.slots) → FitsAll log xs → FitsAll log (xs ++ y ∷ [])
@@ -87,8 +129,8 @@ none_of id (r ∷ rs) e = by_test (is_record_of id r) refl (none_of id rs)
     by_test false h rest = ap (λ b. if b then r ∷ filter (is_record_of id) rs else filter (is_record_of id) rs) h ∙ rest (sym (ap (λ b. if b then Some r else first_of id rs) h) ∙ e)
 
 -- the log fits a new transaction of whose number it has no record
-pub fits_new : (t : TxNo) (x : TxState) (rs : List CommitRecord) → x.transaction ≡ t → first_of (identifier_of t.value) rs ≡ None → Fits x [] → Fits x rs
-fits_new t x rs is none f = fits_same x [] rs (none_of (id_of x) rs (ap (λ (u : TxNo). first_of (identifier_of u.value) rs) is ∙ none)) f
+pub fits_new : (t : TxId) (x : TxState) (rs : List CommitRecord) → x.transaction ≡ t → first_of (identifier_of (number_of t)) rs ≡ None → Fits x [] → Fits x rs
+fits_new t x rs is none f = fits_same x [] rs (none_of (id_of x) rs (ap (λ (u : TxId). first_of (identifier_of (number_of u)) rs) is ∙ none)) f
 
 -- a begin is answered so
 begin_fine : (t : ℕ) (w : World) (u : TxNo) (o : Timeout) → answer_at t w (Begin u o) 0 ≡ Fine
@@ -96,12 +138,12 @@ unfolding answer_at local_answer
 begin_fine t w u o = refl
 
 -- the first call of a new transaction is its begin
-pub begins : {D : Type 0} (faults : D → ℕ) (log : LogState D) (t : TxNo) (o : Timeout) (time line : ℕ) (answer : Answer) (x y : LiveState) → x ≡ blank t time → IsCalled faults log (Begin t o) line answer x y
-    → IsCalled faults log (Begin t o) 1 Fine (blank t time) y
+pub begins : {D : Type 0} (faults : D → ℕ) (log : LogState D) (t : TxId) (o : Timeout) (time line : ℕ) (answer : Answer) (x y : LiveState) → x ≡ blank t time → IsCalled faults log (Begin t.t o) line answer x y
+    → IsCalled faults log (Begin t.t o) 1 Fine (blank t time) y
 begins faults log t o time line answer x y is called =
-    let first = subst (λ (v : LiveState). IsCalled faults log (Begin t o) line answer v y) is called in
-    let answered : IsCalled faults log (Begin t o) line Fine (blank t time) y = subst (λ (a : Answer). IsCalled faults log (Begin t o) line a (blank t time) y) (first.answered ∙ begin_fine _ _ _ _) first in
-    subst (λ (n : ℕ). IsCalled faults log (Begin t o) n Fine (blank t time) y) first.line_is answered
+    let first = subst (λ (v : LiveState). IsCalled faults log (Begin t.t o) line answer v y) is called in
+    let answered : IsCalled faults log (Begin t.t o) line Fine (blank t time) y = subst (λ (a : Answer). IsCalled faults log (Begin t.t o) line a (blank t time) y) (first.answered ∙ begin_fine _ _ _ _) first in
+    subst (λ (n : ℕ). IsCalled faults log (Begin t.t o) n Fine (blank t time) y) first.line_is answered
 
 -- what is so of a list, and of it with one item more, is so of what a push leaves
 pub pushed : {A E : Type 0} (P : List LiveState → Type 0) (z : Result A E) (xs ys new : List LiveState) → new ≡ (if is_ok z then ys else xs) → P ys → P xs → P new
@@ -117,3 +159,10 @@ pub inside : {A : Type 0} (xs : List A) (i : ℕ) → i < length xs → (x : A) 
 inside [] i h = absurd (omega (arith, h))
 inside (x ∷ xs) zero h = (x, refl)
 inside (x ∷ xs) (suc i) h = inside xs i (omega (arith, h))
+
+-- The log fits all still, after what a begin does to it.
+pub fits_next : {D : Type 0} (from to : LogState D) (xs : List LiveState) → ((x : TxId) → is_epoch (identifier_of (number_of x)) ≡ false)
+    → ((id : ℕ) → is_epoch id ≡ false → filter (is_record_of id) (open_records to.slots) ≡ filter (is_record_of id) (open_records from.slots)) → (IsTrue to.is_up → IsTrue from.is_up) → FitsAll from xs
+    → FitsAll to xs
+fits_next from to xs law others still all =
+    record { fits = λ up i x there. fits_same x.tx (open_records from.slots) (open_records to.slots) (others (id_of x.tx) (law x.tx.transaction)) (all.fits (still up) i x there) }

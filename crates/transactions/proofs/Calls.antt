@@ -2,14 +2,14 @@
 use Rattle.std.proofs.Common.{ℕ, false, ◌≡◌, ◌≢◌, ◌-◌, ◌^◌, ◌∙◌, List, Option, Some, None, Result, Ok, Err, IfOk, IfErr, OnErr, refl, ap, subst, sym, inl, inr}
 use Rattle.dtx_values.specs.declared.call.Call.{Call}
 use Rattle.dtx_values.specs.declared.entry.Answer.{Answer}
-use Rattle.dtx_values.specs.declared.number.TxNo.{TxNo}
+use Rattle.dtx_values.specs.declared.tx_id.TxId.{TxId}
 use Rattle.dtx_model.specs.declared.waiting.EnteredCall.{EnteredCall}
 use Rattle.dtx_model.specs.Grammar.{Name}
 use Rattle.dtx_model.specs.Words.{has}
 use Rattle.coordinator_log.specs.State.{LogState}
 use Rattle.tx_world.specs.State.{is_maker}
 use Rattle.transactions.specs.declared.error.TxError.{TxError}
-use Rattle.transactions.specs.declared.error.TxError.TheVariants.{Memory, Many, Refused, Waits}
+use Rattle.transactions.specs.declared.error.TxError.TheVariants.{LogFull, LogStopped, Memory, Many, NoEpoch, Refused, Waits}
 use Rattle.transactions.specs.Calling.{IsCalled}
 use Rattle.transactions.specs.Doing.{CallsAt, MayFail}
 use Rattle.transactions.specs.Slots.{live_at}
@@ -26,18 +26,18 @@ call_leaves faults log c (Ok r) x y called same = (ap (λ (v : LiveState). v.usa
 call_leaves faults log c (Err e) x y called same = (ap (λ (v : LiveState). v.usage) same, ap (λ (v : LiveState). v.number) same)
 
 -- the call of the transaction at its place
-pub calls_at : {D : Type 0} (faults : D → ℕ) (log : LogState D) (t : TxNo) (c : Call) (z : Result (ℕ × Answer) TxError) (xs ys : List LiveState) (x y : LiveState) → live_at t xs ≡ Some x → live_at t ys ≡ Some y
+pub calls_at : {D : Type 0} (faults : D → ℕ) (log : LogState D) (t : TxId) (c : Call) (z : Result (ℕ × Answer) TxError) (xs ys : List LiveState) (x y : LiveState) → live_at t xs ≡ Some x → live_at t ys ≡ Some y
     → IfOk z (λ r. IsCalled faults log c r.0 r.1 x y) → IfOk z (λ r. CallsAt faults log t c r.0 r.1 xs ys)
 calls_at faults log t c (Ok r) xs ys x y was now called = record { before = x; after = y; was = was; now = now; called = called }
 calls_at faults log t c (Err e) xs ys x y was now called = tt
 
 -- a call that wasn't done left the transaction
-pub stays_at : {A : Type 0} (t : TxNo) (z : Result A TxError) (xs ys : List LiveState) (x y : LiveState) → live_at t xs ≡ Some x → live_at t ys ≡ Some y → OnErr z (y ≡ x) → OnErr z (live_at t ys ≡ live_at t xs)
+pub stays_at : {A : Type 0} (t : TxId) (z : Result A TxError) (xs ys : List LiveState) (x y : LiveState) → live_at t xs ≡ Some x → live_at t ys ≡ Some y → OnErr z (y ≡ x) → OnErr z (live_at t ys ≡ live_at t xs)
 stays_at t (Ok r) xs ys x y was now same = tt
 stays_at t (Err e) xs ys x y was now same = now ∙ (ap (λ (v : LiveState). Some v) same ∙ sym was)
 
 -- why it wasn't done
-pub may_fail : {A : Type 0} (t : TxNo) (z : Result A TxError) (xs : List LiveState) (x : LiveState) → live_at t xs ≡ Some x → IfErr z (λ e. e ≢ Memory → (e ≡ Many) × (x.lines ≡ 2 ^ 32 - 1)) → IfErr z (MayFail t xs)
+pub may_fail : {A : Type 0} (t : TxId) (z : Result A TxError) (xs : List LiveState) (x : LiveState) → live_at t xs ≡ Some x → IfErr z (λ e. e ≢ Memory → (e ≡ Many) × (x.lines ≡ 2 ^ 32 - 1)) → IfErr z (MayFail t xs)
 may_fail t (Ok r) xs x was cause = tt
 may_fail t (Err Memory) xs x was cause = inl refl
 may_fail t (Err Many) xs x was cause = let m = cause (λ q. never q) in inr (inr (m.0, x, was, m.1))
@@ -50,6 +50,27 @@ may_fail t (Err Waits) xs x was cause = absurd (other (cause (λ q. never q)).0)
     never q = cc
 
     other : Waits ≡ Many → ⊥
+    other q = cc
+may_fail t (Err LogFull) xs x was cause = absurd (other (cause (λ q. never q)).0)
+  where
+    never : LogFull ≡ Memory → ⊥
+    never q = cc
+
+    other : LogFull ≡ Many → ⊥
+    other q = cc
+may_fail t (Err LogStopped) xs x was cause = absurd (other (cause (λ q. never q)).0)
+  where
+    never : LogStopped ≡ Memory → ⊥
+    never q = cc
+
+    other : LogStopped ≡ Many → ⊥
+    other q = cc
+may_fail t (Err NoEpoch) xs x was cause = absurd (other (cause (λ q. never q)).0)
+  where
+    never : NoEpoch ≡ Memory → ⊥
+    never q = cc
+
+    other : NoEpoch ≡ Many → ⊥
     other q = cc
 may_fail t (Err (Refused a)) xs x was cause = absurd (other (cause (λ q. never q)).0)
   where

@@ -4,7 +4,7 @@ use Rattle.std.proofs.lemmas.List.Folds.{list_any-append}
 use Rattle.dtx_values.specs.declared.entry.Entry.{Entry}
 use Rattle.dtx_values.specs.declared.note.Note.{Note}
 use Rattle.dtx_values.specs.declared.note.Reply.{Reply}
-use Rattle.dtx_values.specs.declared.number.TxNo.{TxNo}
+use Rattle.dtx_values.specs.declared.tx_id.TxId.{TxId}
 use Rattle.dtx_model.specs.Replies.{reply_entries}
 use Rattle.dtx_model.specs.Words.{has, onto}
 use Rattle.dtx_model.specs.World.{half}
@@ -109,34 +109,34 @@ heard_turn gives e rs x y z a b v h w rest within =
     }
 
 -- The same, of the transaction of a number, where one goes on.
-abbrev pub WithinAt : TxNo → List LiveState → Type 0
+abbrev pub WithinAt : TxId → List LiveState → Type 0
 WithinAt t xs = (x : LiveState) → live_at t xs ≡ Some x → x.heard ≤ length (past x)
 
 -- it did this next, where it goes on
-abbrev pub AdvancesAt : Option Event → TxNo → List LiveState → List LiveState → Type 0
+abbrev pub AdvancesAt : Option Event → TxId → List LiveState → List LiveState → Type 0
 AdvancesAt e t old new = (x : LiveState) → live_at t old ≡ Some x → (y : LiveState) × (live_at t new ≡ Some y) × Advances e x y
 
 -- these replies were given, or weren't written
-abbrev pub GivenAt : List Given → TxNo → List LiveState → List LiveState → Type 0
+abbrev pub GivenAt : List Given → TxId → List LiveState → List LiveState → Type 0
 GivenAt rs t old new = (x : LiveState) → live_at t old ≡ Some x → (y : LiveState) × (live_at t new ≡ Some y) × Writes rs x y × (y ≡ record x { tx = y.tx })
 
 -- it is as it was
-pub given_none : (rs : List Given) (t : TxNo) (old new : List LiveState) → live_at t new ≡ live_at t old → GivenAt rs t old new
+pub given_none : (rs : List Given) (t : TxId) (old new : List LiveState) → live_at t new ≡ live_at t old → GivenAt rs t old new
 given_none rs t old new same x at = (x, same ∙ at, writes_nothing rs x, refl)
 
 -- nothing was done of it
-pub heard_none_at : {O : Type 0} (gives : Gives O) (t : TxNo) (old new : List LiveState) (a : O) → live_at t new ≡ live_at t old → HeardAt gives [] t old new a a
+pub heard_none_at : {O : Type 0} (gives : Gives O) (t : TxId) (old new : List LiveState) (a : O) → live_at t new ≡ live_at t old → HeardAt gives [] t old new a a
 heard_none_at gives t old new a same x at = (x, same ∙ at, heard_none gives x a)
 
 -- it went on, and no event came
-pub heard_idle_at : {O : Type 0} (gives : Gives O) (t : TxNo) (old mid new : List LiveState) (a b : O) → HeardAt gives [] t old mid a b → AdvancesAt None t mid new → HeardAt gives [] t old new a b
+pub heard_idle_at : {O : Type 0} (gives : Gives O) (t : TxId) (old mid new : List LiveState) (a b : O) → HeardAt gives [] t old mid a b → AdvancesAt None t mid new → HeardAt gives [] t old new a b
 heard_idle_at gives t old mid new a b h v x at =
     let y = h x at in
     let z = v y.0 y.1 in
     (z.0, z.1, heard_on gives [] [] x y.0 z.0 a b b y.2 (heard_idle gives y.0 z.0 b z.2) z.2.within)
 
 -- an event came, and its objects heard it
-pub heard_turn_at : {O : Type 0} (gives : Gives O) (t : TxNo) (e : Event) (rs : List Given) (old mid on new : List LiveState) (a b c : O) → HeardAt gives [] t old mid a b
+pub heard_turn_at : {O : Type 0} (gives : Gives O) (t : TxId) (e : Event) (rs : List Given) (old mid on new : List LiveState) (a b c : O) → HeardAt gives [] t old mid a b
     → AdvancesAt (Some e) t mid on → WithinAt t on
     → HearsNote gives (note_in e) b rs c → GivenAt rs t on new → HeardAt gives [] t old new a c
 heard_turn_at gives t e rs old mid on new a b c h v within note given x at =
@@ -146,15 +146,15 @@ heard_turn_at gives t e rs old mid on new a b c h v within note given x at =
     (w.0, w.1, heard_on gives [] [] x y.0 w.0 a b c y.2 (heard_turn gives e rs y.0 z.0 w.0 b c z.2 note w.2 w.3 (within z.0 z.1)) z.2.within)
 
 -- What was done of a transaction and its objects, while the others and the time stood.
-abbrev pub Driven : {D C O : Type 0} → Gives O → TxNo → Standing D C → Standing D C → O → O → Type 0
+abbrev pub Driven : {D C O : Type 0} → Gives O → TxId → Standing D C → Standing D C → O → O → Type 0
 Driven gives t old now a b = HeardAt gives [] t old.lives now.lives a b × AreSame t old.lives now.lives × KeepsTime old now
 
 -- nothing was done
-pub driven_none : {D C O : Type 0} (gives : Gives O) (t : TxNo) (s : Standing D C) (a : O) → Driven gives t s s a a
+pub driven_none : {D C O : Type 0} (gives : Gives O) (t : TxId) (s : Standing D C) (a : O) → Driven gives t s s a a
 driven_none gives t s a = (heard_none_at gives t s.lives s.lives a refl, λ u n. refl, (refl, refl))
 
 -- and then a turn of its objects
-pub driven_turn : {D C O : Type 0} (gives : Gives O) (t : TxNo) (e : Event) (rs : List Given) (old mid on new : Standing D C) (a b c : O) → Driven gives t old mid a b
+pub driven_turn : {D C O : Type 0} (gives : Gives O) (t : TxId) (e : Event) (rs : List Given) (old mid on new : Standing D C) (a b c : O) → Driven gives t old mid a b
     → AdvancesAt (Some e) t mid.lives on.lives → AreSame t mid.lives on.lives → KeepsTime mid on → WithinAt t on.lives → HearsNote gives (note_in e) b rs c
     → GivenAt rs t on.lives new.lives → AreSame t on.lives new.lives → KeepsRest on new → Driven gives t old new a c
 driven_turn gives t e rs old mid on new a b c d v same time within note given others rest = (
@@ -164,7 +164,7 @@ driven_turn gives t e rs old mid on new a b c d v same time within note given ot
 )
 
 -- a reply that was done, or wasn't due
-pub given_by_answer : {E : Type 0} (g : Given) (t : TxNo) (old new : List LiveState) (z : Result Bool E) (b : Bool) → z ≡ Ok b
+pub given_by_answer : {E : Type 0} (g : Given) (t : TxId) (old new : List LiveState) (z : Result Bool E) (b : Bool) → z ≡ Ok b
     → (z ≡ Ok true → (x : LiveState) → live_at t old ≡ Some x → (y : LiveState) × (live_at t new ≡ Some y) × Writes (g ∷ []) x y × (y ≡ record x { tx = y.tx })
     × (es : List Entry) × (past y ≡ onto (onto (past x) (reply_entries (half x.tx.world) g.0 g.1)) es))
     → (z ≡ Ok false → live_at t new ≡ live_at t old) → GivenAt (g ∷ []) t old new

@@ -1,6 +1,7 @@
--- What a number is used for changes, or the time of its transaction goes on; the others are as they were.
-use Rattle.std.proofs.Common.{ℕ, zero, suc, Bool, true, false, ◌≡◌, ◌+◌, ◌-◌, ◌∙◌, List, [], ◌∷◌, Some, None, Result, Ok, Err, OnOk, OnErr, ◌⊎◌, inl, inr, slice_get, slice_set, ap, arith, subst, sym, if◌then◌else◌}
-use Rattle.dtx_values.specs.declared.number.TxNo.{TxNo}
+-- What a place is used for changes, or the time of its transaction goes on; the others are as they were.
+use Rattle.std.proofs.Common.{ℕ, zero, suc, Bool, true, false, ◌≡◌, ◌+◌, ◌-◌, ◌∙◌, ◌==◌, ◌&&◌, List, [], ◌∷◌, Some, None, Result, Ok, Err, OnOk, OnErr, ◌⊎◌, inl, inr, slice_get, slice_set, ap, arith, subst, sym, if◌then◌else◌}
+use Rattle.dtx_values.specs.TxIds.{number_of}
+use Rattle.dtx_values.specs.declared.tx_id.TxId.{TxId}
 use Rattle.coordinator_log.specs.State.{LogState}
 use Rattle.tx_world.specs.AtLog.{Fits}
 use Rattle.transactions.specs.declared.error.TxError.{TxError}
@@ -9,7 +10,7 @@ use Rattle.transactions.specs.declared.usage.Usage.TheVariants.{Left}
 use Rattle.transactions.specs.Ending.{IsLeft, IsOver}
 use Rattle.transactions.specs.Calling.{Ticks, TicksUnless}
 use Rattle.transactions.specs.Keeping.{AreNumbered, FitsAll}
-use Rattle.transactions.specs.Slots.{is_used, live_at, used}
+use Rattle.transactions.specs.Slots.{is_live, is_used, live_at, live_in}
 use Rattle.transactions.specs.State.{LiveState}
 use Rattle.transactions.proofs.Standing.{fits_set, get_here, numbered_set}
 
@@ -22,13 +23,17 @@ put_back (z ∷ xs) zero x e = ap (λ v. v ∷ xs) (same e)
     same q = cc
 put_back (z ∷ xs) (suc i) x e = ap (λ l. z ∷ l) (put_back xs i x e)
 
--- none goes on of a number that isn't used
-pub gone_here : (t : TxNo) (xs : List LiveState) (i : ℕ) (x y : LiveState) (u : Usage) → i + 1 ≡ t.value → slice_get xs i ≡ Some x → y ≡ record x { usage = u } → is_used u ≡ false → live_at t (slice_set xs i y) ≡ None
-gone_here t xs i x y u place here e is =
-    let same : t.value - 1 ≡ i = omega (arith, place) in
-    ap used (ap (slice_get (slice_set xs i y)) same ∙ get_here xs i x y here) ∙ ap (λ b. if b then Some y else None) (ap (λ (v : LiveState). is_used v.usage) e ∙ is)
+-- a transaction doesn't go on where none of its number does at its place
+pub gone_off : (t : TxId) (xs : List LiveState) (i : ℕ) (x y : LiveState) → i + 1 ≡ t.t.value → slice_get xs i ≡ Some x → is_live t y ≡ false → live_at t (slice_set xs i y) ≡ None
+gone_off t xs i x y place here off =
+    let same : t.t.value - 1 ≡ i = omega (arith, place) in
+    ap (live_in t) (ap (slice_get (slice_set xs i y)) same ∙ get_here xs i x y here) ∙ ap (λ b. if b then Some y else None) off
 
--- a number that is used for something else is still at its place
+-- so none does at a place that isn't used
+pub gone_here : (t : TxId) (xs : List LiveState) (i : ℕ) (x y : LiveState) (u : Usage) → i + 1 ≡ t.t.value → slice_get xs i ≡ Some x → y ≡ record x { usage = u } → is_used u ≡ false → live_at t (slice_set xs i y) ≡ None
+gone_here t xs i x y u place here e is = gone_off t xs i x y place here (ap (λ b. b && (number_of y.number == number_of t)) (ap (λ (v : LiveState). is_used v.usage) e ∙ is))
+
+-- a transaction whose place is used for something else is still at it
 pub numbered_used : (xs : List LiveState) (i : ℕ) (x y : LiveState) (u : Usage) → slice_get xs i ≡ Some x → y ≡ record x { usage = u } → AreNumbered xs → AreNumbered (slice_set xs i y)
 numbered_used xs i x y u here e numbered =
     let number : y.number ≡ x.number = ap (λ (v : LiveState). v.number) e in
@@ -53,6 +58,6 @@ over_still : (x : LiveState) (u : Usage) → IsOver (record x { usage = u }) →
 over_still x u o = record { told = o.told; idle = o.idle; unrecorded = o.unrecorded; resolved = o.resolved }
 
 -- so what was left goes on, or was taken off
-pub left_by : (t : TxNo) (x y : LiveState) (new : List LiveState) → y ≡ record x { usage = Left } → (live_at t new ≡ Some y) ⊎ ((live_at t new ≡ None) × IsOver y × (y.usage ≡ Left)) → IsLeft t x new
+pub left_by : (t : TxId) (x y : LiveState) (new : List LiveState) → y ≡ record x { usage = Left } → (live_at t new ≡ Some y) ⊎ ((live_at t new ≡ None) × IsOver y × (y.usage ≡ Left)) → IsLeft t x new
 left_by t x y new is (inl on) = inl (on ∙ ap (λ (v : LiveState). Some v) is)
 left_by t x y new is (inr off) = inr (off.0, over_still x Left (subst (λ (v : LiveState). IsOver v) is off.1))

@@ -5,7 +5,7 @@ use Rattle.dtx_values.specs.declared.entry.Answer.TheVariants.{Wait}
 use Rattle.dtx_values.specs.declared.entry.Entry.TheVariants.{Answered}
 use Rattle.dtx_values.specs.declared.number.CloneNo.{CloneNo}
 use Rattle.dtx_values.specs.declared.number.EnlNo.{EnlNo}
-use Rattle.dtx_values.specs.declared.number.TxNo.{TxNo}
+use Rattle.dtx_values.specs.declared.tx_id.TxId.{TxId}
 use Rattle.dtx_values.specs.declared.words.CloneKind.{CloneKind}
 use Rattle.coordinator_log.specs.State.{LogState}
 use Rattle.transactions.specs.declared.error.TxError.{TxError}
@@ -23,12 +23,12 @@ enlist_leaves faults log k (Ok r) x y made failed = (ap (λ (v : LiveState). v.u
 enlist_leaves faults log k (Err e) x y made failed = (ap (λ (v : LiveState). v.usage) failed, ap (λ (v : LiveState). v.number) failed)
 
 -- what was enlisted at its place
-pub enlisted_at : {D : Type 0} (faults : D → ℕ) (log : LogState D) (t : TxNo) (k : Kind) (z : Result (EnlNo × ℕ × Answer) TxError) (xs ys : List LiveState) (x y : LiveState) → live_at t xs ≡ Some x → live_at t ys ≡ Some y → x.number ≡ t
+pub enlisted_at : {D : Type 0} (faults : D → ℕ) (log : LogState D) (t : TxId) (k : Kind) (z : Result (EnlNo × ℕ × Answer) TxError) (xs ys : List LiveState) (x y : LiveState) → live_at t xs ≡ Some x → live_at t ys ≡ Some y → x.number ≡ t
     → IfOk z (λ r. Enlists faults log k r.0 r.1 r.2 x y) → IfOk z (λ r. EnlistsAt faults log t k r.0 r.1 r.2 xs ys)
 enlisted_at faults log t k (Ok r) xs ys x y was now numbered made = record { before = x; after = y; was = was; now = now; numbered = numbered; enlists = made }
 enlisted_at faults log t k (Err e) xs ys x y was now numbered made = tt
 
-pub not_enlisted_at : {A : Type 0} (t : TxNo) (z : Result A TxError) (xs ys : List LiveState) (x y : LiveState) → live_at t xs ≡ Some x → live_at t ys ≡ Some y → OnErr z (y ≡ record x { enlisted = y.enlisted })
+pub not_enlisted_at : {A : Type 0} (t : TxId) (z : Result A TxError) (xs ys : List LiveState) (x y : LiveState) → live_at t xs ≡ Some x → live_at t ys ≡ Some y → OnErr z (y ≡ record x { enlisted = y.enlisted })
     → OnErr z ((v : LiveState) → live_at t xs ≡ Some v → (w : LiveState) × (live_at t ys ≡ Some w) × (w ≡ record v { enlisted = w.enlisted }))
 not_enlisted_at t (Ok r) xs ys x y was now failed = tt
 not_enlisted_at t (Err e) xs ys x y was now failed = λ v at. (y, now, failed ∙ ap (λ (u : LiveState). record u { enlisted = y.enlisted }) (one_at t xs x v was at))
@@ -40,13 +40,13 @@ clone_leaves faults log k (Ok r) x y made failed = (ap (λ (v : LiveState). v.us
 clone_leaves faults log k (Err e) x y made failed = (ap (λ (v : LiveState). v.usage) failed, ap (λ (v : LiveState). v.number) failed)
 
 -- the clone that was made at its place
-pub cloned_at : {D : Type 0} (faults : D → ℕ) (log : LogState D) (t : TxNo) (k : CloneKind) (z : Result (CloneNo × Answer) TxError) (xs ys : List LiveState) (x y : LiveState) → live_at t xs ≡ Some x → live_at t ys ≡ Some y → x.number ≡ t
+pub cloned_at : {D : Type 0} (faults : D → ℕ) (log : LogState D) (t : TxId) (k : CloneKind) (z : Result (CloneNo × Answer) TxError) (xs ys : List LiveState) (x y : LiveState) → live_at t xs ≡ Some x → live_at t ys ≡ Some y → x.number ≡ t
     → IfOk z (λ r. Clones faults log k r.0 r.1 x y) → IfOk z (λ r. ClonesAt faults log t k r.0 r.1 xs ys)
 cloned_at faults log t k (Ok r) xs ys x y was now numbered made = record { before = x; after = y; was = was; now = now; numbered = numbered; clones = made }
 cloned_at faults log t k (Err e) xs ys x y was now numbered made = tt
 
 -- the answer that came to a call that had to wait
-pub answered_late : (t : TxNo) (line : ℕ) (first : Answer) (z : Result Answer TxError) (xs : List LiveState) → first ≡ Wait
+pub answered_late : (t : TxId) (line : ℕ) (first : Answer) (z : Result Answer TxError) (xs : List LiveState) → first ≡ Wait
     → IfOk z (λ a. (x : LiveState) × (live_at t xs ≡ Some x) × Has (Answered line a) (past x)) → IfOk z (λ a. IsAnswered t line first a xs)
 answered_late t line first (Ok a) xs waits found = inr (waits, found.0, found.1, found.2)
 answered_late t line first (Err e) xs waits found = tt

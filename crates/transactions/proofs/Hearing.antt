@@ -4,7 +4,7 @@ use Rattle.std.specs.List.{cons_option}
 use Rattle.std.proofs.lemmas.List.{drop_more, reverse-reverse}
 use Rattle.std.proofs.lemmas.List.Elements.{filter_map-append}
 use Rattle.dtx_values.specs.declared.entry.Entry.{Entry}
-use Rattle.dtx_values.specs.declared.number.TxNo.{TxNo}
+use Rattle.dtx_values.specs.declared.tx_id.TxId.{TxId}
 use Rattle.dtx_model.specs.Words.{past_of}
 use Rattle.dtx_model.proofs.Pasts.{length-past, past-reverse}
 use Rattle.transactions.specs.declared.event.Event.{Event}
@@ -14,7 +14,7 @@ use Rattle.transactions.specs.Keeping.{IsSound}
 use Rattle.transactions.specs.State.{LiveState, past, unheard}
 
 -- The entries from one place of a list up to another were passed, and they say this.
-pub record Passes (t : TxNo) (from next : ℕ) (items : List Entry) (said : List Event) : Type 0 where
+pub record Passes (t : TxId) (from next : ℕ) (items : List Entry) (said : List Event) : Type 0 where
   pub passed : List Entry
   pub split : drop from items ≡ passed ++ drop next items
   pub says : events t passed ≡ said
@@ -41,11 +41,11 @@ listed-one (Some x) = refl
 listed-one None = refl
 
 -- no entry was passed yet
-pub passes-none : (t : TxNo) (items : List Entry) (x : LiveState) → past_of items ≡ past x → IsSound x → Passes t x.heard x.heard items []
+pub passes-none : (t : TxId) (items : List Entry) (x : LiveState) → past_of items ≡ past x → IsSound x → Passes t x.heard x.heard items []
 passes-none t items x h sound = record { passed = []; split = refl; says = refl; within = within-history items x h sound; onward = omega arith }
 
 -- one more entry was passed, after those that say nothing
-pub passes-on : (t : TxNo) (from next : ℕ) (items : List Entry) (x : Entry) (o : Option Event) → Passes t from next items []
+pub passes-on : (t : TxId) (from next : ℕ) (items : List Entry) (x : Entry) (o : Option Event) → Passes t from next items []
     → next < length items → x ≡ slice_index_or items next x → o ≡ event_of t x → Passes t from (next + 1) items (listed o)
 passes-on t from next items x o p h e said = record {
   passed = p.passed ++ x ∷ [];
@@ -57,7 +57,7 @@ passes-on t from next items x o p h e said = record {
 }
 
 -- one more entry was passed that says nothing
-pub passes-silent : (t : TxNo) (from next : ℕ) (items : List Entry) (x : Entry) (o : Option Event) → is_some o ≡ false → Passes t from next items []
+pub passes-silent : (t : TxId) (from next : ℕ) (items : List Entry) (x : Entry) (o : Option Event) → is_some o ≡ false → Passes t from next items []
     → next < length items → x ≡ slice_index_or items next x → o ≡ event_of t x → Passes t from (next + 1) items []
 passes-silent t from next items x (Some y) none p h e said = absurd cc
 passes-silent t from next items x None none p h e said = passes-on t from next items x None p h e said

@@ -7,6 +7,9 @@ pub mod Sound
 pub mod Waiting
 pub mod Advancing
 pub mod Standing
+pub mod Places
+pub mod Recorded
+pub mod Numbers
 pub mod Calls
 pub mod Nexts
 pub mod Enlisted
@@ -16,6 +19,6 @@ pub mod Untold
 pub mod Committing
 pub mod Ending
 pub mod Beginning
-mod Scoping
+pub mod Scoping
 mod Rolled
 pub mod Turning

@@ -3,7 +3,7 @@ use Rattle.std.proofs.Common.{ℕ, ◌≡◌, ◌∙◌, List, [], ◌∷◌, Op
 use Rattle.dtx_values.specs.declared.entry.Entry.{Entry}
 use Rattle.dtx_values.specs.declared.note.Reply.{Reply}
 use Rattle.dtx_values.specs.declared.number.EnlNo.{EnlNo}
-use Rattle.dtx_values.specs.declared.number.TxNo.{TxNo}
+use Rattle.dtx_values.specs.declared.tx_id.TxId.{TxId}
 use Rattle.dtx_model.specs.Replies.{reply_entries}
 use Rattle.dtx_model.specs.Steps.{Replies}
 use Rattle.dtx_model.specs.Words.{onto}
@@ -24,33 +24,33 @@ next_leaves (Ok e) x y comes stays = (ap (λ (v : LiveState). v.usage) comes.res
 next_leaves (Err e) x y comes stays = (ap (λ (v : LiveState). v.usage) stays.rest, ap (λ (v : LiveState). v.number) stays.rest)
 
 -- two transactions of one number are one
-pub one_at : (t : TxNo) (xs : List LiveState) (x y : LiveState) → live_at t xs ≡ Some x → live_at t xs ≡ Some y → x ≡ y
+pub one_at : (t : TxId) (xs : List LiveState) (x y : LiveState) → live_at t xs ≡ Some x → live_at t xs ≡ Some y → x ≡ y
 one_at t xs x y a b = the_same (sym a ∙ b)
   where
     the_same : Some x ≡ Some y → x ≡ y
     the_same q = cc
 
 -- what came of the transaction at its place
-pub came_at : (t : TxNo) (z : Result (Option Event) TxError) (xs ys : List LiveState) (x y : LiveState) → live_at t xs ≡ Some x → live_at t ys ≡ Some y → IfOk z (λ e. Advances e x y)
+pub came_at : (t : TxId) (z : Result (Option Event) TxError) (xs ys : List LiveState) (x y : LiveState) → live_at t xs ≡ Some x → live_at t ys ≡ Some y → IfOk z (λ e. Advances e x y)
     → IfOk z (λ e. (v : LiveState) → live_at t xs ≡ Some v → (w : LiveState) × (live_at t ys ≡ Some w) × Advances e v w)
 came_at t (Ok e) xs ys x y was now comes = λ v at. (y, now, subst (λ (u : LiveState). Advances e u y) (one_at t xs x v was at) comes)
 came_at t (Err e) xs ys x y was now comes = tt
 
-pub stayed_at : (t : TxNo) (z : Result (Option Event) TxError) (xs ys : List LiveState) (x y : LiveState) → live_at t xs ≡ Some x → live_at t ys ≡ Some y → OnErr z (Advances None x y)
+pub stayed_at : (t : TxId) (z : Result (Option Event) TxError) (xs ys : List LiveState) (x y : LiveState) → live_at t xs ≡ Some x → live_at t ys ≡ Some y → OnErr z (Advances None x y)
     → OnErr z ((v : LiveState) → live_at t xs ≡ Some v → (w : LiveState) × (live_at t ys ≡ Some w) × Advances None v w)
 stayed_at t (Ok e) xs ys x y was now stays = tt
 stayed_at t (Err e) xs ys x y was now stays = λ v at. (y, now, subst (λ (u : LiveState). Advances None u y) (one_at t xs x v was at) stays)
 
-pub all_at : (t : TxNo) (ys : List LiveState) (y : LiveState) → live_at t ys ≡ Some y → (y.heard ≡ length (past y)) × AllAsked y.tx.world → (w : LiveState) → live_at t ys ≡ Some w → (w.heard ≡ length (past w)) × AllAsked w.tx.world
+pub all_at : (t : TxId) (ys : List LiveState) (y : LiveState) → live_at t ys ≡ Some y → (y.heard ≡ length (past y)) × AllAsked y.tx.world → (w : LiveState) → live_at t ys ≡ Some w → (w.heard ≡ length (past w)) × AllAsked w.tx.world
 all_at t ys y now all w at = subst (λ (u : LiveState). (u.heard ≡ length (past u)) × AllAsked u.tx.world) (one_at t ys y w now at) all
 
 -- what is so of the transaction at its place is so of each of that number
-pub so_at : {A E : Type 0} (P : A → LiveState → Type 0) (t : TxNo) (xs : List LiveState) (x : LiveState) (z : Result A E) → live_at t xs ≡ Some x → IfOk z (λ b. P b x) → IfOk z (λ b. (v : LiveState) → live_at t xs ≡ Some v → P b v)
+pub so_at : {A E : Type 0} (P : A → LiveState → Type 0) (t : TxId) (xs : List LiveState) (x : LiveState) (z : Result A E) → live_at t xs ≡ Some x → IfOk z (λ b. P b x) → IfOk z (λ b. (v : LiveState) → live_at t xs ≡ Some v → P b v)
 so_at P t xs x (Ok b) was so = λ v at. subst (P b) (one_at t xs x v was at) so
 so_at P t xs x (Err e) was so = tt
 
 -- a reply that was done at its place
-pub replied_at : {D : Type 0} (faults : D → ℕ) (log : LogState D) (t : TxNo) (e : EnlNo) (r : Reply) (xs ys : List LiveState) (x y : LiveState) → live_at t xs ≡ Some x → live_at t ys ≡ Some y
+pub replied_at : {D : Type 0} (faults : D → ℕ) (log : LogState D) (t : TxId) (e : EnlNo) (r : Reply) (xs ys : List LiveState) (x y : LiveState) → live_at t xs ≡ Some x → live_at t ys ≡ Some y
     → Does faults (Replies e r) x.tx log y.tx log → Writes ((e, r) ∷ []) x y → y ≡ record x { tx = y.tx } → (v : LiveState) → live_at t xs ≡ Some v
     → (w : LiveState) × (live_at t ys ≡ Some w) × Writes ((e, r) ∷ []) v w × (w ≡ record v { tx = w.tx }) × (es : List Entry) × (past w ≡ onto (onto (past v) (reply_entries (half v.tx.world) e r)) es)
 replied_at faults log t e r xs ys x y was now did writes rest v at =

@@ -3,6 +3,7 @@ use Rattle.std.proofs.Common.{ℕ, zero, suc, ◌≡◌, ◌≢◌, ◌<◌, ◌
 use Rattle.std.proofs.lemmas.Bool.Decides.{nat_tests}
 use Rattle.dtx_values.specs.declared.number.ScopeNo.{ScopeNo}
 use Rattle.dtx_values.specs.declared.number.TxNo.{TxNo}
+use Rattle.dtx_values.specs.declared.tx_id.TxId.{TxId}
 use Rattle.dtx_values.specs.declared.scope.OpenScope.{OpenScope}
 use Rattle.dtx_model.specs.Scopes.{is_scope}
 use Rattle.dtx_model.specs.Words.{has}
@@ -32,9 +33,9 @@ not_among p [] i x less none = absurd (omega arith)
 not_among p (y ∷ xs) zero x less none = or_first (p y) (has p xs) none
 not_among p (y ∷ xs) (suc i) x less none = not_among p xs i x (omega arith) (or_second (p y) (has p xs) none)
 
--- a number that is none of these isn't the one at a place
-pub other_than : (u : TxNo) (xs : List TxNo) (i : ℕ) (x : TxNo) → i < length xs → x ≡ get_or xs i x → has (λ t. u.value == t.value) xs ≡ false → u ≢ x
-other_than u xs i x less here none = λ same.
-    let off : (u.value == x.value) ≡ false = ap (λ (t : TxNo). u.value == t.value) here ∙ not_among (λ t. u.value == t.value) xs i x less none in
-    let on : u.value ≡ x.value = ap (λ (t : TxNo). t.value) same in
+-- a transaction whose place is none of these isn't one with a place among them
+pub other_than : (u t : TxId) (xs : List TxNo) (i : ℕ) (p : TxNo) → t.t ≡ p → i < length xs → p ≡ get_or xs i p → has (λ q. u.t.value == q.value) xs ≡ false → u ≢ t
+other_than u t xs i p place less here none = λ same.
+    let off : (u.t.value == p.value) ≡ false = ap (λ (q : TxNo). u.t.value == q.value) here ∙ not_among (λ q. u.t.value == q.value) xs i p less none in
+    let on : u.t.value ≡ p.value = ap (λ (v : TxId). v.t.value) same ∙ ap (λ (q : TxNo). q.value) place in
     grind (arith, nat_tests)

@@ -1,5 +1,6 @@
 -- A step keeps what holds of a transaction, and writes what the step writes.
 use Rattle.std.proofs.Common.{◌≡◌, ◌≤◌, ◌+◌, ℕ, Bool, true, false, ◌&&◌, not, List, [], ◌∷◌, Option, Some, None, Result, Ok, length, refl, ap, sym, subst, ◌∙◌, arith, nat_le}
+use Rattle.dtx_values.specs.TxIds.{number_of}
 use Rattle.std.proofs.lemmas.Bool.Decides.{nat_tests}
 use Rattle.dtx_values.specs.declared.call.Call.{Call}
 use Rattle.dtx_values.specs.declared.entry.Entry.{Entry}
@@ -32,28 +33,28 @@ use Rattle.transactions.proofs.Stepping.{each_said, given_by, length_onto, still
 -- This step was done in a transaction, where this says whether the log is up.
 pub record Stepped (up : Bool) (m : Step) (x y : LiveState) : Type 0 where
   pub transaction : y.tx.transaction ≡ x.tx.transaction
-  pub world : y.tx.world ≡ turned up x.tx.transaction.value x.tx.world m
+  pub world : y.tx.world ≡ turned up (number_of x.tx.transaction) x.tx.world m
   pub onward : is_restarting m ≡ false
 
 -- what it wrote
-pub grown : (up : Bool) (m : Step) (x y : LiveState) → Stepped up m x y → past y ≡ onto (past x) (written up x.tx.transaction.value x.tx.world m)
-grown up m x y s = ap (λ (w : World). w.past) s.world ∙ turned_onto up x.tx.transaction.value x.tx.world m
+pub grown : (up : Bool) (m : Step) (x y : LiveState) → Stepped up m x y → past y ≡ onto (past x) (written up (number_of x.tx.transaction) x.tx.world m)
+grown up m x y s = ap (λ (w : World). w.past) s.world ∙ turned_onto up (number_of x.tx.transaction) x.tx.world m
 
 pub writes_step : (up : Bool) (m : Step) (x y : LiveState) → Stepped up m x y → Writes (given_by m) x y
 writes_step up m x y s =
-    record { written = written up x.tx.transaction.value x.tx.world m; grown = grown up m x y s; said = each_said up x.tx.transaction.value x.tx.world m }
+    record { written = written up (number_of x.tx.transaction) x.tx.world m; grown = grown up m x y s; said = each_said up (number_of x.tx.transaction) x.tx.world m }
 
 -- the calls after it
 pub calls_after : (up : Bool) (m : Step) (x y : LiveState) → Stepped up m x y → y.tx.world.calls ≡ entered m x.tx.world.calls
-calls_after up m x y s = ap (λ (w : World). w.calls) s.world ∙ sym (ap (λ (w : World). w.calls) (turned_past x.tx.transaction.value x.tx.world m up))
+calls_after up m x y s = ap (λ (w : World). w.calls) s.world ∙ sym (ap (λ (w : World). w.calls) (turned_past (number_of x.tx.transaction) x.tx.world m up))
 
 -- What holds of the transaction holds after it, where its calls are counted then.
 pub sound_step : (up : Bool) (m : Step) (x y : LiveState) → Stepped up m x y → y.number ≡ x.number → y.heard ≡ x.heard → each (is_counted y.lines y.enlisted y.cloned) y.tx.world.calls ≡ true → IsSound x → IsSound y
 sound_step up m x y s number heard counted sound =
-    let longer = length_onto (past x) (written up x.tx.transaction.value x.tx.world m) in
+    let longer = length_onto (past x) (written up (number_of x.tx.transaction) x.tx.world m) in
     record {
       own = s.transaction ∙ (sound.own ∙ sym number);
-      unrestarted = ap (λ (w : World). has is_restart w.past) s.world ∙ still_unrestarted up x.tx.transaction.value x.tx.world m s.onward sound.unrestarted;
+      unrestarted = ap (λ (w : World). has is_restart w.past) s.world ∙ still_unrestarted up (number_of x.tx.transaction) x.tx.world m s.onward sound.unrestarted;
       within = subst (λ h. h ≤ length (past y)) (sym heard) (subst (λ h. x.heard ≤ length h) (sym (grown up m x y s)) (let w = sound.within in omega arith));
       counted = counted;
     }
@@ -143,7 +144,7 @@ pub replied_onto : {D : Type 0} (faults : D → ℕ) (log : LogState D) (e : Enl
     → (es : List Entry) × (tx.world.past ≡ onto (onto (past x) (reply_entries (half x.tx.world) e r)) es)
 unfolding block_at
 replied_onto faults log e r x tx did =
-    let t = x.tx.transaction.value in
+    let t = (number_of x.tx.transaction) in
     let w = x.tx.world in
     let rest = stop_after (sends_begin t w (Replies e r) && not log.is_up) in
     (rest, ap (λ (v : World). v.past) did.world ∙ (turned_onto log.is_up t w (Replies e r) ∙ onto-append (past x) (block_at t w (Replies e r)) rest))

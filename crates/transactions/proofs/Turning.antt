@@ -1,16 +1,17 @@
 -- The time of a transaction goes on at its place, and the objects hear what came of it.
 use Rattle.std.proofs.Common.{ℕ, zero, suc, Bool, true, false, ◌≡◌, ◌≢◌, ◌≤◌, ◌<◌, ◌+◌, ◌-◌, ◌^◌, ◌⊎◌, ◌∙◌, List, [], ◌∷◌, length, Some, None, Result, Ok, Err, IfErr, OnOk, OnErr, slice_get, refl, ap, arith, subst, sym, inl, inr}
 use Rattle.dtx_values.specs.declared.number.TxNo.{TxNo}
+use Rattle.dtx_values.specs.declared.tx_id.TxId.{TxId}
 use Rattle.dtx_values.specs.declared.entry.Answer.TheVariants.{NoSuch}
 use Rattle.coordinator_log.specs.State.{LogState}
 use Rattle.transactions.specs.declared.error.TxError.{TxError}
-use Rattle.transactions.specs.declared.error.TxError.TheVariants.{Memory, Many, Refused, Waits}
+use Rattle.transactions.specs.declared.error.TxError.TheVariants.{LogFull, LogStopped, Memory, Many, NoEpoch, Refused, Waits}
 use Rattle.transactions.specs.Calling.{Ticks, TicksUnless}
 use Rattle.transactions.specs.declared.usage.Usage.TheVariants.{Left}
 use Rattle.transactions.specs.Doing.{HeardAt}
 use Rattle.transactions.specs.Ending.{IsOver}
 use Rattle.transactions.specs.Keeping.{AreNumbered}
-use Rattle.transactions.specs.Slots.{AreSame, KeepsTime, Standing, live_at}
+use Rattle.transactions.specs.Slots.{AreSame, KeepsTime, Standing, live_at, standing_at}
 use Rattle.transactions.specs.State.{LiveState, past}
 use Rattle.transactions.specs.Turning.{PassedAt, Stopped, StoppedAfter, TickFails, Turned, TurnedUpTo}
 use Rattle.transactions.specs.Waiting.{AllAsked}
@@ -28,13 +29,13 @@ pass_used faults log now (Ok r) x y ticked same = ticks_used _ faults log now x 
 pass_used faults log now (Err e) x y ticked same = ap (λ (v : LiveState). v.usage) same
 
 -- the time of the transaction at its place went on
-pub passed_at : {A D : Type 0} (faults : D → ℕ) (log : LogState D) (now : ℕ) (t : TxNo) (z : Result A TxError) (xs ys : List LiveState) (x y : LiveState) → live_at t xs ≡ Some x → live_at t ys ≡ Some y
+pub passed_at : {A D : Type 0} (faults : D → ℕ) (log : LogState D) (now : ℕ) (t : TxId) (z : Result A TxError) (xs ys : List LiveState) (x y : LiveState) → live_at t xs ≡ Some x → live_at t ys ≡ Some y
     → OnOk z (Ticks faults log now x y) → OnOk z (PassedAt faults log now t xs ys)
 passed_at faults log now t (Ok r) xs ys x y was is ticked = λ v at. (y, is, subst (λ (u : LiveState). Ticks faults log now u y) (one_at t xs x v was at) ticked)
 passed_at faults log now t (Err e) xs ys x y was is ticked = tt
 
 -- why it didn't
-pub tick_fails : {A : Type 0} (t : TxNo) (z : Result A TxError) (xs : List LiveState) (x : LiveState)
+pub tick_fails : {A : Type 0} (t : TxId) (z : Result A TxError) (xs : List LiveState) (x : LiveState)
     → live_at t xs ≡ Some x → IfErr z (λ e. e ≢ Memory → (e ≡ Many) × (x.lines ≡ 2 ^ 32 - 1)) → IfErr z (TickFails t xs)
 tick_fails t (Ok r) xs x was cause = tt
 tick_fails t (Err Memory) xs x was cause = inl refl
@@ -49,6 +50,27 @@ tick_fails t (Err Waits) xs x was cause = absurd (other (cause (λ q. never q)).
 
     other : Waits ≡ Many → ⊥
     other q = cc
+tick_fails t (Err LogFull) xs x was cause = absurd (other (cause (λ q. never q)).0)
+  where
+    never : LogFull ≡ Memory → ⊥
+    never q = cc
+
+    other : LogFull ≡ Many → ⊥
+    other q = cc
+tick_fails t (Err LogStopped) xs x was cause = absurd (other (cause (λ q. never q)).0)
+  where
+    never : LogStopped ≡ Memory → ⊥
+    never q = cc
+
+    other : LogStopped ≡ Many → ⊥
+    other q = cc
+tick_fails t (Err NoEpoch) xs x was cause = absurd (other (cause (λ q. never q)).0)
+  where
+    never : NoEpoch ≡ Memory → ⊥
+    never q = cc
+
+    other : NoEpoch ≡ Many → ⊥
+    other q = cc
 tick_fails t (Err (Refused a)) xs x was cause = absurd (other (cause (λ q. never q)).0)
   where
     never : Refused a ≡ Memory → ⊥
@@ -58,7 +80,7 @@ tick_fails t (Err (Refused a)) xs x was cause = absurd (other (cause (λ q. neve
     other q = cc
 
 -- where its time went on it goes on, so that its objects hear what came of it but for memory
-pub drive_fails : {D : Type 0} (faults : D → ℕ) (log : LogState D) (now : ℕ) (t : TxNo) (xs ys : List LiveState) (e : TxError) (x : LiveState) → live_at t xs ≡ Some x → PassedAt faults log now t xs ys
+pub drive_fails : {D : Type 0} (faults : D → ℕ) (log : LogState D) (now : ℕ) (t : TxId) (xs ys : List LiveState) (e : TxError) (x : LiveState) → live_at t xs ≡ Some x → PassedAt faults log now t xs ys
     → (e ≡ Memory) ⊎ ((e ≡ Refused NoSuch) × (live_at t ys ≡ None)) → TickFails t xs e
 drive_fails faults log now t xs ys e x was passed (inl out) = inl out
 drive_fails faults log now t xs ys e x was passed (inr none) = let y = passed x was in absurd (never y.0 (sym y.1 ∙ none.1))
@@ -67,12 +89,12 @@ drive_fails faults log now t xs ys e x was passed (inr none) = let y = passed x 
     never v q = cc
 
 -- why a turn fails, in short
-pub turn_fails : (t : TxNo) (xs : List LiveState) (e : TxError) → TickFails t xs e → (e ≡ Memory) ⊎ (e ≡ Many)
+pub turn_fails : (t : TxId) (xs : List LiveState) (e : TxError) → TickFails t xs e → (e ≡ Memory) ⊎ (e ≡ Many)
 turn_fails t xs e (inl out) = inl out
 turn_fails t xs e (inr many) = inr many.0
 
 -- its time went on, its objects heard what came of it, and it goes on or was taken off: it had its turn
-pub turned_by : {D C O : Type 0} (faults : D → ℕ) (gives : Gives O) (t : TxNo) (old mid on new : Standing D C) (a b : O) (x : LiveState) → live_at t old.lives ≡ Some x
+pub turned_by : {D C O : Type 0} (faults : D → ℕ) (gives : Gives O) (t : TxId) (old mid on new : Standing D C) (a b : O) (x : LiveState) → live_at t old.lives ≡ Some x
     → PassedAt faults old.log old.reading t old.lives mid.lives → HeardAt gives [] t mid.lives on.lives a b
     → ((z : LiveState) → live_at t on.lives ≡ Some z → (z.heard ≡ length (past z)) × AllAsked z.tx.world)
     → ((z : LiveState) → live_at t on.lives ≡ Some z → (live_at t new.lives ≡ Some z) ⊎ ((live_at t new.lives ≡ None) × IsOver z × (z.usage ≡ Left))) → Turned faults gives t old new a b
@@ -83,12 +105,12 @@ turned_by faults gives t old mid on new a b x was passed heard all ended =
     never q = cc
 
 -- its time didn't go on, and it is as it was
-pub stopped_before : {D C O : Type 0} (faults : D → ℕ) (gives : Gives O) (t : TxNo) (old new : Standing D C) (a : O) (x : LiveState) → live_at t old.lives ≡ Some x
+pub stopped_before : {D C O : Type 0} (faults : D → ℕ) (gives : Gives O) (t : TxId) (old new : Standing D C) (a : O) (x : LiveState) → live_at t old.lives ≡ Some x
     → live_at t new.lives ≡ live_at t old.lives → Stopped faults gives t old new a a
 stopped_before faults gives t old new a x was same = (x, was, inl (same ∙ was, refl))
 
 -- its time went on, and its objects heard a part of what came of it
-pub stopped_within : {D C O : Type 0} (faults : D → ℕ) (gives : Gives O) (t : TxNo) (old mid new : Standing D C) (a b : O) (x : LiveState) → live_at t old.lives ≡ Some x
+pub stopped_within : {D C O : Type 0} (faults : D → ℕ) (gives : Gives O) (t : TxId) (old mid new : Standing D C) (a b : O) (x : LiveState) → live_at t old.lives ≡ Some x
     → PassedAt faults old.log old.reading t old.lives mid.lives → HeardAt gives [] t mid.lives new.lives a b → Stopped faults gives t old new a b
 stopped_within faults gives t old mid new a b x was passed heard =
     let y = passed x was in
@@ -103,19 +125,22 @@ turned_from {D} {C} faults gives n old mid new a m time up =
     (subst (λ (k : C). TurnedUpTo faults gives n (record old { clock = k; reading = mid.reading }) mid a m) (sym time.0) up)
 
 -- and then the next one had its turn
-pub turned_next : {D C O : Type 0} (faults : D → ℕ) (gives : Gives O) (n : ℕ) (t : TxNo) (old mid new : Standing D C) (a m b : O) → t.value ≡ n + 1
+pub turned_next : {D C O : Type 0} (faults : D → ℕ) (gives : Gives O) (n : ℕ) (p : TxNo) (t : TxId) (old mid new : Standing D C) (a m b : O) → p.value ≡ n + 1 → t ≡ standing_at p mid.lives
     → TurnedUpTo faults gives n (record old { clock = mid.clock; reading = mid.reading }) mid a m → Turned faults gives t mid new m b → AreSame t mid.lives new.lives → KeepsTime mid new
     → TurnedUpTo faults gives (n + 1) (record old { clock = new.clock; reading = new.reading }) new a b
-turned_next faults gives n t old mid new a m b number up turned same time =
+turned_next faults gives n p t old mid new a m b number at up turned same time =
+    let so = subst (λ (u : TxId). Turned faults gives u mid new m b × AreSame u mid.lives new.lives) at (turned, same) in
     let next : suc n ≡ n + 1 = omega arith in
     subst (λ (k : ℕ). TurnedUpTo faults gives k (record old { clock = new.clock; reading = new.reading }) new a b) next
-    (t, mid, m, number, turned_from faults gives n old mid new a m time up, turned, same, time)
+    (p, mid, m, number, turned_from faults gives n old mid new a m time up, so.0, so.1, time)
 
 -- or its turn failed
-pub stopped_next : {D C O : Type 0} (faults : D → ℕ) (gives : Gives O) (n : ℕ) (t : TxNo) (old mid new : Standing D C) (a m b : O) → t.value ≡ n + 1
+pub stopped_next : {D C O : Type 0} (faults : D → ℕ) (gives : Gives O) (n : ℕ) (p : TxNo) (t : TxId) (old mid new : Standing D C) (a m b : O) → p.value ≡ n + 1 → t ≡ standing_at p mid.lives
     → TurnedUpTo faults gives n (record old { clock = mid.clock; reading = mid.reading }) mid a m → Stopped faults gives t mid new m b → AreSame t mid.lives new.lives → KeepsTime mid new
     → StoppedAfter faults gives (record old { clock = new.clock; reading = new.reading }) new a b
-stopped_next faults gives n t old mid new a m b number up stopped same time = (n, t, mid, m, number, turned_from faults gives n old mid new a m time up, stopped, same, time)
+stopped_next faults gives n p t old mid new a m b number at up stopped same time =
+    let so = subst (λ (u : TxId). Stopped faults gives u mid new m b × AreSame u mid.lives new.lives) at (stopped, same) in
+    (n, p, mid, m, number, turned_from faults gives n old mid new a m time up, so.0, so.1, time)
 
 -- a place within a list has an item
 get_within : {A : Type 0} (xs : List A) (i : ℕ) → i < length xs → (x : A) × (slice_get xs i ≡ Some x)
@@ -123,10 +148,10 @@ get_within [] i low = absurd (omega (arith, low))
 get_within (x ∷ xs) zero low = (x, refl)
 get_within (x ∷ xs) (suc i) low = get_within xs i (omega (arith, low))
 
--- each place of a manager is within the numbers of transactions
+-- each place of a manager is within the numbers of transactions in an epoch
 pub numbers_within : (xs : List LiveState) (i : ℕ) → AreNumbered xs → i < length xs → i + 1 ≤ 256
 numbers_within xs i numbered low =
     let x = get_within xs i low in
     let place = (numbered i x.0 x.1).0 in
-    let high = x.0.number.in_range.1 in
+    let high = x.0.number.t.in_range.1 in
     omega (arith, place, high)

@@ -1,5 +1,6 @@
 -- A transaction whose commit was asked for, and whose client wasn't told.
 use Rattle.std.proofs.Common.{ℕ, Bool, true, false, ◌≡◌, ◌∙◌, ◌||◌, ◌&&◌, not, List, [], ◌∷◌, Option, None, is_some, refl, ap, subst, sym}
+use Rattle.dtx_values.specs.TxIds.{number_of}
 use Rattle.std.proofs.lemmas.Bool.{or_left}
 use Rattle.std.proofs.lemmas.List.Folds.{list_any-append}
 use Rattle.dtx_values.specs.declared.call.Call.TheVariants.{Commit}
@@ -69,7 +70,7 @@ commit_block t w n a u x is facts =
 pub commit_asked : {D : Type 0} (faults : D → ℕ) (log : LogState D) (u : TxNo) (line : ℕ) (answer : Answer) (x y : LiveState) → IsCalled faults log (Commit u) line answer x y
     → is_done answer ≡ true → has is_commit (past y) ≡ true
 commit_asked faults log u line answer x y k done =
-    let t = x.tx.transaction.value in
+    let t = (number_of x.tx.transaction) in
     let w = x.tx.world in
     let m = Calls line k.actor (Commit u) 0 in
     let es = written log.is_up t w m in

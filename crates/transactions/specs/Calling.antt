@@ -1,5 +1,6 @@
 -- What a call makes of one transaction.
 use Rattle.std.specs.Prelude.{ℕ, ◌≡◌, ◌+◌, ◌-◌, ◌==◌, ◌||◌, Bool, true, false, min, is_some}
+use Rattle.dtx_values.specs.TxIds.{number_of}
 use Rattle.dtx_values.specs.declared.call.Call.{Call}
 use Rattle.dtx_values.specs.declared.call.Call.TheVariants.{Tick}
 use Rattle.dtx_values.specs.declared.entry.Answer.{Answer}
@@ -14,7 +15,7 @@ use Rattle.transactions.specs.State.{LiveState}
 pub record IsCalled {D : Type 0} (faults : D → ℕ) (log : LogState D) (c : Call) (line : ℕ) (answer : Answer) (old new : LiveState) : Type 0 where
   pub actor : ActorNo
   pub done : Does faults (Calls line actor c 0) old.tx log new.tx log
-  pub answered : answer ≡ answer_at old.tx.transaction.value old.tx.world c 0
+  pub answered : answer ≡ answer_at (number_of old.tx.transaction) old.tx.world c 0
   pub line_is : line ≡ old.lines + 1
   pub rest : new ≡ record old { tx = new.tx; lines = line }
 
@@ -26,7 +27,7 @@ passed time now = min (now - time) 1000000000
 abbrev pub TicksUnless : Bool → {D : Type 0} → (D → ℕ) → LogState D → ℕ → LiveState → LiveState → Type 0
 TicksUnless true faults log now old new = new ≡ old
 TicksUnless false faults log now old new =
-    (line : ℕ) × (answer : Answer) × (mid : LiveState) × IsCalled faults log (Tick old.number (passed old.time now)) line answer old mid
+    (line : ℕ) × (answer : Answer) × (mid : LiveState) × IsCalled faults log (Tick old.number.t (passed old.time now)) line answer old mid
     × (new ≡ record mid { time = old.time + passed old.time now })
 
 -- The time of a transaction went on to this reading of the clock, unless no time passed, or it is decided.

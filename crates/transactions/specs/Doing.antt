@@ -5,7 +5,7 @@ use Rattle.dtx_values.specs.declared.entry.Answer.{Answer}
 use Rattle.dtx_values.specs.declared.entry.Answer.TheVariants.{NoSuch}
 use Rattle.dtx_values.specs.declared.note.Note.{Note}
 use Rattle.dtx_values.specs.declared.note.Reply.{Reply}
-use Rattle.dtx_values.specs.declared.number.TxNo.{TxNo}
+use Rattle.dtx_values.specs.declared.tx_id.TxId.{TxId}
 use Rattle.dtx_model.specs.Facts.{has_facts}
 use Rattle.coordinator_log.specs.State.{LogState}
 use Rattle.transactions.specs.declared.error.TxError.{TxError}
@@ -21,7 +21,7 @@ abbrev pub is_done : Answer → Bool
 is_done answer = has_facts answer
 
 -- The call was entered in the transaction of this number, on this line, and answered so.
-pub record CallsAt {D : Type 0} (faults : D → ℕ) (log : LogState D) (t : TxNo) (c : Call) (line : ℕ) (answer : Answer) (old new : List LiveState) : Type 0 where
+pub record CallsAt {D : Type 0} (faults : D → ℕ) (log : LogState D) (t : TxId) (c : Call) (line : ℕ) (answer : Answer) (old new : List LiveState) : Type 0 where
   pub before : LiveState
   pub after : LiveState
   pub was : live_at t old ≡ Some before
@@ -29,26 +29,26 @@ pub record CallsAt {D : Type 0} (faults : D → ℕ) (log : LogState D) (t : TxN
   pub called : IsCalled faults log c line answer before after
 
 -- Where a transaction of this number goes on, its objects heard what came of it.
-abbrev pub HeardAt : {O : Type 0} → (O → Enlistment → Note → Option Reply → O → Type 0) → List Given → TxNo → List LiveState → List LiveState → O → O → Type 0
+abbrev pub HeardAt : {O : Type 0} → (O → Enlistment → Note → Option Reply → O → Type 0) → List Given → TxId → List LiveState → List LiveState → O → O → Type 0
 HeardAt gives given t old new a b = (x : LiveState) → live_at t old ≡ Some x → (z : LiveState) × (live_at t new ≡ Some z) × IsHeard gives given x z a b
 
 -- the call was entered on some line, and was done or waits
-abbrev pub Called : {D : Type 0} → (D → ℕ) → LogState D → TxNo → Call → List LiveState → List LiveState → Type 0
+abbrev pub Called : {D : Type 0} → (D → ℕ) → LogState D → TxId → Call → List LiveState → List LiveState → Type 0
 Called faults log t c old new = (line : ℕ) × (answer : Answer) × CallsAt faults log t c line answer old new × (is_done answer ≡ true)
 
 -- the call was entered on some line, and was refused with this answer
-abbrev pub IsRefused : {D : Type 0} → (D → ℕ) → LogState D → TxNo → Call → Answer → List LiveState → List LiveState → Type 0
+abbrev pub IsRefused : {D : Type 0} → (D → ℕ) → LogState D → TxId → Call → Answer → List LiveState → List LiveState → Type 0
 IsRefused faults log t c answer old new = (line : ℕ) × CallsAt faults log t c line answer old new × (is_done answer ≡ false)
 
 -- Why a call of a transaction isn't entered: memory ran out; no transaction of this number goes on; or all numbers of lines are used.
-abbrev pub MayFail : TxNo → List LiveState → TxError → Type 0
+abbrev pub MayFail : TxId → List LiveState → TxError → Type 0
 MayFail t old e = (e ≡ Memory) ⊎ ((e ≡ Refused NoSuch) × (live_at t old ≡ None)) ⊎ ((e ≡ Many) × (x : LiveState) × (live_at t old ≡ Some x) × (x.lines ≡ 2 ^ 32 - 1))
 
 -- What a call without objects comes to: it was done or waits; or it was refused, with the answer that is given; or it wasn't entered.
-abbrev pub Enters : {A D : Type 0} → (D → ℕ) → LogState D → TxNo → Call → List LiveState → List LiveState → Result A TxError → Type 0
+abbrev pub Enters : {A D : Type 0} → (D → ℕ) → LogState D → TxId → Call → List LiveState → List LiveState → Result A TxError → Type 0
 Enters faults log t c old new (Ok x) = Called faults log t c old new
 Enters faults log t c old new (Err e) = (MayFail t old e × (live_at t new ≡ live_at t old)) ⊎ ((answer : Answer) × (e ≡ Refused answer) × IsRefused faults log t c answer old new)
 
 -- The call was done or waits, and the objects heard what came of it.
-abbrev pub Goes : {D O : Type 0} → (D → ℕ) → LogState D → (O → Enlistment → Note → Option Reply → O → Type 0) → TxNo → Call → List LiveState → List LiveState → O → O → Type 0
+abbrev pub Goes : {D O : Type 0} → (D → ℕ) → LogState D → (O → Enlistment → Note → Option Reply → O → Type 0) → TxId → Call → List LiveState → List LiveState → O → O → Type 0
 Goes faults log gives t c old new a b = (mid : List LiveState) × Called faults log t c old mid × HeardAt gives [] t mid new a b

@@ -8,6 +8,7 @@ use Rattle.dtx_values.specs.declared.entry.Entry.TheVariants.{Answered}
 use Rattle.dtx_values.specs.declared.number.CloneNo.{CloneNo}
 use Rattle.dtx_values.specs.declared.number.EnlNo.{EnlNo}
 use Rattle.dtx_values.specs.declared.number.TxNo.{TxNo}
+use Rattle.dtx_values.specs.declared.tx_id.TxId.{TxId}
 use Rattle.dtx_values.specs.declared.script.Support.TheVariants.{SinglePhase, TwoPhase}
 use Rattle.dtx_values.specs.declared.words.CloneKind.{CloneKind}
 use Rattle.dtx_values.specs.declared.words.Outcome.TheVariants.{Committed}
@@ -34,10 +35,10 @@ enlists t e (Promotable r) = PromotableCall t e r (Some Yes) (Some Committed) (S
 -- The call was entered that enlists it under the next number.
 pub record Enlists {D : Type 0} (faults : D → ℕ) (log : LogState D) (k : Kind) (e : EnlNo) (line : ℕ) (answer : Answer) (old new : LiveState) : Type 0 where
   pub next : e.value ≡ old.enlisted + 1
-  pub called : IsCalled faults log (enlists old.number e k) line answer (record old { enlisted = e.value }) new
+  pub called : IsCalled faults log (enlists old.number.t e k) line answer (record old { enlisted = e.value }) new
 
 -- So it was in the transaction of this number.
-pub record EnlistsAt {D : Type 0} (faults : D → ℕ) (log : LogState D) (t : TxNo) (k : Kind) (e : EnlNo) (line : ℕ) (answer : Answer) (old new : List LiveState) : Type 0 where
+pub record EnlistsAt {D : Type 0} (faults : D → ℕ) (log : LogState D) (t : TxId) (k : Kind) (e : EnlNo) (line : ℕ) (answer : Answer) (old new : List LiveState) : Type 0 where
   pub before : LiveState
   pub after : LiveState
   pub was : live_at t old ≡ Some before
@@ -49,10 +50,10 @@ pub record EnlistsAt {D : Type 0} (faults : D → ℕ) (log : LogState D) (t : T
 pub record Clones {D : Type 0} (faults : D → ℕ) (log : LogState D) (k : CloneKind) (c : CloneNo) (answer : Answer) (old new : LiveState) : Type 0 where
   pub line : ℕ
   pub next : c.value ≡ old.cloned + 1
-  pub called : IsCalled faults log (CloneCall old.number c k) line answer (record old { cloned = c.value }) new
+  pub called : IsCalled faults log (CloneCall old.number.t c k) line answer (record old { cloned = c.value }) new
 
 -- So it was in the transaction of this number.
-pub record ClonesAt {D : Type 0} (faults : D → ℕ) (log : LogState D) (t : TxNo) (k : CloneKind) (c : CloneNo) (answer : Answer) (old new : List LiveState) : Type 0 where
+pub record ClonesAt {D : Type 0} (faults : D → ℕ) (log : LogState D) (t : TxId) (k : CloneKind) (c : CloneNo) (answer : Answer) (old new : List LiveState) : Type 0 where
   pub before : LiveState
   pub after : LiveState
   pub was : live_at t old ≡ Some before
@@ -61,10 +62,10 @@ pub record ClonesAt {D : Type 0} (faults : D → ℕ) (log : LogState D) (t : Tx
   pub clones : Clones faults log k c answer before after
 
 -- The call of this line was answered so: at once, or where it had to wait, by an entry of the history.
-abbrev pub IsAnswered : TxNo → ℕ → Answer → Answer → List LiveState → Type 0
+abbrev pub IsAnswered : TxId → ℕ → Answer → Answer → List LiveState → Type 0
 IsAnswered t line first answer new = (first ≡ answer) ⊎ ((first ≡ Wait) × (z : LiveState) × (live_at t new ≡ Some z) × Has (Answered line answer) (past z))
 
 -- A promotable enlistment was made under this number, where the answer says so; none was, where the answer is that another resource is enlisted.
-abbrev pub IsTaken : TxNo → EnlNo → Answer → Option Enlistment → Type 0
+abbrev pub IsTaken : TxId → EnlNo → Answer → Option Enlistment → Type 0
 IsTaken t e answer (Some x) = (x ≡ enlistment t e) × (is_done answer ≡ true)
 IsTaken t e answer None = answer ≡ False

@@ -7,7 +7,7 @@ use Rattle.dtx_values.specs.declared.entry.Party.TheVariants.{Client, Enl}
 use Rattle.dtx_values.specs.declared.note.Note.{Note}
 use Rattle.dtx_values.specs.declared.note.Note.TheVariants.{Init, Prepare, Promote, Hand, Single, Commit, Rollback, InDoubt as InDoubtNote}
 use Rattle.dtx_values.specs.declared.number.EnlNo.{EnlNo}
-use Rattle.dtx_values.specs.declared.number.TxNo.{TxNo}
+use Rattle.dtx_values.specs.declared.tx_id.TxId.{TxId}
 use Rattle.dtx_values.specs.declared.words.Outcome.{Outcome}
 use Rattle.dtx_values.specs.declared.words.Outcome.TheVariants.{Committed, Aborted, InDoubt}
 use Rattle.transactions.specs.declared.event.Event.{Event}
@@ -15,7 +15,7 @@ use Rattle.transactions.specs.declared.event.Event.TheVariants.{Asked, Told, Don
 use Rattle.transactions.specs.declared.handle.Enlistment.{Enlistment}
 
 -- the enlistment of transaction t that has this number there
-abbrev pub enlistment : TxNo → EnlNo → Enlistment
+abbrev pub enlistment : TxId → EnlNo → Enlistment
 enlistment t e = record { transaction = t; number = e }
 
 -- the note that tells an enlistment this outcome
@@ -25,7 +25,7 @@ note_told Aborted = Rollback
 note_told InDoubt = InDoubtNote
 
 -- what an entry of the history of transaction t says to an enlistment or to the client: a promotable that it is the first, a question, that it is to own the commit, and the outcome
-abbrev pub event_of : TxNo → Entry → Option Event
+abbrev pub event_of : TxId → Entry → Option Event
 event_of t (InitEntry e) = Some (Asked (enlistment t e) Init)
 event_of t (AskedEntry e AskPrepare) = Some (Asked (enlistment t e) Prepare)
 event_of t (AskedEntry e AskPromote) = Some (Asked (enlistment t e) Promote)

@@ -9,7 +9,7 @@ use Rattle.dtx_values.specs.declared.note.Note.{Note}
 use Rattle.dtx_values.specs.declared.note.Reply.{Reply}
 use Rattle.dtx_values.specs.declared.note.Reply.TheVariants.{Vote as VoteReply, Promote as Promotes, Owner as OwnerReply}
 use Rattle.dtx_values.specs.declared.number.EnlNo.{EnlNo}
-use Rattle.dtx_values.specs.declared.number.TxNo.{TxNo}
+use Rattle.dtx_values.specs.declared.tx_id.TxId.{TxId}
 use Rattle.dtx_model.specs.Words.{each, has, onto, same}
 use Rattle.dtx_model.specs.Entries.{same_outcome}
 use Rattle.dtx_model.specs.Half.{is_aborted}
@@ -49,7 +49,7 @@ abbrev pub is_one_of : List Given → Entry → Bool
 is_one_of rs x = not (is_reply x) || has (λ g. says g x) rs
 
 -- what the entries say to the enlistments and to the client, in order
-abbrev pub events : TxNo → List Entry → List Event
+abbrev pub events : TxId → List Entry → List Event
 events t xs = filter_map (event_of t) xs
 
 abbrev pub listed : Option Event → List Event

@@ -4,6 +4,7 @@ pub mod Counting
 pub mod Calling
 pub mod Hearing
 pub mod Keeping
+pub mod Numbering
 pub mod Slots
 pub mod Waiting
 pub mod Ending

@@ -1,11 +1,13 @@
 -- What the scopes of a program come to.
-use Rattle.std.specs.Prelude.{ℕ, ◌≡◌, ◌⊎◌, Bool, true, false, not, is_some, List, [], ◌∷◌, Option, Some, None, Result, Ok, Err, if◌then◌else◌}
+use Rattle.std.specs.Prelude.{ℕ, ◌≡◌, ◌<◌, ◌⊎◌, Bool, true, false, not, is_some, List, [], ◌∷◌, Option, Some, None, Result, Ok, Err, if◌then◌else◌}
+use Rattle.dtx_values.specs.TxIds.{number_of}
 use Rattle.dtx_values.specs.declared.call.Call.TheVariants.{Begin as BeginCall, Rollback as RollbackCall}
 use Rattle.dtx_values.specs.declared.entry.Answer.{Answer}
 use Rattle.dtx_values.specs.declared.entry.Answer.TheVariants.{Fine, Deep, Isolation, NoScope as NoScopeAnswer, Already, Nested, Ended}
 use Rattle.dtx_values.specs.declared.note.Note.{Note}
 use Rattle.dtx_values.specs.declared.note.Reply.{Reply}
 use Rattle.dtx_values.specs.declared.number.TxNo.{TxNo}
+use Rattle.dtx_values.specs.declared.tx_id.TxId.{TxId}
 use Rattle.dtx_values.specs.declared.scope.Closed.{Closed}
 use Rattle.dtx_values.specs.declared.scope.Closed.TheVariants.{Commit, Rollback, Nothing}
 use Rattle.dtx_values.specs.declared.scope.OpenScope.{OpenScope}
@@ -26,13 +28,14 @@ use Rattle.transactions.specs.declared.error.CommitError.{CommitError}
 use Rattle.transactions.specs.declared.error.CommitError.TheVariants.{Aborted, InDoubt}
 use Rattle.transactions.specs.declared.error.ScopeError.{ScopeError}
 use Rattle.transactions.specs.declared.error.ScopeError.TheVariants.{Refused, Begin}
-use Rattle.transactions.specs.declared.error.TxError.TheVariants.{Memory, Many}
+use Rattle.transactions.specs.declared.error.TxError.TheVariants.{Many}
 use Rattle.transactions.specs.declared.handle.CommittableTransaction.{CommittableTransaction}
 use Rattle.transactions.specs.declared.handle.Enlistment.{Enlistment}
 use Rattle.transactions.specs.declared.handle.TransactionScope.{TransactionScope}
 use Rattle.transactions.specs.Calling.{IsCalled}
 use Rattle.transactions.specs.Doing.{Goes, HeardAt, IsRefused}
-use Rattle.transactions.specs.Slots.{AreSame, Standing as Manager, live_at}
+use Rattle.transactions.specs.Numbering.{MayNotBegin}
+use Rattle.transactions.specs.Slots.{AreSame, Standing as Manager, live_at, standing_at}
 use Rattle.transactions.specs.State.{LiveState, blank}
 use Rattle.transactions.specs.Telling.{IsTold}
 
@@ -55,69 +58,86 @@ refusal_answer (NoScope s) = NoScopeAnswer
 refusal_answer (AlreadyComplete s) = Already
 refusal_answer (NestedWrongly s) = Nested s
 
--- the number of a transaction, where there is one
-abbrev pub number_of : Option CommittableTransaction → Option TxNo
-number_of (Some x) = Some x.number
-number_of None = None
+-- the transaction that a handle is of, where there is one
+abbrev pub number_in : Option CommittableTransaction → Option TxId
+number_in (Some x) = Some x.number
+number_in None = None
+
+-- the place of a transaction, where there is one: the scopes know transactions by place
+abbrev pub place_of : Option TxId → Option TxNo
+place_of (Some t) = Some t.t
+place_of None = None
+
+-- the transaction that goes on at a place, where there is one
+abbrev pub standing_where : Option TxNo → List LiveState → Option TxId
+standing_where (Some p) xs = Some (standing_at p xs)
+standing_where None xs = None
+
+-- the transaction of a scope: the one that it made, or else the one that goes on at the place of the one that it joined
+abbrev pub held_by : Option TxId → List LiveState → Option TxNo → Option TxId
+held_by (Some t) xs p = Some t
+held_by None xs p = standing_where p xs
 
 -- the transaction that a scope made; none where it joined one or has none
-abbrev pub made_in : TransactionScope → Option TxNo
-made_in s = if s.is_made then number_of s.transaction else None
+abbrev pub made_in : TransactionScope → Option TxId
+made_in s = if s.is_made then number_in s.transaction else None
 
 -- every transaction is as it was, but for this one, where there is one
-abbrev pub AreSameBut : Option TxNo → List LiveState → List LiveState → Type 0
+abbrev pub AreSameBut : Option TxId → List LiveState → List LiveState → Type 0
 AreSameBut (Some t) old new = AreSame t old new
-AreSameBut None old new = (u : TxNo) → live_at u new ≡ live_at u old
+AreSameBut None old new = (u : TxId) → live_at u new ≡ live_at u old
 
--- No transaction of this number went on, and one begins: the call was entered that begins it.
-pub record Begins {D : Type 0} (faults : D → ℕ) (log : LogState D) (timeout : Timeout) (reading : ℕ) (t : TxNo) (old new : List LiveState) : Type 0 where
-  pub fresh : live_at t old ≡ None
+-- This transaction didn't go on, and begins: the call was entered that begins it. Its number for good is above the last one, and is the last one then.
+pub record Begins {D C : Type 0} (faults : D → ℕ) (timeout : Timeout) (t : TxId) (old new : Manager D C) : Type 0 where
+  pub fresh : live_at t old.lives ≡ None
   pub state : LiveState
-  pub now : live_at t new ≡ Some state
-  pub begun : IsCalled faults log (BeginCall t timeout) 1 Fine (blank t reading) state
+  pub now : live_at t new.lives ≡ Some state
+  pub begun : IsCalled faults new.log (BeginCall t.t timeout) 1 Fine (blank t old.reading) state
+  pub above : old.last < number_of t
+  pub last : new.last ≡ number_of t
 
--- the transaction of this number begins, where there is one
-abbrev pub BeginsWhere : {D : Type 0} → (D → ℕ) → LogState D → Timeout → ℕ → Option TxNo → List LiveState → List LiveState → Type 0
-BeginsWhere faults log timeout reading (Some t) old new = Begins faults log timeout reading t old new
-BeginsWhere faults log timeout reading None old new = Unit {0}
+-- the transaction begins, where there is one; where there is none, the log and the last number are as they were
+abbrev pub BeginsWhere : {D C : Type 0} → (D → ℕ) → Timeout → Option TxId → Manager D C → Manager D C → Type 0
+BeginsWhere faults timeout (Some t) old new = Begins faults timeout t old new
+BeginsWhere faults timeout None old new = (new.log ≡ old.log) × (new.last ≡ old.last)
 
 -- A scope was opened on those that were open: it has a number of its own, and what its option makes or joins; and its holder has its transaction, and knows whether it made it.
-pub record IsOpened (k : ScopeOption) (iso : Iso) (s : TransactionScope) (old new : List OpenScope) : Type 0 where
+pub record IsOpened (k : ScopeOption) (iso : Iso) (s : TransactionScope) (xs : List LiveState) (old new : List OpenScope) : Type 0 where
   pub apart : has (is_scope s.scope.value) old ≡ false
-  pub opened : new ≡ record { scope = s.scope; entered = entering k (made_in s) old; isolation = iso; complete = false } ∷ old
-  pub transaction : number_of s.transaction ≡ transaction_in (entering k (made_in s) old)
+  pub opened : new ≡ record { scope = s.scope; entered = entering k (place_of (made_in s)) old; isolation = iso; complete = false } ∷ old
+  pub transaction : number_in s.transaction ≡ held_by (made_in s) xs (transaction_in (entering k (place_of (made_in s)) old))
   pub made : s.is_made ≡ makes_one k old
 
--- Why a scope isn't opened: the scopes refuse it; or no memory or no number is left for it or for its transaction.
-abbrev pub MayNotOpen : ScopeOption → Iso → List OpenScope → ScopeError → Type 0
-MayNotOpen k iso xs (Refused r) = enter_refusal k iso xs ≡ Some r
-MayNotOpen k iso xs (Begin e) = (e ≡ Memory) ⊎ (e ≡ Many)
+-- Why a scope isn't opened: the scopes refuse it; or no number is left for it; or its transaction can't be begun.
+abbrev pub MayNotOpen : {D C : Type 0} → (D → ℕ) → ScopeOption → Iso → List OpenScope → Manager D C → Manager D C → ScopeError → Type 0
+MayNotOpen faults k iso xs old new (Refused r) = enter_refusal k iso xs ≡ Some r
+MayNotOpen faults k iso xs old new (Begin e) = (e ≡ Many) ⊎ MayNotBegin faults old.log new.log old.lives e
 
 -- the scope of this number is the innermost one
 abbrev pub is_top : ℕ → List OpenScope → Bool
 is_top s [] = false
 is_top s (x ∷ xs) = is_scope s x
 
--- the transaction that closing a scope commits or rolls back
-abbrev pub ended_by : Closed → Option TxNo
-ended_by (Commit t) = Some t
-ended_by (Rollback t) = Some t
-ended_by Nothing = None
+-- the transaction that closing a scope commits or rolls back: the one that goes on at its place
+abbrev pub ended_by : Closed → List LiveState → Option TxId
+ended_by (Commit p) xs = Some (standing_at p xs)
+ended_by (Rollback p) xs = Some (standing_at p xs)
+ended_by Nothing xs = None
 
 -- The rollback of a scope's transaction is never Ok. Where the transaction aborted, the call was entered and the objects heard what came of it, or the call was refused since it had
 -- aborted already. It is in doubt only where the call was refused.
-abbrev pub IsRolledBack : {D O : Type 0} → (D → ℕ) → LogState D → (O → Enlistment → Note → Option Reply → O → Type 0) → TxNo → Result (Unit {0}) CommitError → List LiveState → List LiveState → O → O
+abbrev pub IsRolledBack : {D O : Type 0} → (D → ℕ) → LogState D → (O → Enlistment → Note → Option Reply → O → Type 0) → TxId → Result (Unit {0}) CommitError → List LiveState → List LiveState → O → O
     → Type 0
 IsRolledBack faults log gives t (Ok x) old new a b = ⊥
-IsRolledBack faults log gives t (Err Aborted) old new a b = Goes faults log gives t (RollbackCall t) old new a b ⊎ IsRefused faults log t (RollbackCall t) (Ended AbortedOutcome) old new
+IsRolledBack faults log gives t (Err Aborted) old new a b = Goes faults log gives t (RollbackCall t.t) old new a b ⊎ IsRefused faults log t (RollbackCall t.t) (Ended AbortedOutcome) old new
 IsRolledBack faults log gives t (Err InDoubt) old new a b = ⊥
 IsRolledBack faults log gives t (Err _) old new a b = Unit {0}
 
 -- What closing a scope comes to. A transaction that it commits is told so as any commit; one that it rolls back isn't committed; and where it has nothing to do, nothing is done.
 abbrev pub Settles : {D O : Type 0} → (D → ℕ) → LogState D → (O → Enlistment → Note → Option Reply → O → Type 0) → Closed → Result (Unit {0}) CommitError → List LiveState → List LiveState → O → O
     → Type 0
-Settles faults log gives (Commit t) r old new a b = IsTold r (live_at t new) × HeardAt gives [] t old new a b
-Settles faults log gives (Rollback t) r old new a b = IsRolledBack faults log gives t r old new a b × HeardAt gives [] t old new a b
+Settles faults log gives (Commit p) r old new a b = IsTold r (live_at (standing_at p old) new) × HeardAt gives [] (standing_at p old) old new a b
+Settles faults log gives (Rollback p) r old new a b = IsRolledBack faults log gives (standing_at p old) r old new a b × HeardAt gives [] (standing_at p old) old new a b
 Settles faults log gives Nothing r old new a b = (r ≡ Ok tt) × (new ≡ old) × (b ≡ a)
 
 -- The same, before the holder of the scope left the transaction that it made, which is then swept where it is over.
@@ -125,7 +145,7 @@ pub record SettlesBefore {D O : Type 0} (faults : D → ℕ) (log : LogState D) 
     (r : Result (Unit {0}) CommitError) (old new : List LiveState) (a b : O) : Type 0 where
   pub mid : List LiveState
   pub settled : Settles faults log gives c r old mid a b
-  pub others : AreSameBut (ended_by c) old mid
+  pub others : AreSameBut (ended_by c old) old mid
   pub left : AreSameBut (made_in s) mid new
 
 -- A scope whose work is done was completed and disposed, and that was Ok: it was open, not complete yet and the innermost one; what it made was committed; and those beneath it are open.
@@ -151,8 +171,8 @@ pub record WorksIn {D C O T : Type 0} (faults : D → ℕ) (gives : O → Enlist
   pub worked : Manager D C
   pub left : Scopes
   pub objects : O
-  pub opens : IsOpened k iso scope a.scopes within.scopes
-  pub begins : BeginsWhere faults old.log timeout old.reading (made_in scope) old.lives opened.lives
+  pub opens : IsOpened k iso scope opened.lives a.scopes within.scopes
+  pub begins : BeginsWhere faults timeout (made_in scope) old opened
   pub others : AreSameBut (made_in scope) old.lives opened.lives
   pub does_it : does opened within scope before (Ok x) worked left objects
   pub finishes : Finishes faults gives scope worked new left.scopes b.scopes objects after

@@ -3,6 +3,7 @@ use Rattle.std.specs.Prelude.{ℕ, zero, suc, ◌≡◌, ◌⊎◌, ◌+◌, ◌
 use Rattle.dtx_values.specs.declared.note.Note.{Note}
 use Rattle.dtx_values.specs.declared.note.Reply.{Reply}
 use Rattle.dtx_values.specs.declared.number.TxNo.{TxNo}
+use Rattle.dtx_values.specs.declared.tx_id.TxId.{TxId}
 use Rattle.coordinator_log.specs.State.{LogState}
 use Rattle.transactions.specs.declared.error.TxError.{TxError}
 use Rattle.transactions.specs.declared.error.TxError.TheVariants.{Memory, Many}
@@ -11,21 +12,21 @@ use Rattle.transactions.specs.declared.usage.Usage.TheVariants.{Left}
 use Rattle.transactions.specs.Calling.{Ticks}
 use Rattle.transactions.specs.Ending.{IsOver}
 use Rattle.transactions.specs.Hearing.{IsHeard}
-use Rattle.transactions.specs.Slots.{AreSame, KeepsTime, Standing, live_at}
+use Rattle.transactions.specs.Slots.{AreSame, KeepsTime, Standing, live_at, standing_at}
 use Rattle.transactions.specs.State.{LiveState, past}
 use Rattle.transactions.specs.Waiting.{AllAsked}
 
 -- Where a transaction of this number goes on, it goes on after its time went on to this reading of the clock.
-abbrev pub PassedAt : {D : Type 0} → (D → ℕ) → LogState D → ℕ → TxNo → List LiveState → List LiveState → Type 0
+abbrev pub PassedAt : {D : Type 0} → (D → ℕ) → LogState D → ℕ → TxId → List LiveState → List LiveState → Type 0
 PassedAt faults log now t old new = (x : LiveState) → live_at t old ≡ Some x → (y : LiveState) × (live_at t new ≡ Some y) × Ticks faults log now x y
 
 -- Why the time of a transaction doesn't go on: memory ran out; or one goes on of this number, and all numbers of its lines are used.
-abbrev pub TickFails : TxNo → List LiveState → TxError → Type 0
+abbrev pub TickFails : TxId → List LiveState → TxError → Type 0
 TickFails t old e = (e ≡ Memory) ⊎ ((e ≡ Many) × (x : LiveState) × (live_at t old ≡ Some x) × (x.lines ≡ 2 ^ 32 - 1))
 
 -- A turn of the transaction x: its time went on to the greatest reading of the clock; the objects heard all that came of it then, until it goes on only by a call, a reply or the time;
 -- and so it goes on, or it is over, nobody held it, and it was taken off.
-pub record HadTurn {D C O : Type 0} (faults : D → ℕ) (gives : O → Enlistment → Note → Option Reply → O → Type 0) (t : TxNo) (x : LiveState) (old new : Standing D C) (before after : O) : Type 0 where
+pub record HadTurn {D C O : Type 0} (faults : D → ℕ) (gives : O → Enlistment → Note → Option Reply → O → Type 0) (t : TxId) (x : LiveState) (old new : Standing D C) (before after : O) : Type 0 where
   pub passed : LiveState
   pub done : LiveState
   pub ticked : Ticks faults old.log old.reading x passed
@@ -34,11 +35,11 @@ pub record HadTurn {D C O : Type 0} (faults : D → ℕ) (gives : O → Enlistme
   pub ended : (live_at t new.lives ≡ Some done) ⊎ ((live_at t new.lives ≡ None) × IsOver done × (done.usage ≡ Left))
 
 -- Where a transaction of this number goes on, it had a turn. Where none does, nothing was done.
-abbrev pub Turned : {D C O : Type 0} → (D → ℕ) → (O → Enlistment → Note → Option Reply → O → Type 0) → TxNo → Standing D C → Standing D C → O → O → Type 0
+abbrev pub Turned : {D C O : Type 0} → (D → ℕ) → (O → Enlistment → Note → Option Reply → O → Type 0) → TxId → Standing D C → Standing D C → O → O → Type 0
 Turned faults gives t old new a b = ((x : LiveState) → live_at t old.lives ≡ Some x → HadTurn faults gives t x old new a b) × (live_at t old.lives ≡ None → (new ≡ old) × (b ≡ a))
 
 -- A turn of the transaction x that failed: its time went on, and the objects heard what came of it until then; so it goes on.
-pub record HadPart {D C O : Type 0} (faults : D → ℕ) (gives : O → Enlistment → Note → Option Reply → O → Type 0) (t : TxNo) (x : LiveState) (old new : Standing D C) (before after : O) : Type 0 where
+pub record HadPart {D C O : Type 0} (faults : D → ℕ) (gives : O → Enlistment → Note → Option Reply → O → Type 0) (t : TxId) (x : LiveState) (old new : Standing D C) (before after : O) : Type 0 where
   pub passed : LiveState
   pub done : LiveState
   pub ticked : Ticks faults old.log old.reading x passed
@@ -46,17 +47,18 @@ pub record HadPart {D C O : Type 0} (faults : D → ℕ) (gives : O → Enlistme
   pub on : live_at t new.lives ≡ Some done
 
 -- The turn of the transaction of this number failed: it is as it was, and nothing was heard; or a part was done.
-abbrev pub Stopped : {D C O : Type 0} → (D → ℕ) → (O → Enlistment → Note → Option Reply → O → Type 0) → TxNo → Standing D C → Standing D C → O → O → Type 0
+abbrev pub Stopped : {D C O : Type 0} → (D → ℕ) → (O → Enlistment → Note → Option Reply → O → Type 0) → TxId → Standing D C → Standing D C → O → O → Type 0
 Stopped faults gives t old new a b = (x : LiveState) × (live_at t old.lives ≡ Some x) × (((live_at t new.lives ≡ Some x) × (b ≡ a)) ⊎ HadPart faults gives t x old new a b)
 
--- The transactions of the numbers from 1 up to this one had a turn each, one after the other, while all others and the time stood.
+-- The transactions of the places from 1 up to this one had a turn each, one after the other, while all others and the time stood.
 abbrev pub TurnedUpTo : {D C O : Type 0} → (D → ℕ) → (O → Enlistment → Note → Option Reply → O → Type 0) → ℕ → Standing D C → Standing D C → O → O → Type 0
 TurnedUpTo faults gives zero old new a b = (new ≡ old) × (b ≡ a)
 TurnedUpTo {D} {C} {O} faults gives (suc n) old new a b =
-    (t : TxNo) × (mid : Standing D C) × (m : O) × (t.value ≡ n + 1) × TurnedUpTo faults gives n old mid a m × Turned faults gives t mid new m b × AreSame t mid.lives new.lives × KeepsTime mid new
+    (p : TxNo) × (mid : Standing D C) × (m : O) × (p.value ≡ n + 1) × TurnedUpTo faults gives n old mid a m
+    × Turned faults gives (standing_at p mid.lives) mid new m b × AreSame (standing_at p mid.lives) mid.lives new.lives × KeepsTime mid new
 
--- The transactions up to some number had a turn each, and the turn of the next one failed.
+-- The transactions up to some place had a turn each, and the turn of the next one failed.
 abbrev pub StoppedAfter : {D C O : Type 0} → (D → ℕ) → (O → Enlistment → Note → Option Reply → O → Type 0) → Standing D C → Standing D C → O → O → Type 0
 StoppedAfter {D} {C} {O} faults gives old new a b =
-    (n : ℕ) × (t : TxNo) × (mid : Standing D C) × (m : O) × (t.value ≡ n + 1) × TurnedUpTo faults gives n old mid a m
-    × Stopped faults gives t mid new m b × AreSame t mid.lives new.lives × KeepsTime mid new
+    (n : ℕ) × (p : TxNo) × (mid : Standing D C) × (m : O) × (p.value ≡ n + 1) × TurnedUpTo faults gives n old mid a m
+    × Stopped faults gives (standing_at p mid.lives) mid new m b × AreSame (standing_at p mid.lives) mid.lives new.lives × KeepsTime mid new

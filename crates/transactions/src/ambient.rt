@@ -4,11 +4,11 @@ ghost use Rattle.dtx_model.specs.Contexts.{asked_by};
 ghost use Rattle.dtx_model.specs.Scopes.{ambient, is_scope, with_complete};
 ghost use Rattle.dtx_model.specs.Words.{has, past_of};
 ghost use Rattle.scope_context.specs.Refusals.{complete_refusal};
-ghost use Rattle.transactions.specs.Scoping.{makes_one, refused_for};
+ghost use Rattle.transactions.specs.Scoping.{makes_one, place_of, refused_for};
 
 use crate::error::{ScopeError, TxError};
 use crate::handle::TransactionScope;
-use dtx_values::{Iso, IsoWord, OpenScope, ScopeNo, ScopeOption, TxNo};
+use dtx_values::{Iso, IsoWord, OpenScope, ScopeNo, ScopeOption, TxId, TxNo};
 use scope_context::Context;
 use std::alloc::{AllocError, Global};
 use std::marker::Model;
@@ -40,6 +40,16 @@ pub(crate) fn isolation(i: IsoWord) -> Iso
     match i {
         IsoWord::Default => Iso::Serializable,
         IsoWord::Level(i) => i,
+    }
+}
+
+/// The place of a transaction, where there is one. The scopes know transactions by place.
+pub(crate) fn place_of(t: Option<TxId>) -> Option<TxNo>
+    ensures { result ≡ place_of t }
+{
+    match t {
+        Some(t) => Some(t.t()),
+        None => None,
     }
 }
 

@@ -1,5 +1,6 @@
 //! Why a call isn't done.
-ghost use Rattle.std.specs.Prelude.{◌≡◌, ◌≢◌};
+ghost use Rattle.std.specs.Prelude.{ℕ, ◌≡◌, ◌≢◌};
+ghost use Rattle.transactions.specs.Numbering.{number_refusal};
 ghost use Rattle.transactions.specs.Scoping.{refusal_answer};
 
 use coordinator_log::LogRefusal;
@@ -18,6 +19,9 @@ pub enum OpenError {
     /// The disk failed.
     #[error("the disk failed")]
     Fault,
+    /// The disk has no log: the first place, from 0, of another form.
+    #[error("the disk has no log: byte {0}")]
+    NotALog(u64),
 }
 
 /// Why a call of a transaction isn't done.
@@ -29,9 +33,18 @@ pub enum TxError {
     /// The call waits for an object that put off its reply to promote.
     #[error("an object puts off its reply")]
     Waits,
-    /// All numbers are used: of transactions, of what a transaction enlists or clones, or of its calls.
+    /// As many transactions go on as can; or all numbers are used of what a transaction enlists or clones, or of its calls.
     #[error("no number is left")]
     Many,
+    /// The log has no room for the record of the epoch in which the transaction would begin.
+    #[error("the log is full")]
+    LogFull,
+    /// The log is stopped, in which the epoch of the transaction would begin: its disk failed, now or before.
+    #[error("the log is stopped")]
+    LogStopped,
+    /// The log's epoch is the last, so that none can begin.
+    #[error("no epoch is left")]
+    NoEpoch,
     /// Memory ran out.
     #[error("out of memory")]
     Memory,
@@ -40,9 +53,12 @@ pub enum TxError {
 /// Why a transaction didn't commit.
 #[derive(Clone, Copy, PartialEq, Eq, Debug, Error)]
 pub enum CommitError {
-    /// It aborted. (`TransactionAbortedException` of System.Transactions.)
+    /// It aborted, for another cause than [`CommitError::LogFull`]. (`TransactionAbortedException` of System.Transactions.)
     #[error("aborted")]
     Aborted,
+    /// It aborted, since the log was full when its commit was to be recorded; or it wasn't begun, as in [`TxError::LogFull`].
+    #[error("the log is full")]
+    LogFull,
     /// Its outcome is in doubt. (`TransactionInDoubtException`.)
     #[error("in doubt")]
     InDoubt,
@@ -55,6 +71,12 @@ pub enum CommitError {
     /// All numbers are used, as in [`TxError::Many`].
     #[error("no number is left")]
     Many,
+    /// It wasn't begun, as in [`TxError::LogStopped`].
+    #[error("the log is stopped")]
+    LogStopped,
+    /// It wasn't begun, as in [`TxError::NoEpoch`].
+    #[error("no epoch is left")]
+    NoEpoch,
     /// Memory ran out.
     #[error("out of memory")]
     Memory,
@@ -104,6 +126,9 @@ impl From<TxError> for CommitError {
             TxError::Refused(a) => CommitError::Refused(a),
             TxError::Waits => CommitError::Waits,
             TxError::Many => CommitError::Many,
+            TxError::LogFull => CommitError::LogFull,
+            TxError::LogStopped => CommitError::LogStopped,
+            TxError::NoEpoch => CommitError::NoEpoch,
             TxError::Memory => CommitError::Memory,
         }
     }
@@ -130,13 +155,27 @@ impl From<ScopeRefusal> for ScopeError {
     }
 }
 
-/// Why the log of a manager wasn't made.
+/// Why a manager isn't made, where the log refused so.
 pub(crate) fn open_error(e: LogRefusal) -> OpenError
-    ensures { result ≡ OpenError.Fault → e ≢ LogRefusal.Memory }
+    ensures fault { result ≡ OpenError.Fault → (e ≢ LogRefusal.Memory) × ((p : ℕ) → e ≢ LogRefusal.NotALog p) }
+    ensures not_a_log { (p : ℕ) → result ≡ OpenError.NotALog p → e ≡ LogRefusal.NotALog p }
 {
     match e {
         LogRefusal::Memory => OpenError::Memory,
+        LogRefusal::NotALog(place) => OpenError::NotALog(place),
         _ => OpenError::Fault,
+    }
+}
+
+/// Why no epoch begins, where the log refused so.
+pub(crate) fn number_error(e: LogRefusal) -> TxError
+    ensures { result ≡ number_refusal e }
+{
+    match e {
+        LogRefusal::Full(_) => TxError::LogFull,
+        LogRefusal::NoSuch(_) => TxError::NoEpoch,
+        LogRefusal::Memory => TxError::Memory,
+        _ => TxError::LogStopped,
     }
 }
 

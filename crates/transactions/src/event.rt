@@ -3,7 +3,7 @@ ghost use Rattle.std.specs.Prelude.{◌≡◌};
 ghost use Rattle.transactions.specs.Events.{event_of, note_in, note_told};
 
 use crate::handle::Enlistment;
-use dtx_values::{Ask, Entry, Note, Outcome, Party, TxNo};
+use dtx_values::{Ask, Entry, Note, Outcome, Party, TxId};
 
 /// What comes next in a transaction, by the entry of its history that says so.
 #[derive(Clone, Copy, PartialEq, Eq, Debug)]
@@ -41,7 +41,7 @@ impl Event {
 }
 
 /// What an entry of the history of this transaction says to an enlistment or the client.
-pub(crate) fn event_of(t: TxNo, x: Entry) -> Option<Event>
+pub(crate) fn event_of(t: TxId, x: Entry) -> Option<Event>
     ensures { result ≡ event_of t x }
 {
     let (number, note) = match x {

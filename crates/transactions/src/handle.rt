@@ -2,18 +2,18 @@
 ghost use Rattle.std.specs.Prelude.{◌≡◌};
 ghost use Rattle.std.specs.Option.{option_map};
 
-use dtx_values::{CloneNo, EnlNo, ScopeNo, TxNo};
+use dtx_values::{CloneNo, EnlNo, ScopeNo, TxId};
 
 /// An enlistment: its transaction, and its number there.
 #[derive(Clone, Copy, PartialEq, Eq, Debug)]
 pub struct Enlistment {
-    pub(crate) transaction: TxNo,
+    pub(crate) transaction: TxId,
     pub(crate) number: EnlNo,
 }
 
 impl Enlistment {
-    /// The number of its transaction.
-    pub fn transaction(self) -> TxNo
+    /// Its transaction.
+    pub fn transaction(self) -> TxId
         ensures { result ≡ self.transaction }
     {
         self.transaction
@@ -29,12 +29,12 @@ impl Enlistment {
 
 /// A transaction that its holder may commit. It can't be dropped: `TransactionManager::end` takes it back. (`CommittableTransaction` of System.Transactions.)
 pub struct CommittableTransaction {
-    pub(crate) number: TxNo,
+    pub(crate) number: TxId,
 }
 
 impl CommittableTransaction {
-    /// Its number.
-    pub fn number(&self) -> TxNo
+    /// The transaction: its epoch, and its number within that.
+    pub fn number(&self) -> TxId
         ensures { result ≡ self.now.number }
     {
         self.number
@@ -43,7 +43,7 @@ impl CommittableTransaction {
 
 /// A dependent clone, which is to be completed: it can't be dropped. (`DependentTransaction` of System.Transactions.)
 pub struct DependentTransaction {
-    pub(crate) transaction: TxNo,
+    pub(crate) transaction: TxId,
     pub(crate) clone: CloneNo,
 }
 

@@ -5,13 +5,15 @@
 //!
 //! ```text
 //! let mut manager = TransactionManager::create(alloc, disk, clock)?;
-//! let scope = manager.open(&mut ambient, ScopeOption::Required, timeout, isolation)?;
+//! let scope = manager.open_scope(&mut ambient, ScopeOption::Required, timeout, isolation)?;
 //! // The work: enlistments, and what is to be done as one unit.
 //! let worked = work(&mut manager, &scope, &mut objects);
 //! manager.finish(&mut ambient, scope, worked, &mut objects)
 //! ```
 //!
-//! Neither a scope nor a transaction that its holder may commit can be dropped: a `?` between `open` and `finish` doesn't compile.
+//! Neither a scope nor a transaction that its holder may commit can be dropped: a `?` between `open_scope` and `finish` doesn't compile.
+//!
+//! [`TransactionManager::open`] takes up the log of an earlier process. No number of a transaction comes twice in the life of a log ([`TransactionManager::begin`]).
 //!
 //! What holds of each transaction, on every disk: all that anybody was told in it has its cause, and no two were told opposite outcomes ([`TransactionManager::is_lawful`]).
 #![tactic(auto)]

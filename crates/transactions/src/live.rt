@@ -23,12 +23,12 @@ ghost use Rattle.transactions.specs.Calling.{IsCalled, Ticks};
 ghost use Rattle.transactions.specs.Answered.{Has, is_answer_to};
 ghost use Rattle.transactions.specs.Counting.{is_given, is_plain};
 ghost use Rattle.transactions.specs.Enlisting.{Clones, Enlists};
-ghost use Rattle.transactions.specs.Ending.{IsOver, is_known, is_left_prepared, is_told_to};
+ghost use Rattle.transactions.specs.Ending.{IsOver, is_left_prepared, is_told_to};
 ghost use Rattle.transactions.specs.Hearing.{Advances, HearsNext, Writes, listed};
 ghost use Rattle.transactions.specs.Keeping.{IsSound};
-ghost use Rattle.transactions.specs.Slots.{is_used};
+ghost use Rattle.transactions.specs.Slots.{is_live, is_used, standing_in};
 ghost use Rattle.transactions.specs.State.{LiveState, blank, past};
-ghost use Rattle.transactions.specs.Telling.{Waiting, told};
+ghost use Rattle.transactions.specs.Telling.{Waiting, is_full, told};
 ghost use Rattle.transactions.specs.Waiting.{AllAsked};
 ghost use Rattle.transactions.specs.declared.usage.Usage.TheVariants.{Held, Left};
 
@@ -38,8 +38,8 @@ use crate::kind::{Kind, enlists};
 use crate::usage::Usage;
 use coordinator_log::Log;
 use dtx_values::{
-    ActorNo, Answer, Call, CloneKind, CloneNo, Conn, Dir, EnlNo, Entry, Message, Outbox, Outcome,
-    Party, Reply, Status, TxNo, Vote,
+    ActorNo, Answer, Call, CloneKind, CloneNo, EnlNo, Entry, Outbox, Outcome, Party, Reply, Status,
+    TxId, TxNo, Vote,
 };
 use outcome_law::{own_outcome, stops};
 use outside::Disk;
@@ -51,10 +51,10 @@ use tx_world::TxWorld;
 /// The longest time in milliseconds that one tick may last.
 const LONGEST: u64 = 1_000_000_000;
 
-/// A number of the manager, with the transaction that has it or had it last, and how much of its history was heard.
+/// A place of the manager, with the transaction that has it or had it last, and how much of its history was heard.
 #[derive(Drop)]
 pub(crate) struct Live {
-    number: TxNo,
+    number: TxId,
     usage: Usage,
     world: TxWorld,
     /// How many calls it was given, each on a line of its own.
@@ -81,7 +81,7 @@ impl Model for Live {
 
 impl Live {
     /// A transaction of this number, which has no call yet and which somebody holds, at this reading of the clock.
-    pub fn new(alloc: Global, number: TxNo, time: u64) -> Result<Live, TxError>
+    pub fn new(alloc: Global, number: TxId, time: u64) -> Result<Live, TxError>
         ensures blank { IfOk result (λ x. x ≡ blank number time) }
         ensures fits { IfOk result (λ x. Fits x.tx []) }
         ensures memory { IfErr result (λ e. e ≡ TxError.Memory) }
@@ -99,13 +99,13 @@ impl Live {
     }
 
     /// Its number.
-    pub fn number(&self) -> TxNo
+    pub fn number(&self) -> TxId
         ensures { result ≡ self.now.number }
     {
         self.number
     }
 
-    /// What its number is used for.
+    /// What its place is used for.
     pub fn usage(&self) -> Usage
         ensures { result ≡ self.now.usage }
     {
@@ -119,7 +119,25 @@ impl Live {
         matches!(self.usage, Usage::Held | Usage::Left)
     }
 
-    /// Its number is used for this from now on.
+    /// Whether this transaction goes on here.
+    pub fn is_live(&self, t: TxId) -> bool
+        ensures { result ≡ is_live t self.now }
+    {
+        self.is_used() && self.number.number() == t.number()
+    }
+
+    /// The transaction that goes on here; where none does, that of epoch 0 at this place.
+    pub fn standing(&self, place: TxNo) -> TxId
+        ensures { result ≡ standing_in place (Some self.now) }
+    {
+        if self.is_used() {
+            self.number
+        } else {
+            TxId::first(place)
+        }
+    }
+
+    /// Its place is used for this from now on.
     pub fn set_usage(&mut self, usage: Usage)
         ensures { self.new ≡ record self.old { usage = usage } }
     {
@@ -181,7 +199,7 @@ impl Live {
             Ok(e) => e,
             Err(x) => return Err(x),
         };
-        let c = enlists(self.number, e, k);
+        let c = enlists(self.number.t(), e, k);
         match self.call(log, out, actor, &c) {
             Ok((line, answer)) => Ok((e, line, answer)),
             Err(x) => Err(x),
@@ -219,7 +237,7 @@ impl Live {
             Ok(number) => number,
             Err(x) => return Err(x),
         };
-        let c = Call::Clone(self.number, number, k);
+        let c = Call::Clone(self.number.t(), number, k);
         match self.call(log, out, actor, &c) {
             Ok((_, answer)) => Ok((number, answer)),
             Err(x) => Err(x),
@@ -352,7 +370,7 @@ impl Live {
         if passed == 0 || self.world.status() != Status::Active {
             return Ok(());
         }
-        let c = Call::Tick(self.number, passed as u32);
+        let c = Call::Tick(self.number.t(), passed as u32);
         self.call(log, out, actor, &c)?;
         self.time = self.time.saturating_add(passed);
         Ok(())
@@ -428,13 +446,13 @@ impl Live {
             && !self.has_prepared()
     }
 
-    /// Whether it came to the coordinator, whose log may have had its record.
-    pub fn is_known(&self) -> bool
-        ensures { result ≡ is_known self.now }
+    /// Whether the log was full when its commit was to be recorded: then it aborts.
+    pub fn is_log_full(&self) -> bool
+        ensures { result ≡ has is_full (past self.now) }
     {
         let history = self.world.history();
         for i in 0..history.len() {
-            if let Entry::Sent(Conn::Begin, Dir::Up, Message::BeginBegin) = history.at(i) {
+            if let Entry::LogFull = history.at(i) {
                 return true;
             }
         }

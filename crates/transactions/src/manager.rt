@@ -1,45 +1,43 @@
 //! The transaction manager of one program.
 ghost use Rattle.std.specs.Prelude.{ℕ, ◌≡◌, ◌≢◌, ◌⊎◌, ◌≤◌, ◌<◌, ◌+◌, ◌-◌, ◌^◌, ◌∷◌, List, [], Option, Some, None, Ok, Err, IfOk, IfErr, OnOk, OnErr, IfSome, IsTrue, true, false, is_some, length, slice_get};
 ghost use Rattle.std.specs.Option.{option_map};
-ghost use Rattle.dtx_values.specs.declared.call.Call.TheVariants.{Begin};
-ghost use Rattle.dtx_values.specs.declared.entry.Answer.TheVariants.{Fine, NoSuch};
+ghost use Rattle.dtx_values.specs.declared.entry.Answer.TheVariants.{NoSuch};
 ghost use Rattle.dtx_model.specs.Caused.{made_by};
 ghost use Rattle.dtx_model.specs.Learned.{Learned};
-ghost use Rattle.dtx_model.specs.Log.{first_of};
 ghost use Rattle.dtx_model.specs.Outcome.{agree, justified};
-ghost use Rattle.dtx_model.specs.Promotes.{identifier_of};
 ghost use Rattle.dtx_model.specs.World.{half};
-ghost use Rattle.coordinator_log.specs.Slots.{open_records};
-ghost use Rattle.coordinator_log.specs.declared.layout.TheConstants.{LOG_BYTES};
-ghost use Rattle.outside.specs.Faults.{Rose};
 ghost use Rattle.tx_world.specs.OwnCalls.{status_of};
-ghost use Rattle.transactions.specs.Calling.{IsCalled};
 ghost use Rattle.transactions.specs.Counting.{is_plain};
 ghost use Rattle.transactions.specs.Doing.{CallsAt, Enters, MayFail, is_done};
 ghost use Rattle.transactions.specs.Hearing.{Advances};
-ghost use Rattle.transactions.specs.Slots.{AreSame, IsFull, KeepsRest, KeepsTime, is_unused, live_at};
-ghost use Rattle.transactions.specs.State.{LiveState, blank, past};
+ghost use Rattle.transactions.specs.Slots.{AreSame, KeepsRest, KeepsTime, live_at, standing_at};
+ghost use Rattle.transactions.specs.State.{LiveState, past};
 ghost use Rattle.transactions.specs.Waiting.{AllAsked};
 
-use crate::error::{OpenError, TxError, open_error};
+use crate::error::TxError;
 use crate::event::Event;
 use crate::handle::CommittableTransaction;
 use crate::live::Live;
-use crate::usage::Usage;
-use coordinator_log::{LOG_BYTES, Log};
-use dtx_values::{ActorNo, Answer, Call, Outbox, Outcome, Status, Timeout, TxNo};
+use coordinator_log::Log;
+use dtx_values::{ActorNo, Answer, Call, Outbox, Outcome, Status, TxId, TxNo};
+use log_epochs::no_transaction_is_an_epoch;
 use outside::{Clock, Disk};
 use std::alloc::Global;
 use std::marker::Model;
 
+mod beginning;
 mod driving;
 mod ending;
 mod enlisting;
+mod opening;
 mod scoping;
 
 /// A transaction manager over a log on a disk.
 ///
-/// A clause sees it as its log, its transactions by number, its clock, and the greatest reading of that.
+/// A clause sees it as its log, its transactions by place, the number for good of the last one that it began, its clock, and the greatest reading of that.
+///
+/// At most 256 transactions go on at once: one of number t within its epoch has place t. No number comes twice in the life of a log, whichever process has it
+/// ([`TransactionManager::numbers_last`]).
 #[derive(Drop)]
 pub struct TransactionManager<D: Disk + Drop, C: Clock + Drop> {
     alloc: Global,
@@ -49,27 +47,31 @@ pub struct TransactionManager<D: Disk + Drop, C: Clock + Drop> {
     actor: ActorNo,
     /// The greatest reading of the clock.
     reading: u64,
-    /// What each number is used for, from 1.
+    /// What each place is used for, from 1.
     lives: Vec<Live>,
+    /// The epoch, and the last number that was given in it.
+    epoch: u32,
+    given: u32,
 }
 
 impl<D: Disk + Drop, C: Clock + Drop> Model for TransactionManager<D, C> {
-    ghost use Rattle.std.specs.Prelude.{IsTrue};
-    ghost use Rattle.transactions.specs.Keeping.{AreNumbered, FitsAll};
+    ghost use Rattle.std.specs.Prelude.{◌+◌, ◌*◌};
+    ghost use Rattle.transactions.specs.Keeping.{IsKept};
     ghost use Rattle.transactions.specs.Slots.{Standing};
 
     ghost Value = { Standing D C };
 
-    ghost view = { λ m. record { log = m.log; lives = m.lives.items; clock = m.clock; reading = m.reading } };
+    ghost view = { λ m. record { log = m.log; lives = m.lives.items; last = 65536 * m.epoch + m.given; clock = m.clock; reading = m.reading } };
 
-    ghost invariant = { λ m. AreNumbered m.lives.items × (IsTrue D.honest → FitsAll m.log m.lives.items) };
+    ghost invariant = { λ m. IsKept D.honest D.image m.log m.lives.items (65536 * m.epoch + m.given) };
 }
 
-/// The identifier of a transaction at the coordinator.
-fn identifier(t: TxNo) -> u128
-    ensures { result ≡ identifier_of t.value }
+/// The place of a transaction, from 0.
+fn index(t: TxId) -> usize
+    ensures place { result + 1 ≡ t.t.value }
+    ensures within { result < TxNo.MAX }
 {
-    (1 << 64) + u128::from(t.get())
+    t.t().index()
 }
 
 /// Whether the answer of a call says that it was done, or waits.
@@ -84,125 +86,36 @@ pub(crate) fn done(a: Answer) -> Result<(), TxError>
 }
 
 impl<D: Disk + Drop, C: Clock + Drop> TransactionManager<D, C> {
-    /// A manager over an empty log, which it writes to the disk.
-    ///
-    /// # Errors
-    ///
-    /// The disk and the clock are handed back.
-    ///
-    /// - [`OpenError::Fault`] where the disk failed.
-    /// - [`OpenError::Memory`] where memory ran out.
-    pub fn create(alloc: Global, disk: D, clock: C) -> Result<Self, (OpenError, D, C)>
-        requires { LOG_BYTES ≤ D.size disk }
-        ensures made { IfOk result (λ m. (m.lives ≡ []) × IsTrue m.log.is_up) }
-        ensures fault { IfErr result (λ e. e.0 ≡ OpenError.Fault → Rose (D.faults disk) (D.faults e.1)) }
-        ensures size { IfErr result (λ e. D.size e.1 ≡ D.size disk) }
-    {
-        let Some(actor) = ActorNo::new(1) else {
-            return Err((OpenError::Memory, disk, clock));
-        };
-        let Ok(out) = Outbox::with_room(alloc) else {
-            return Err((OpenError::Memory, disk, clock));
-        };
-        let log = match Log::format(alloc, disk) {
-            Ok(log) => log,
-            Err((e, disk)) => return Err((open_error(e), disk, clock)),
-        };
-        let mut clock = clock;
-        let reading = clock.now();
-        Ok(TransactionManager {
-            alloc,
-            log,
-            clock,
-            out,
-            actor,
-            reading,
-            lives: Vec::new(alloc),
-        })
-    }
-
-    /// The transaction of this number.
-    fn live(&self, t: TxNo) -> Option<&Live>
+    /// This transaction, where it goes on.
+    fn live(&self, t: TxId) -> Option<&Live>
         ensures { option_map (λ x. x.now) result ≡ live_at t self.now.lives }
     {
-        match self.lives.get(t.index()) {
-            Some(live) if live.is_used() => Some(live),
+        match self.lives.get(index(t)) {
+            Some(live) if live.is_live(t) => Some(live),
             _ => None,
         }
     }
 
-    /// Whether a transaction of this number may begin: no transaction has it or had it that came to the log, and the log has no record of it.
-    fn is_free(&self, t: TxNo) -> bool
-        ensures usage { IsTrue result → is_unused (slice_get self.now.lives (t.value - 1)) ≡ true }
-        ensures unrecorded { IsTrue result → first_of (identifier_of t.value) (open_records self.now.log.slots) ≡ None }
-        ensures full { result ≡ false → (is_unused (slice_get self.now.lives (t.value - 1)) ≡ false) ⊎ (first_of (identifier_of t.value) (open_records self.now.log.slots) ≢ None) }
+    /// The transaction that goes on at this place; where none does, that of epoch 0, which none of a manager has.
+    fn at_place(&self, place: TxNo) -> TxId
+        ensures standing { result ≡ standing_at place self.now.lives }
+        ensures place { result.t ≡ place }
     {
-        let unused = match self.lives.get(t.index()) {
-            Some(live) => live.usage() == Usage::Free,
-            None => true,
-        };
-        unused && self.log.lookup(identifier(t)).is_none()
+        let _ = &self.alloc;
+        self.standing(place)
     }
 
-    /// The least number with which a transaction may begin.
-    fn vacant(&self) -> Option<TxNo>
-        ensures free { IfSome result (λ t. is_unused (slice_get self.now.lives (t.value - 1)) ≡ true) }
-        ensures within { IfSome result (λ t. t.value ≤ length self.now.lives + 1) }
-        ensures unrecorded { IfSome result (λ t. first_of (identifier_of t.value) (open_records self.now.log.slots) ≡ None) }
-        ensures full { result ≡ None → IsFull self.now.log self.now.lives }
+    fn standing(&self, place: TxNo) -> TxId
+        ensures { result ≡ standing_at place self.now.lives }
     {
-        for n in 0..TxNo::MAX {
-            let t = TxNo::new(n + 1)?;
-            if t.index() > self.lives.len() {
-                return None;
-            }
-            if self.is_free(t) {
-                return Some(t);
-            }
-        }
-        None
-    }
-
-    /// Begins a transaction. (`new CommittableTransaction(timeout)` of System.Transactions.)
-    ///
-    /// # Errors
-    ///
-    /// - [`TxError::Many`] where each number from 1 to 256 is one of a transaction that goes on, or that came to the log.
-    /// - [`TxError::Memory`] where memory ran out.
-    pub fn begin(&mut self, timeout: Timeout) -> Result<CommittableTransaction, TxError>
-        ensures fresh { IfOk result (λ tx. live_at tx.number self.old.lives ≡ None) }
-        ensures begun { IfOk result (λ tx. (y : LiveState) × (live_at tx.number self.new.lives ≡ Some y) × IsCalled D.faults self.old.log (Begin tx.number timeout) 1 Fine (blank tx.number self.old.reading) y) }
-        ensures others { IfOk result (λ tx. AreSame tx.number self.old.lives self.new.lives) }
-        ensures refused { OnErr result ((u : TxNo) → live_at u self.new.lives ≡ live_at u self.old.lives) }
-        ensures rest { KeepsRest self.old self.new }
-        ensures cause { IfErr result (λ e. (e ≡ TxError.Memory) ⊎ ((e ≡ TxError.Many) × IsFull self.old.log self.old.lives)) }
-    {
-        let Some(t) = self.vacant() else {
-            return Err(TxError::Many);
-        };
-        let mut live = match Live::new(self.alloc, t, self.reading) {
-            Ok(live) => live,
-            Err(e) => return Err(e),
-        };
-        let c = Call::Begin(t, timeout);
-        match live.call(&self.log, &mut self.out, self.actor, &c) {
-            Ok(_) => {}
-            Err(e) => return Err(e),
-        }
-        live.is_sound();
-        let i = t.index();
-        if i < self.lives.len() {
-            self.lives[i] = live;
-            return Ok(CommittableTransaction { number: t });
-        }
-        match self.lives.push(live) {
-            Ok(()) => Ok(CommittableTransaction { number: t }),
-            Err(_) => Err(TxError::Memory),
+        match self.lives.get(place.index()) {
+            Some(live) => live.standing(place),
+            None => TxId::first(place),
         }
     }
 
     /// Enters a call of a transaction, which makes nothing, and gives its line and the answer.
-    fn call(&mut self, t: TxNo, c: &Call) -> Result<(u32, Answer), TxError>
+    fn call(&mut self, t: TxId, c: &Call) -> Result<(u32, Answer), TxError>
         requires plain { is_plain c.now ≡ true }
         requires makes { made_by c.now ≡ None }
         ensures called { IfOk result (λ x. CallsAt D.faults self.old.log t c.now x.0 x.1 self.old.lives self.new.lives) }
@@ -211,10 +124,10 @@ impl<D: Disk + Drop, C: Clock + Drop> TransactionManager<D, C> {
         ensures rest { KeepsRest self.old self.new }
         ensures cause { IfErr result (MayFail t self.old.lives) }
     {
-        let Some(live) = self.lives.get_mut(t.index()) else {
+        let Some(live) = self.lives.get_mut(index(t)) else {
             return Err(TxError::Refused(Answer::NoSuch));
         };
-        if !live.is_used() {
+        if !live.is_live(t) {
             return Err(TxError::Refused(Answer::NoSuch));
         }
         let called = live.call(&self.log, &mut self.out, self.actor, c);
@@ -223,7 +136,7 @@ impl<D: Disk + Drop, C: Clock + Drop> TransactionManager<D, C> {
     }
 
     /// Enters a call of a transaction, which makes nothing.
-    fn enter(&mut self, t: TxNo, c: &Call) -> Result<(), TxError>
+    fn enter(&mut self, t: TxId, c: &Call) -> Result<(), TxError>
         requires plain { is_plain c.now ≡ true }
         requires makes { made_by c.now ≡ None }
         ensures entered { Enters D.faults self.old.log t c.now self.old.lives self.new.lives result }
@@ -271,7 +184,7 @@ impl<D: Disk + Drop, C: Clock + Drop> TransactionManager<D, C> {
         self.next_in(tx.number)
     }
 
-    fn next_in(&mut self, t: TxNo) -> Result<Option<Event>, TxError>
+    fn next_in(&mut self, t: TxId) -> Result<Option<Event>, TxError>
         ensures comes { IfOk result (λ e. (x : LiveState) → live_at t self.old.lives ≡ Some x → (y : LiveState) × (live_at t self.new.lives ≡ Some y) × Advances e x y) }
         ensures stays { OnErr result ((x : LiveState) → live_at t self.old.lives ≡ Some x → (y : LiveState) × (live_at t self.new.lives ≡ Some y) × Advances None x y) }
         ensures all { result ≡ Ok None → (y : LiveState) → live_at t self.new.lives ≡ Some y → (y.heard ≡ length (past y)) × AllAsked y.tx.world }
@@ -279,10 +192,11 @@ impl<D: Disk + Drop, C: Clock + Drop> TransactionManager<D, C> {
         ensures time { KeepsTime self.old self.new }
         ensures cause { IfErr result (λ e. (e ≡ TxError.Memory) ⊎ ((e ≡ TxError.Refused NoSuch) × (live_at t self.old.lives ≡ None))) }
     {
-        let Some(live) = self.lives.get_mut(t.index()) else {
+        no_transaction_is_an_epoch();
+        let Some(live) = self.lives.get_mut(index(t)) else {
             return Err(TxError::Refused(Answer::NoSuch));
         };
-        if !live.is_used() {
+        if !live.is_live(t) {
             return Err(TxError::Refused(Answer::NoSuch));
         }
         let came = live.next(&mut self.log, &mut self.out);

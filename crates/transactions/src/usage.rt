@@ -1,14 +1,12 @@
-//! What a number of a manager is used for.
+//! Who has a transaction.
 
-/// What a number of a manager is used for.
+/// What a place of a manager is used for.
 #[derive(Clone, Copy, PartialEq, Eq, Debug)]
 pub(crate) enum Usage {
-    /// A transaction of this number may begin.
+    /// Its transaction is over: another may take the place, with a number of its own.
     Free,
-    /// A transaction had it that came to the log, so that recovery information names it.
-    Spent,
-    /// A transaction has it, which somebody holds.
+    /// Its transaction goes on, and somebody holds it.
     Held,
-    /// A transaction has it, which nobody holds any more.
+    /// Its transaction goes on, and nobody holds it any more.
     Left,
 }

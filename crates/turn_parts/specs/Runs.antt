@@ -4,6 +4,7 @@ use Rattle.dtx_values.specs.declared.number.ActorNo.{ActorNo}
 use Rattle.dtx_values.specs.declared.number.TxNo.{TxNo}
 use Rattle.dtx_values.specs.declared.script.Line.{Line}
 use Rattle.dtx_values.specs.declared.trace.Place.{Place}
+use Rattle.dtx_values.specs.TxIds.{first_id}
 use Rattle.dtx_values.specs.Table.{how_many}
 use Rattle.dtx_model.specs.AtLog.{at_log, faults, follow_log}
 use Rattle.dtx_model.specs.Caused.{Caused, Settled}
@@ -23,7 +24,7 @@ use Rattle.turn_parts.specs.LogEvents.{IsLogHistory}
 
 -- a transaction to which nothing came yet
 abbrev pub untouched : TxNo → TxState
-untouched t = record { transaction = t; world = record { calls = []; past = [] }; ours = None; unsure = false; life = 0 }
+untouched t = record { transaction = first_id t; world = record { calls = []; past = [] }; ours = None; unsure = false; life = 0 }
 
 -- in each transaction each restart found what may be found: so it is where none came, and on an honest disk
 abbrev pub AreTied : List Placed → Type 0

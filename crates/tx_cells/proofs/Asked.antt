@@ -10,7 +10,7 @@ use Rattle.dtx_model.specs.Replies.{due_of, with_note}
 use Rattle.dtx_model.specs.World.{World, half}
 use Rattle.dtx_model.specs.Steps.{StepName, ReplyOf, pending}
 use Rattle.dtx_model.proofs.Bools.{and_left, and_right}
-use Rattle.dtx_model.proofs.SameNumbers.{same_enlistment}
+use Rattle.dtx_values.proofs.SameNumbers.{same_enlistment}
 use Rattle.script_calls.proofs.Unsilent.{unsilent}
 use Rattle.tx_world.specs.Stepping.{reply_in}
 use Rattle.turn_parts.specs.Marks.{is_due, is_that, same_note}

@@ -7,7 +7,7 @@ use Rattle.dtx_values.specs.declared.script.Body.{Body}
 use Rattle.dtx_values.specs.declared.script.Body.TheVariants.{Restart, Stop}
 use Rattle.dtx_values.specs.declared.script.Line.{Line}
 use Rattle.dtx_model.specs.Words.{kth}
-use Rattle.dtx_model.proofs.SameNumbers.{same_actor}
+use Rattle.dtx_values.proofs.SameNumbers.{same_actor}
 use Rattle.script_calls.specs.Due.{log_call}
 use Rattle.script_calls.specs.Prefix.{IsLogPrefix}
 use Rattle.script_calls.specs.Rows.{next_in, row_at}

@@ -2,6 +2,7 @@
 use Rattle.std.proofs.Common.{ℕ, true, ap, sym, ◌∙◌, if◌then◌else◌}
 use Rattle.std.specs.Prelude.{Bool, Result, Ok, Err, IfOk}
 use Rattle.dtx_values.specs.declared.note.Note.{Note}
+use Rattle.dtx_values.specs.TxIds.{number_of}
 use Rattle.dtx_values.specs.declared.note.Reply.{Reply}
 use Rattle.dtx_values.specs.declared.number.ActorNo.{ActorNo}
 use Rattle.dtx_values.specs.declared.number.EnlNo.{EnlNo}
@@ -21,7 +22,7 @@ pub done_alone : (m : Step) (x y : TxState) → DoesAlone m x y → IsDone m x y
 done_alone m x y d = (
   true,
   0,
-  record { transaction = d.transaction; world = d.world ∙ turned_silent x.transaction.value x.world m; life = d.life ∙ sym (ap (λ b. if b then 0 else x.life) d.silent); kept = d.kept },
+  record { transaction = d.transaction; world = d.world ∙ turned_silent (number_of x.transaction) x.world m; life = d.life ∙ sym (ap (λ b. if b then 0 else x.life) d.silent); kept = d.kept },
 )
 
 pub done_over : {D : Type 0} (faults : D → ℕ) (from to : LogState D) (m : Step) (x y : TxState) → Does faults m x from y to → IsDone m x y

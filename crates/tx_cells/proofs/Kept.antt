@@ -1,7 +1,10 @@
 -- What a cell keeps, at its start, after a step, and after a call.
 use Rattle.std.proofs.Common.{◌≡◌, ℕ, zero, suc, ◌==◌, Bool, true, false, ◌&&◌, ◌||◌, not, List, [], ◌∷◌, Option, Some, None, is_some, refl, ap, sym, subst, ◌∙◌, inl, inr, if◌then◌else◌}
 use Rattle.std.specs.Prelude.{IsTrue}
+use Rattle.dtx_values.proofs.Ids.{same_id}
 use Rattle.dtx_values.specs.declared.call.Call.{Call}
+use Rattle.dtx_values.specs.TxIds.{first_id, number_in, number_of}
+use Rattle.dtx_values.specs.declared.tx_id.TxId.{TxId}
 use Rattle.dtx_values.specs.declared.call.Call.TheVariants.{Await, Do, Durable, Marshal}
 use Rattle.dtx_values.specs.declared.number.ActorNo.{ActorNo}
 use Rattle.dtx_values.specs.declared.number.TxNo.{TxNo}
@@ -45,7 +48,24 @@ none_in n a c i = by i.place i.stands
     by (suc k) e = cc
 
 pub kept_new : (s : List Line) (k : ℕ) (honest : Bool) (t : TxNo) (rows : List (SeenRow Call)) → IsThreadable s → is_made s (OfTransaction t.value) ≡ true → IsPrefix s t.value rows [] → IsKept s k honest (untouched t) rows
-kept_new s k honest t rows script named prefix = record { script = script; named = named; given = λ n a c i. absurd (none_in n a c i); in_order = prefix; planned = refl; sound = λ _. refl; unfilled = λ _. refl }
+kept_new s k honest t rows script named prefix = record { script = script; first = refl; named = named; given = λ n a c i. absurd (none_in n a c i); in_order = prefix; planned = refl; sound = λ _. refl; unfilled = λ _. refl }
+
+-- a transaction of epoch 0, by its number
+pub of_first : (x : TxId) → x.epoch ≡ 0 → first_id x.t ≡ x
+of_first x e = same_id (first_id x.t) x (ap (λ n. number_in n x.t.value) (sym e))
+
+-- a world that was made of it is that of a transaction to which nothing came yet
+pub made_untouched : (x : TxState) (i : TxId) (t : TxNo) → x ≡ record { transaction = i; world = record { calls = []; past = [] }; ours = None; unsure = false; life = 0 } → i ≡ first_id t → x ≡ untouched t
+made_untouched x i t is first = is ∙ ap new_one first
+  where
+    new_one : TxId → TxState
+    new_one j = record { transaction = j; world = record { calls = []; past = [] }; ours = None; unsure = false; life = 0 }
+
+-- and so it is kept
+pub kept_made : (s : List Line) (k : ℕ) (honest : Bool) (x : TxState) (t : TxNo) (rows : List (SeenRow Call)) → x ≡ untouched t → IsThreadable s → is_made s (OfTransaction t.value) ≡ true → IsPrefix s t.value rows []
+    → (t ≡ x.transaction.t) × IsKept s k honest x rows
+kept_made s k honest x t rows is script named prefix =
+    (sym (ap (λ (y : TxState). y.transaction.t) is), subst (λ (y : TxState). IsKept s k honest y rows) (sym is) (kept_new s k honest t rows script named prefix))
 
 -- the replies after a step, with the stop that may follow it
 turned_right : (s : List Line) (k : ℕ) (up : Bool) (t : ℕ) (w : World) (m : Step) → IsReplyRight (plans_of s) (has_object s k) m → always (is_as_planned (plans_of s) (has_object s k)) w.past ≡ true
@@ -58,45 +78,47 @@ turned_right s k up t w m q p = by (sends_begin t w m && not up)
     by false = right_step (plans_of s) (has_object s k) t w m q p
 
 -- no append finds the log full in a step that is none
-unfilled_step : (up : Bool) (x y : TxState) (m : Step) → finds_full m ≡ false → y.world ≡ turned up x.transaction.value x.world m → has is_log_full x.world.past ≡ false → has is_log_full y.world.past ≡ false
-unfilled_step up x y m room w before = subst (λ (v : World). has is_log_full v.past ≡ false) (sym w) (unfilled_turned up x.transaction.value x.world m room before)
+unfilled_step : (up : Bool) (x y : TxState) (m : Step) → finds_full m ≡ false → y.world ≡ turned up (number_of x.transaction) x.world m → has is_log_full x.world.past ≡ false → has is_log_full y.world.past ≡ false
+unfilled_step up x y m room w before = subst (λ (v : World). has is_log_full v.past ≡ false) (sym w) (unfilled_turned up (number_of x.transaction) x.world m room before)
 
 -- So after a step that enters no call, over an honest disk doesn't find the log full, and after which what restarts found is tied where it was before,
 pub kept_tied : (s : List Line) (k : ℕ) (honest up : Bool) (x y : TxState) (rows : List (SeenRow Call)) (m : Step) → entered m x.world.calls ≡ x.world.calls → IsReplyRight (plans_of s) (has_object s k) m
-    → (IsTrue honest → finds_full m ≡ false) → (IsTrue honest → tied x.world.past ≡ true → tied y.world.past ≡ true) → y.transaction ≡ x.transaction → y.world ≡ turned up x.transaction.value x.world m → IsKept s k honest x rows → IsKept s k honest y rows
+    → (IsTrue honest → finds_full m ≡ false) → (IsTrue honest → tied x.world.past ≡ true → tied y.world.past ≡ true) → y.transaction ≡ x.transaction → y.world ≡ turned up (number_of x.transaction) x.world m → IsKept s k honest x rows → IsKept s k honest y rows
 kept_tied s k honest up x y rows m none q room still t w kept =
-    let calls : y.world.calls ≡ x.world.calls = ap (λ (v : World). v.calls) w ∙ (turned_calls up x.transaction.value x.world m ∙ none) in
+    let calls : y.world.calls ≡ x.world.calls = ap (λ (v : World). v.calls) w ∙ (turned_calls up (number_of x.transaction) x.world m ∙ none) in
     record {
       script = kept.script;
-      named = subst (λ (u : TxNo). is_made s (OfTransaction u.value) ≡ true) (sym t) kept.named;
-      given = λ n a c i. subst (λ (u : TxNo). IsCallOf s u.value n a c) (sym t) (kept.given n a c (subst (λ ks. IsIn ks n a c) calls i));
-      in_order = subst (λ (u : TxNo). IsPrefix s u.value rows y.world.calls) (sym t) (subst (IsPrefix s x.transaction.value rows) (sym calls) kept.in_order);
-      planned = subst (λ (v : World). always (is_as_planned (plans_of s) (has_object s k)) v.past ≡ true) (sym w) (turned_right s k up x.transaction.value x.world m q kept.planned);
+      first = ap (λ (u : TxId). u.epoch) t ∙ kept.first;
+      named = subst (λ (u : TxId). is_made s (OfTransaction (number_of u)) ≡ true) (sym t) kept.named;
+      given = λ n a c i. subst (λ (u : TxId). IsCallOf s (number_of u) n a c) (sym t) (kept.given n a c (subst (λ ks. IsIn ks n a c) calls i));
+      in_order = subst (λ (u : TxId). IsPrefix s (number_of u) rows y.world.calls) (sym t) (subst (IsPrefix s (number_of x.transaction) rows) (sym calls) kept.in_order);
+      planned = subst (λ (v : World). always (is_as_planned (plans_of s) (has_object s k)) v.past ≡ true) (sym w) (turned_right s k up (number_of x.transaction) x.world m q kept.planned);
       sound = λ is. still is (kept.sound is);
       unfilled = λ is. unfilled_step up x y m (room is) w (kept.unfilled is);
     }
 
 -- as after each but a restart,
-pub sound_step : (up : Bool) (x y : TxState) (m : Step) → is_restarting m ≡ false → y.world ≡ turned up x.transaction.value x.world m → tied x.world.past ≡ true → tied y.world.past ≡ true
-sound_step up x y m other w before = subst (λ (v : World). tied v.past ≡ true) (sym w) (turned_tied up x.transaction.value x.world m other before)
+pub sound_step : (up : Bool) (x y : TxState) (m : Step) → is_restarting m ≡ false → y.world ≡ turned up (number_of x.transaction) x.world m → tied x.world.past ≡ true → tied y.world.past ≡ true
+sound_step up x y m other w before = subst (λ (v : World). tied v.past ≡ true) (sym w) (turned_tied up (number_of x.transaction) x.world m other before)
 
 pub kept_step : (s : List Line) (k : ℕ) (honest up : Bool) (x y : TxState) (rows : List (SeenRow Call)) (m : Step) → entered m x.world.calls ≡ x.world.calls → IsReplyRight (plans_of s) (has_object s k) m → (IsTrue honest → finds_full m ≡ false) → is_restarting m ≡ false
-    → y.transaction ≡ x.transaction → y.world ≡ turned up x.transaction.value x.world m → IsKept s k honest x rows → IsKept s k honest y rows
+    → y.transaction ≡ x.transaction → y.world ≡ turned up (number_of x.transaction) x.world m → IsKept s k honest x rows → IsKept s k honest y rows
 kept_step s k honest up x y rows m none q room other t w kept = kept_tied s k honest up x y rows m none q room (λ is. sound_step up x y m other w) t w kept
 
 -- and after a call that the script gives, with its row one further.
-pub kept_call : (s : List Line) (k : ℕ) (honest up : Bool) (x y : TxState) (rows rows' : List (SeenRow Call)) (n : ℕ) (a : ActorNo) (c : Call) (m : ℕ) → IsCallOf s x.transaction.value n a c
-    → IsPrefix s x.transaction.value rows' (record { line = n; actor = a; call = c } ∷ x.world.calls) → y.transaction ≡ x.transaction → y.world ≡ turned up x.transaction.value x.world (Calls n a c m) → IsKept s k honest x rows → IsKept s k honest y rows'
+pub kept_call : (s : List Line) (k : ℕ) (honest up : Bool) (x y : TxState) (rows rows' : List (SeenRow Call)) (n : ℕ) (a : ActorNo) (c : Call) (m : ℕ) → IsCallOf s (number_of x.transaction) n a c
+    → IsPrefix s (number_of x.transaction) rows' (record { line = n; actor = a; call = c } ∷ x.world.calls) → y.transaction ≡ x.transaction → y.world ≡ turned up (number_of x.transaction) x.world (Calls n a c m) → IsKept s k honest x rows → IsKept s k honest y rows'
 kept_call s k honest up x y rows rows' n a c m mine prefix t w kept =
     let here : EnteredCall = record { line = n; actor = a; call = c } in
-    let calls : y.world.calls ≡ here ∷ x.world.calls = ap (λ (v : World). v.calls) w ∙ turned_calls up x.transaction.value x.world (Calls n a c m) in
+    let calls : y.world.calls ≡ here ∷ x.world.calls = ap (λ (v : World). v.calls) w ∙ turned_calls up (number_of x.transaction) x.world (Calls n a c m) in
     record {
       script = kept.script;
-      named = subst (λ (u : TxNo). is_made s (OfTransaction u.value) ≡ true) (sym t) kept.named;
-      given = λ j b d i. subst (λ (u : TxNo). IsCallOf s u.value j b d) (sym t)
-          (given_more s x.transaction.value here x.world.calls mine kept.given j b d (subst (λ ks. IsIn ks j b d) calls i));
-      in_order = subst (λ (u : TxNo). IsPrefix s u.value rows' y.world.calls) (sym t) (subst (IsPrefix s x.transaction.value rows') (sym calls) prefix);
-      planned = subst (λ (v : World). always (is_as_planned (plans_of s) (has_object s k)) v.past ≡ true) (sym w) (turned_right s k up x.transaction.value x.world (Calls n a c m) tt kept.planned);
+      first = ap (λ (u : TxId). u.epoch) t ∙ kept.first;
+      named = subst (λ (u : TxId). is_made s (OfTransaction (number_of u)) ≡ true) (sym t) kept.named;
+      given = λ j b d i. subst (λ (u : TxId). IsCallOf s (number_of u) j b d) (sym t)
+          (given_more s (number_of x.transaction) here x.world.calls mine kept.given j b d (subst (λ ks. IsIn ks j b d) calls i));
+      in_order = subst (λ (u : TxId). IsPrefix s (number_of u) rows' y.world.calls) (sym t) (subst (IsPrefix s (number_of x.transaction) rows') (sym calls) prefix);
+      planned = subst (λ (v : World). always (is_as_planned (plans_of s) (has_object s k)) v.past ≡ true) (sym w) (turned_right s k up (number_of x.transaction) x.world (Calls n a c m) tt kept.planned);
       sound = λ is. sound_step up x y (Calls n a c m) refl w (kept.sound is);
       unfilled = λ is. unfilled_step up x y (Calls n a c m) refl w (kept.unfilled is);
     }
@@ -219,6 +241,6 @@ pub next_may : (s : List Line) (k : ℕ) (honest : Bool) (x : TxState) (rows : L
     → may_enter x.world n c ≡ true
 next_may s k honest x rows a n c kept next =
     let d : Due Call = record { line = n; call = c } in
-    let no_line = next_line_new s x.transaction.value rows x.world.calls a d kept.in_order next in
-    let no_maker = next_name_new s x.transaction.value rows x.world.calls a d (is_maker (made_by c)) kept.script.script.named kept.in_order next (same_made (made_by c)) in
+    let no_line = next_line_new s (number_of x.transaction) rows x.world.calls a d kept.in_order next in
+    let no_maker = next_name_new s (number_of x.transaction) rows x.world.calls a d (is_maker (made_by c)) kept.script.script.named kept.in_order next (same_made (made_by c)) in
     rw (no_line, no_maker) refl

@@ -18,7 +18,7 @@ use Rattle.dtx_model.specs.Words.{each, past_of, put}
 use Rattle.dtx_model.proofs.Bools.{and_both, and_left, and_right}
 use Rattle.dtx_model.proofs.Histories.{past_of-snoc}
 use Rattle.dtx_model.proofs.Reading.{each-past}
-use Rattle.dtx_model.proofs.SameNumbers.{same_actor}
+use Rattle.dtx_values.proofs.SameNumbers.{same_actor}
 use Rattle.script_calls.specs.Due.{log_call, log_calls_at, log_calls_until, log_due, log_due_by_line}
 use Rattle.script_calls.specs.Prefix.{IsLogPrefix, lines_by}
 use Rattle.script_calls.specs.Rows.{further, next_in, row_at}

@@ -6,8 +6,9 @@ use Rattle.std.proofs.lemmas.Bool.{cases_Bool}
 use Rattle.std.proofs.lemmas.Bool.Decides.{nat_tests}
 use Rattle.outside.specs.Faults.{Rose}
 use Rattle.dtx_values.specs.declared.entry.Entry.{Entry}
+use Rattle.dtx_values.specs.TxIds.{number_in, number_of}
+use Rattle.dtx_values.specs.declared.tx_id.TxId.{TxId}
 use Rattle.dtx_values.specs.declared.entry.Entry.TheVariants.{Stopped}
-use Rattle.dtx_values.specs.declared.number.TxNo.{TxNo}
 use Rattle.dtx_values.specs.declared.script.Line.{Line}
 use Rattle.dtx_model.specs.AtLog.{armed, faults as faults_told, is_called, is_up_by, one_if}
 use Rattle.dtx_model.specs.Grammar.{OfTransaction, is_made}
@@ -127,7 +128,8 @@ counted_calm b m n old new past le unarmed k = record {
 
 -- What is known of a step of transaction x, which is y after it, over a log that is `to` after it.
 pub record StepsOver {D : Type 0} (faults : D → ℕ) (honest : Bool) (image : D → List ℕ → Type 0) (s : List Line) (x y : TxState) (from to : LogState D) : Type 0 where
-  pub named : is_made s (OfTransaction x.transaction.value) ≡ true
+  pub named : is_made s (OfTransaction (number_of x.transaction)) ≡ true
+  pub first : x.transaction.epoch ≡ 0
   pub same : y.transaction ≡ x.transaction
   pub sure : IsTrue honest → IsTrue from.is_up → AllHold (image from.disk) (open_records from.slots)
   pub tie : IsTrue from.is_up → Tie x.ours x.unsure (first_of (id_of x) (open_records from.slots))
@@ -135,13 +137,17 @@ pub record StepsOver {D : Type 0} (faults : D → ℕ) (honest : Bool) (image : 
   pub step : Step
   pub answered : IsAnswered faults x from to step
 
-own_of : (s : List Line) (x : TxState) → is_made s (OfTransaction x.transaction.value) ≡ true → (r : CommitRecord) → is_record_of (id_of x) r ≡ true → is_own s r ≡ true
-own_of s x named r is = mine s x.transaction.value x.transaction.in_range.0 x.transaction.in_range.1 named r is
+own_of : (s : List Line) (x : TxState) → x.transaction.epoch ≡ 0 → is_made s (OfTransaction (number_of x.transaction)) ≡ true → (r : CommitRecord) → is_record_of (id_of x) r ≡ true → is_own s r ≡ true
+own_of s x first named r is =
+    let same : x.transaction.t.value ≡ number_of x.transaction = ap (λ n. number_in n x.transaction.t.value) (sym first) in
+    let low = x.transaction.t.in_range.0 in
+    let high = x.transaction.t.in_range.1 in
+    mine s (number_of x.transaction) (omega (arith, same, low)) (omega (arith, same, high)) named r is
 
 own_now : {D : Type 0} (faults : D → ℕ) (honest : Bool) (image : D → List ℕ → Type 0) (s : List Line) (x y : TxState) (from to : LogState D) → StepsOver faults honest image s x y from to → IsTrue honest → AreOwn s (open_records from.slots) → (rs : List CommitRecord)
     → of_others (id_of x) rs ≡ of_others (id_of x) (open_records from.slots) → Fits y rs → AreOwn s rs
 own_now faults honest image s x y from to k is o rs e f =
-    own_kept s (id_of x) rs (open_records from.slots) (own_of s x k.named) e (subst (λ (t : TxNo). AtMostOne (identifier_of t.value) rs) k.same f.one) o
+    own_kept s (id_of x) rs (open_records from.slots) (own_of s x k.first k.named) e (subst (λ (t : TxId). AtMostOne (identifier_of (number_of t)) rs) k.same f.one) o
 
 held_step : {D : Type 0} (faults : D → ℕ) (honest : Bool) (image : D → List ℕ → Type 0) (s : List Line) (x y : TxState) (from to : LogState D) → StepsOver faults honest image s x y from to → (IsTrue honest → IsTrue from.is_up → AreOwn s (open_records from.slots))
     → IsTrue honest → IsTrue to.is_up → AreOwn s (open_records to.slots)

@@ -1,6 +1,7 @@
 -- What lies under a transaction's lock, and what its type keeps.
 use Rattle.std.specs.Prelude.{ℕ, ◌≡◌, ◌⊎◌, Bool, true, false, List, Some, IsTrue}
 use Rattle.dtx_values.specs.declared.call.Call.{Call}
+use Rattle.dtx_values.specs.TxIds.{number_of}
 use Rattle.dtx_values.specs.declared.note.Note.{Note}
 use Rattle.dtx_values.specs.declared.note.Reply.{Reply}
 use Rattle.dtx_values.specs.declared.number.ActorNo.{ActorNo}
@@ -25,14 +26,15 @@ pub record Cell : Type 0 where
   pub rows : List (SeenRow Call)
   pub out : List (EnlNo × Note)
 
--- What a cell keeps in a run of the script s in which the first k managers have an object, and whose disk tells what it holds where `honest` says so: the script names the transaction, each call that was entered is one that its line
+-- What a cell keeps in a run of the script s in which the first k managers have an object, and whose disk tells what it holds where `honest` says so: the script names the transaction, which is of epoch 0, each call that was entered is one that its line
 -- gives the transaction, of each actor's calls there those that were entered are the first ones, in order, and each reply is the planned one, or that of an enlistment whose manager has an object; over an honest disk each restart of the log
 -- that the history tells of found what may be found, and no append found the log full.
 pub record IsKept (s : List Line) (k : ℕ) (honest : Bool) (x : TxState) (rows : List (SeenRow Call)) : Type 0 where
   pub script : IsThreadable s
-  pub named : is_made s (OfTransaction x.transaction.value) ≡ true
-  pub given : (n : ℕ) (a : ActorNo) (c : Call) → IsIn x.world.calls n a c → IsCallOf s x.transaction.value n a c
-  pub in_order : IsPrefix s x.transaction.value rows x.world.calls
+  pub first : x.transaction.epoch ≡ 0
+  pub named : is_made s (OfTransaction (number_of x.transaction)) ≡ true
+  pub given : (n : ℕ) (a : ActorNo) (c : Call) → IsIn x.world.calls n a c → IsCallOf s (number_of x.transaction) n a c
+  pub in_order : IsPrefix s (number_of x.transaction) rows x.world.calls
   pub planned : always (is_as_planned (plans_of s) (has_object s k)) x.world.past ≡ true
   pub sound : IsTrue honest → tied x.world.past ≡ true
   pub unfilled : IsTrue honest → has is_log_full x.world.past ≡ false

@@ -1,6 +1,7 @@
 -- The next call of an actor at a transaction.
 use Rattle.std.specs.Prelude.{ℕ, ◌≡◌, ◌≢◌, ◌⊎◌, ◌==◌, ◌||◌, not, Bool, true, false, List, Option, Some, None, is_some, if◌then◌else◌}
 use Rattle.dtx_values.specs.declared.call.Call.{Call}
+use Rattle.dtx_values.specs.TxIds.{number_of}
 use Rattle.dtx_values.specs.declared.call.Call.TheVariants.{Await}
 use Rattle.dtx_values.specs.declared.number.ActorNo.{ActorNo}
 use Rattle.dtx_values.specs.declared.number.TxNo.{TxNo}
@@ -62,7 +63,7 @@ MayTurn s t a n Later = (u : TxNo) × IsCallOf s t n a (Await u)
 pub record Enters (does : Step → TxState → TxState → Type 0) (a : ActorNo) (n : ℕ) (answer : Turned) (old new : Cell) : Type 0 where
   pub call : Call
   pub next : next_of a old ≡ Some (record { line = n; call = call })
-  pub answered : answer ≡ Did (answer_at old.tx.transaction.value old.tx.world call 0)
+  pub answered : answer ≡ Did (answer_at (number_of old.tx.transaction) old.tx.world call 0)
   pub done : does (Calls n a call 0) old.tx new.tx
   pub ours : new.tx.ours ≡ old.tx.ours
   pub unsure : new.tx.unsure ≡ old.tx.unsure

@@ -20,7 +20,7 @@ TiesWith x log = IsTrue log.is_up → Tie x.ours x.unsure (first_of (id_of x) (o
 pub record DiffersFrom {D : Type 0} (x : TxState) (log : LogState D) (d : Differs) : Type 0 where
   pub ours : Option LogRecord
   pub found : Option LogRecord
-  pub is : d ≡ InLog x.transaction ours found
+  pub is : d ≡ InLog x.transaction.t ours found
   pub kept : option_map record_of ours ≡ x.ours
   pub there : option_map record_of found ≡ first_of (id_of x) (open_records log.slots)
   pub untied : TiesWith x log → ⊥

@@ -1,6 +1,7 @@
 //! What lies under a transaction's lock.
 ghost use Rattle.std.specs.Prelude.{◌≡◌, [], None, true, IfErr, IfOk, IsTrue, Some};
 ghost use Rattle.dtx_values.specs.declared.call.Call.{Call};
+ghost use Rattle.dtx_values.specs.TxIds.{first_id, number_of};
 ghost use Rattle.dtx_values.specs.declared.number.ActorNo.{ActorNo};
 ghost use Rattle.dtx_model.specs.Caused.{Caused, IsCallOf};
 ghost use Rattle.dtx_model.specs.Grammar.{OfTransaction, is_made};
@@ -19,7 +20,7 @@ ghost use Rattle.tx_cells.specs.Entering.{next_of};
 
 use crate::error::TurnError;
 use crate::run::Run;
-use dtx_values::{ActorNo, Call, EnlNo, Note, Outbox, Outcome, TxNo};
+use dtx_values::{ActorNo, Call, EnlNo, Note, Outbox, Outcome, TxId, TxNo};
 use entry_lists::Entries;
 use outcome_law::{crossings, lifting, one_outcome};
 use script_calls::{Due, Rows};
@@ -54,7 +55,7 @@ impl<N: Run> Model for CellState<N> {
 
     ghost view = { λ c. record { tx = c.world; rows = c.rows; out = c.out.items } };
 
-    ghost invariant = { λ c. (c.t ≡ c.world.transaction) × IsKept N.script N.objects N.honest c.world c.rows };
+    ghost invariant = { λ c. (c.t ≡ c.world.transaction.t) × IsKept N.script N.objects N.honest c.world c.rows };
 }
 
 impl<N: Run> CellState<N> {
@@ -72,7 +73,7 @@ impl<N: Run> CellState<N> {
     {
         Ok(CellState {
             t,
-            world: TxWorld::new(alloc, t)?,
+            world: TxWorld::new(alloc, TxId::first(t))?,
             rows,
             out: Vec::new(alloc),
             outbox: Outbox::with_room(alloc)?,
@@ -84,15 +85,15 @@ impl<N: Run> CellState<N> {
     /// ones of its calls there, in order; it gets over each connection what was sent there; and over an honest disk each restart of the log found what may be found, and so it is promoted in order, what is told is just, no two are told opposite outcomes, and
     /// nobody learns what wasn't decided. The latter hold also over another disk, where the history itself says what the restarts found. It does nothing when it runs; a caller's proof asks for it.
     pub fn is_caused(&self)
-        ensures caused { Caused N.script N.objects self.now.tx.transaction.value self.now.tx.world.past }
-        ensures in_order { IsInOrder N.script self.now.tx.transaction.value self.now.tx.world.calls }
+        ensures caused { Caused N.script N.objects (number_of self.now.tx.transaction) self.now.tx.world.past }
+        ensures in_order { IsInOrder N.script (number_of self.now.tx.transaction) self.now.tx.world.calls }
         ensures wires { WireRun self.now.tx.world.past }
         ensures sound { IsTrue N.honest → tied self.now.tx.world.past ≡ true }
-        ensures promotes { IsTrue N.honest → promotes N.script self.now.tx.transaction.value self.now.tx.world.past ≡ true }
+        ensures promotes { IsTrue N.honest → promotes N.script (number_of self.now.tx.transaction) self.now.tx.world.past ≡ true }
         ensures just { IsTrue N.honest → justified self.now.tx.world.past ≡ true }
         ensures agrees { IsTrue N.honest → agree self.now.tx.world.past ≡ true }
         ensures learned { IsTrue N.honest → Learned self.now.tx.world.past }
-        ensures tied_promotes { tied self.now.tx.world.past ≡ true → promotes N.script self.now.tx.transaction.value self.now.tx.world.past ≡ true }
+        ensures tied_promotes { tied self.now.tx.world.past ≡ true → promotes N.script (number_of self.now.tx.transaction) self.now.tx.world.past ≡ true }
         ensures tied_just { tied self.now.tx.world.past ≡ true → justified self.now.tx.world.past ≡ true }
         ensures tied_agrees { tied self.now.tx.world.past ≡ true → agree self.now.tx.world.past ≡ true }
         ensures tied_learned { tied self.now.tx.world.past ≡ true → Learned self.now.tx.world.past }
@@ -103,16 +104,18 @@ impl<N: Run> CellState<N> {
         crossings();
     }
 
-    /// The script names the transaction. It does nothing when it runs; a caller's proof asks for it.
+    /// The script names the transaction, which is of epoch 0. It does nothing when it runs; a caller's proof asks for it.
     pub fn is_named(&self)
-        ensures { is_made N.script (OfTransaction self.now.tx.transaction.value) ≡ true }
+        ensures first { self.now.tx.transaction.epoch ≡ 0 }
+        ensures named { is_made N.script (OfTransaction (number_of self.now.tx.transaction)) ≡ true }
     {
         let _ = &self.world;
     }
 
     /// The transaction.
     pub fn t(&self) -> TxNo
-        ensures { result ≡ self.now.tx.transaction }
+        ensures t { result ≡ self.now.tx.transaction.t }
+        ensures first { first_id result ≡ self.now.tx.transaction }
     {
         self.t
     }
@@ -120,7 +123,7 @@ impl<N: Run> CellState<N> {
     /// The actor's next call here; `None` where none is left. It is one that its line of the script gives the transaction.
     pub fn next(&self, a: ActorNo) -> Option<Due<Call>>
         ensures next { result ≡ next_of a self.now }
-        ensures ours { (d : Due Call) → result ≡ Some d → IsCallOf N.script self.now.tx.transaction.value d.line a d.call }
+        ensures ours { (d : Due Call) → result ≡ Some d → IsCallOf N.script (number_of self.now.tx.transaction) d.line a d.call }
     {
         self.rows.next(a)
     }

@@ -1,6 +1,7 @@
 //! The calls of a transaction's state that may be lent the log's.
 ghost use Rattle.std.specs.Prelude.{◌≡◌, ◌⊎◌, ◌<◌, IfErr, IfNone, IfOk, MatchOption, None, Ok, Some, false, true};
 ghost use Rattle.dtx_values.specs.declared.note.Note.{Note};
+ghost use Rattle.dtx_values.specs.TxIds.{number_of};
 ghost use Rattle.dtx_model.specs.Steps.{pending};
 ghost use Rattle.dtx_model.specs.Words.{kth};
 ghost use Rattle.tx_cells.specs.Cell.{MayReply};
@@ -37,7 +38,7 @@ impl<N: Run> CellState<N> {
         requires lent { IfNone log (may_promote_at N.script line ≡ false) }
         ensures entered { put_off self.old.tx.world line (next_of a self.old) ≡ None → IfOk result (λ r. Enters IsDone a line r self.old self.new) }
         ensures put_off { (x : Turned) → put_off self.old.tx.world line (next_of a self.old) ≡ Some x → IfOk result (λ r. (r ≡ x) × (self.new ≡ self.old)) }
-        ensures called { IfOk result (MayTurn N.script self.old.tx.transaction.value a line) }
+        ensures called { IfOk result (MayTurn N.script (number_of self.old.tx.transaction) a line) }
         ensures cause { IfErr result (λ e. (self.new ≡ self.old) × MatchOption log.entry (e ≡ TurnError.Memory) (λ l. IsCause self.old.tx l.now.log e)) }
     {
         self.is_kept();

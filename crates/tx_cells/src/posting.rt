@@ -17,7 +17,7 @@ impl<N: Run> CellState<N> {
     /// Where memory ran out.
     pub fn post(&self, alloc: Global) -> Result<Option<Box<Posted<N>>>, AllocError>
         ensures { IfOk result (λ p. MatchOption p (latest client_told_of self.now.tx.world.past ≡ None) (λ b. (latest client_told_of self.now.tx.world.past ≡ Some b.value.outcome)
-            × (b.value.transaction ≡ self.now.tx.transaction) × (b.value.past ≡ self.now.tx.world.past))) }
+            × (b.value.transaction ≡ self.now.tx.transaction.t) × (b.value.past ≡ self.now.tx.world.past))) }
     {
         let Some(outcome) = self.told() else {
             return Ok(None);

@@ -3,6 +3,7 @@ use Rattle.std.proofs.Common.{◌≡◌, arith, ℕ, zero, suc, Bool, true, fals
 use Rattle.std.specs.Prelude.{◌&&◌, ◌||◌, not, is_some, IfOk, IsSome, Ok, Result}
 use Rattle.std.proofs.lemmas.Bool.Decides.{nat_tests}
 use Rattle.dtx_values.specs.declared.call.Call.{Call}
+use Rattle.dtx_values.specs.TxIds.{number_of}
 use Rattle.dtx_values.specs.declared.call.Call.TheVariants.{Await}
 use Rattle.dtx_values.specs.declared.entry.Answer.{Answer}
 use Rattle.dtx_values.specs.declared.entry.Answer.TheVariants.{OutcomeIs, StillOpen}
@@ -87,22 +88,22 @@ was_entered a n x r old new entered off e = by (put_off old.tx.world n (next_of 
         absurd (never_did old.tx.world n (next_of a old) x (p ∙ ap Some (sym (subst (λ (z : Result Turned TurnError). IfOk z (λ q. (q ≡ y) × (new ≡ old))) e (off y p)).0)))
 
 -- the answer of the await of this line
-answered : (s : List Line) (a : ActorNo) (n : ℕ) (x : Answer) (old new : Cell) → is_await_at s n ≡ true → ((d : Due Call) → next_of a old ≡ Some d → IsCallOf s old.tx.transaction.value d.line a d.call) → Enters IsDone a n (Did x) old new
-    → (u : TxNo) × (answer_at old.tx.transaction.value old.tx.world (Await u) 0 ≡ x)
+answered : (s : List Line) (a : ActorNo) (n : ℕ) (x : Answer) (old new : Cell) → is_await_at s n ≡ true → ((d : Due Call) → next_of a old ≡ Some d → IsCallOf s (number_of old.tx.transaction) d.line a d.call) → Enters IsDone a n (Did x) old new
+    → (u : TxNo) × (answer_at (number_of old.tx.transaction) old.tx.world (Await u) 0 ≡ x)
 answered s a n x old new q ours e =
-    let c = await_call s old.tx.transaction.value n a e.call q (ours (record { line = n; call = e.call }) e.next) in
-    (c.0, ap (λ d. answer_at old.tx.transaction.value old.tx.world d 0) (sym c.1) ∙ sym (same x _ e.answered))
+    let c = await_call s (number_of old.tx.transaction) n a e.call q (ours (record { line = n; call = e.call }) e.next) in
+    (c.0, ap (λ d. answer_at (number_of old.tx.transaction) old.tx.world d 0) (sym c.1) ∙ sym (same x _ e.answered))
   where
     same : (y z : Answer) → Did y ≡ Did z → y ≡ z
     same y z e = cc
 
-pub entered_told : (s : List Line) (a : ActorNo) (n : ℕ) (o : Outcome) (old new : Cell) → is_await_at s n ≡ true → ((d : Due Call) → next_of a old ≡ Some d → IsCallOf s old.tx.transaction.value d.line a d.call)
+pub entered_told : (s : List Line) (a : ActorNo) (n : ℕ) (o : Outcome) (old new : Cell) → is_await_at s n ≡ true → ((d : Due Call) → next_of a old ≡ Some d → IsCallOf s (number_of old.tx.transaction) d.line a d.call)
     → Enters IsDone a n (Did (OutcomeIs o)) old new → IsSome (latest client_told_of old.tx.world.past)
-entered_told s a n o old new q ours e = let r = answered s a n (OutcomeIs o) old new q ours e in outcome_told old.tx.transaction.value old.tx.world r.0 o r.1
+entered_told s a n o old new q ours e = let r = answered s a n (OutcomeIs o) old new q ours e in outcome_told (number_of old.tx.transaction) old.tx.world r.0 o r.1
 
-pub entered_open : (s : List Line) (a : ActorNo) (n : ℕ) (old new : Cell) → is_await_at s n ≡ true → ((d : Due Call) → next_of a old ≡ Some d → IsCallOf s old.tx.transaction.value d.line a d.call)
+pub entered_open : (s : List Line) (a : ActorNo) (n : ℕ) (old new : Cell) → is_await_at s n ≡ true → ((d : Due Call) → next_of a old ≡ Some d → IsCallOf s (number_of old.tx.transaction) d.line a d.call)
     → Enters IsDone a n (Did StillOpen) old new → latest client_told_of old.tx.world.past ≡ None
-entered_open s a n old new q ours e = let r = answered s a n StillOpen old new q ours e in open_untold old.tx.transaction.value old.tx.world r.0 r.1
+entered_open s a n old new q ours e = let r = answered s a n StillOpen old new q ours e in open_untold (number_of old.tx.transaction) old.tx.world r.0 r.1
 
 -- a call that waits
 pub was_later : (a : ActorNo) (n : ℕ) (r : Result Turned TurnError) (old new : Cell) → (put_off old.tx.world n (next_of a old) ≡ None → IfOk r (λ q. Enters IsDone a n q old new))

@@ -1,6 +1,7 @@
 //! A call that waits for the outcome.
 ghost use Rattle.std.specs.Prelude.{◌≡◌, ◌&&◌, IfErr, IfOk, IsSome, None, Ok, Some, false, is_some, length, not, true};
 ghost use Rattle.dtx_values.specs.declared.entry.Answer.{Answer};
+ghost use Rattle.dtx_values.specs.TxIds.{number_of};
 ghost use Rattle.dtx_values.specs.declared.words.Outcome.{Outcome};
 ghost use Rattle.dtx_model.specs.Entries.{client_told_of};
 ghost use Rattle.dtx_model.specs.Words.{latest};
@@ -55,7 +56,7 @@ fn enter_await<D: Disk, N: Run>(
     ensures entered { (x : Answer) → result ≡ Ok (Turned.Did x) → Enters IsDone a line (Turned.Did x) state.old state.new }
     ensures open { result ≡ Ok (Turned.Did Answer.StillOpen) → (latest client_told_of state.old.tx.world.past ≡ None) × (is_quiet state.old ≡ true) }
     ensures later { result ≡ Ok Turned.Later → (latest client_told_of state.old.tx.world.past ≡ None) × (is_quiet state.old ≡ false) × (state.new ≡ state.old) }
-    ensures called { IfOk result (MayTurn N.script state.old.tx.transaction.value a line) }
+    ensures called { IfOk result (MayTurn N.script (number_of state.old.tx.transaction) a line) }
     ensures memory { IfErr result (λ e. (e ≡ TurnError.Memory) × (state.new ≡ state.old)) }
 {
     tell(alloc, cell, state, note)?;

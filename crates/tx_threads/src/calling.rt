@@ -1,6 +1,7 @@
 //! A call of an actor at a transaction, and at the log.
 ghost use Rattle.std.specs.Prelude.{◌≡◌, IfErr, IfOk, IsSome, None, Some, length};
 ghost use Rattle.dtx_model.specs.Words.{has};
+ghost use Rattle.dtx_values.specs.TxIds.{number_of};
 ghost use Rattle.tx_cells.specs.Board.{board_of};
 ghost use Rattle.tx_cells.specs.Entering.{Enters, IsDone, MayTurn, next_of, put_off};
 ghost use Rattle.tx_cells.specs.LogAnswers.{put_off_at_log};
@@ -29,7 +30,7 @@ fn enter<D: Disk, N: Run, R: Wait>(
 ) -> Result<Turned, TurnError>
     ensures entered { put_off state.old.tx.world line (next_of a state.old) ≡ None → IfOk result (λ r. Enters IsDone a line r state.old state.new) }
     ensures put_off { (x : Turned) → put_off state.old.tx.world line (next_of a state.old) ≡ Some x → IfOk result (λ r. (r ≡ x) × (state.new ≡ state.old)) }
-    ensures called { IfOk result (MayTurn N.script state.old.tx.transaction.value a line) }
+    ensures called { IfOk result (MayTurn N.script (number_of state.old.tx.transaction) a line) }
     ensures cause { IfErr result (λ e. MayFail D state.old.tx e × (state.new ≡ state.old)) }
 {
     if !cells.needs_log(line) {

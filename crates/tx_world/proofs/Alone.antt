@@ -1,9 +1,10 @@
 -- A pending step that needs no log, or is a reply: what of it is done, and that it leaves fewer that can come.
 use Rattle.std.proofs.Common.{◌≡◌, ◌<◌, ◌∙◌, ℕ, suc, true, false, Some, refl, sym, subst}
 use Rattle.dtx_values.specs.declared.note.Note.{Note}
+use Rattle.dtx_values.specs.TxIds.{number_of}
+use Rattle.dtx_values.specs.declared.tx_id.TxId.{TxId}
 use Rattle.dtx_values.specs.declared.note.Reply.{Reply as ReplyTo}
 use Rattle.dtx_values.specs.declared.number.EnlNo.{EnlNo}
-use Rattle.dtx_values.specs.declared.number.TxNo.{TxNo}
 use Rattle.dtx_model.specs.Plans.{plan_of, planned}
 use Rattle.dtx_model.specs.Replies.{due_of, fits}
 use Rattle.dtx_model.specs.Words.{kth}
@@ -43,14 +44,14 @@ pub kth_reply : {D : Type 0} (faults : D → ℕ) (k : ℕ) (e : EnlNo) (n : Not
 kth_reply faults k e n r old from new to at due plan fit d = record { name = ReplyOf e; step = Replies e r; stands = at; named = (r, n, due, fit, refl); planned = (n, due, plan); done = d }
 
 -- the k-th pending step leaves fewer steps
-pub alone_nearer : (k : ℕ) (old new : TxState) → IsOwnRun old.transaction.value old.world → DoesKthAlone k old new → steps_left new.world < steps_left old.world
+pub alone_nearer : (k : ℕ) (old new : TxState) → IsOwnRun (number_of old.transaction) old.world → DoesKthAlone k old new → steps_left new.world < steps_left old.world
 alone_nearer k old new run did =
     let P : World → Type 0 = λ w. steps_left w < steps_left old.world in
-    let same = did.done.world ∙ sym (turned_silent true old.transaction.value old.world did.step did.done.silent) in
-    subst P (sym same) (step_nearer (IsIn old.world.calls) true old.transaction.value run.0 old.world did.name did.step k run.1 did.stands did.named)
+    let same = did.done.world ∙ sym (turned_silent true (number_of old.transaction) old.world did.step did.done.silent) in
+    subst P (sym same) (step_nearer (IsIn old.world.calls) true (number_of old.transaction) run.0 old.world did.name did.step k run.1 did.stands did.named)
 
 -- so it is one of the steps that a `do` counts
-pub alone_more : (k m : ℕ) (start : World) (old new : TxState) → HasStepped old.transaction.value k m start old.world → DoesKthAlone k old new → HasStepped new.transaction.value k (suc m) start new.world
+pub alone_more : (k m : ℕ) (start : World) (old new : TxState) → HasStepped (number_of old.transaction) k m start old.world → DoesKthAlone k old new → HasStepped (number_of new.transaction) k (suc m) start new.world
 alone_more k m start old new before d =
-    let more : HasStepped old.transaction.value k (suc m) start new.world = (old.world, before, d.name, d.step, d.stands, d.named, false, refl, d.done.world) in
-    subst (λ (t : TxNo). HasStepped t.value k (suc m) start new.world) (sym d.done.transaction) more
+    let more : HasStepped (number_of old.transaction) k (suc m) start new.world = (old.world, before, d.name, d.step, d.stands, d.named, false, refl, d.done.world) in
+    subst (λ (t : TxId). HasStepped (number_of t) k (suc m) start new.world) (sym d.done.transaction) more

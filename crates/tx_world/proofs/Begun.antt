@@ -2,12 +2,14 @@
 -- sent.
 use Rattle.std.proofs.Common.{◌≡◌, ◌≤◌, ℕ, suc, ◌+◌, Bool, true, false, List, [], ◌∷◌, refl, ◌∙◌, ◌⊎◌, inl, inr, arith, if◌then◌else◌}
 use Rattle.std.proofs.lemmas.Bool.{cases_Bool}
+use Rattle.dtx_values.proofs.Ids.{number_high, number_low}
 use Rattle.dtx_values.specs.declared.entry.Entry.{Entry}
+use Rattle.dtx_values.specs.TxIds.{number_of}
+use Rattle.dtx_values.specs.declared.tx_id.TxId.{TxId}
 use Rattle.dtx_values.specs.declared.entry.Entry.TheVariants.{Sent}
 use Rattle.dtx_values.specs.declared.message.Conn.TheVariants.{Begin, Voter, Enl, Again}
 use Rattle.dtx_values.specs.declared.message.Dir.TheVariants.{Up, Down}
 use Rattle.dtx_values.specs.declared.message.Message.TheVariants.{BeginBegin}
-use Rattle.dtx_values.specs.declared.number.TxNo.{TxNo}
 use Rattle.dtx_values.specs.Table.{how_many}
 use Rattle.dtx_model.specs.Words.{has, onto}
 use Rattle.dtx_model.specs.Wires.{opens}
@@ -54,19 +56,19 @@ pub record MayWrite (t : ℕ) (w : World) (m : Step) : Type 0 where
   pub sendable : are_sendable (onto w.past (block_at t w m)) ≡ true
   pub runs : has is_begin_sent (block_at t w m) ≡ true → (core w).stopped ≡ false
 
-pub may_write : (t : TxNo) (w : World) (m : Step) → IsOwnRun t.value w → MayCome (IsIn (entered m w.calls)) t.value w m → AreMadeOnce (IsIn (entered m w.calls)) → MayWrite t.value w m
+pub may_write : (t : TxId) (w : World) (m : Step) → IsOwnRun (number_of t) w → MayCome (IsIn (entered m w.calls)) (number_of t) w m → AreMadeOnce (IsIn (entered m w.calls)) → MayWrite (number_of t) w m
 unfolding after
 may_write t w m r q once =
-    let v = after t.value w m in
-    let on = ran_on t.value w m r q in
-    let ends : Ends v.past = ran_ends (IsIn v.calls) t.value on.0 v (id_valid t.value t.in_range.0 t.in_range.1) once on.1 in
+    let v = after (number_of t) w m in
+    let on = ran_on (number_of t) w m r q in
+    let ends : Ends v.past = ran_ends (IsIn v.calls) (number_of t) on.0 v (id_valid (number_of t) (number_low t) (number_high t)) once on.1 in
     record { sendable = ends.sendable; runs = λ b. by (cases_Bool (core w).stopped) b ends.opened.on_begin.single }
   where
-    by : ((core w).stopped ≡ true) ⊎ ((core w).stopped ≡ false) → has is_begin_sent (block_at t.value w m) ≡ true → how_many (opens Begin) (onto w.past (block_at t.value w m)) ≤ 1 → (core w).stopped ≡ false
+    by : ((core w).stopped ≡ true) ⊎ ((core w).stopped ≡ false) → has is_begin_sent (block_at (number_of t) w m) ≡ true → how_many (opens Begin) (onto w.past (block_at (number_of t) w m)) ≤ 1 → (core w).stopped ≡ false
     by (inr runs) b single = runs
     by (inl stopped) b single =
-        let es = block_at t.value w m in
-        let before = some_many (opens Begin) w.past (has_more is_begin_sent (opens Begin) begin_opens w.past (stopped_begun t.value w r stopped)) in
+        let es = block_at (number_of t) w m in
+        let before = some_many (opens Begin) w.past (has_more is_begin_sent (opens Begin) begin_opens w.past (stopped_begun (number_of t) w r stopped)) in
         let now = some_many (opens Begin) es (has_more is_begin_sent (opens Begin) begin_opens es b) in
         let sum = many_onto (opens Begin) w.past es in
         absurd (omega (arith, before, now, sum, single))

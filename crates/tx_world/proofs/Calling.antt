@@ -1,6 +1,8 @@
 -- A call that the local side answers alone, in a world: its answer and its block are the world's, and it is ready to be written.
 use Rattle.std.proofs.Common.{◌≡◌, ◌∙◌, ℕ, Bool, true, false, List, [], ◌∷◌, ◌++◌, refl, ap, sym}
 use Rattle.dtx_values.specs.Outgoing.{Outgoing, blank, written as put_out}
+use Rattle.dtx_values.specs.TxIds.{number_of}
+use Rattle.dtx_values.specs.declared.tx_id.TxId.{TxId}
 use Rattle.dtx_values.specs.declared.call.Call.{Call}
 use Rattle.dtx_values.specs.declared.call.Call.TheVariants.{Lose, Gone, Reenlist, Recovered}
 use Rattle.dtx_values.specs.declared.entry.Answer.{Answer}
@@ -8,7 +10,6 @@ use Rattle.dtx_values.specs.declared.entry.Entry.{Entry}
 use Rattle.dtx_values.specs.declared.entry.Entry.TheVariants.{Called}
 use Rattle.dtx_values.specs.declared.number.ActorNo.{ActorNo}
 use Rattle.dtx_values.specs.declared.number.EnlNo.{EnlNo}
-use Rattle.dtx_values.specs.declared.number.TxNo.{TxNo}
 use Rattle.dtx_model.specs.Facts.{facts_if, has_facts}
 use Rattle.dtx_model.specs.Half.{Half}
 use Rattle.dtx_model.specs.declared.waiting.EnteredCall.{EnteredCall}
@@ -79,35 +80,35 @@ near_call : (t : ℕ) (h : Half) (n : ℕ) (a : ActorNo) (c : Call) (m : ℕ) �
 near_call t h n a c m = let x = half_answer t h c m in e_cons (Called n a x) refl (near_if (has_facts x) (near_half t h c x))
 
 -- a call that may be entered may come
-pub may_come : (t : TxNo) (w : World) (h : Known) (k : CoreKept) (n : ℕ) (a : ActorNo) (c : Call) (m : ℕ) → Kept t w h k → may_enter w n c ≡ true → MayAnswer t.value w c m
-    → MayCome (IsIn (entered (Calls n a c m) w.calls)) t.value w (Calls n a c m)
+pub may_come : (t : TxId) (w : World) (h : Known) (k : CoreKept) (n : ℕ) (a : ActorNo) (c : Call) (m : ℕ) → Kept t w h k → may_enter w n c ≡ true → MayAnswer (number_of t) w c m
+    → MayCome (IsIn (entered (Calls n a c m) w.calls)) (number_of t) w (Calls n a c m)
 may_come t w h k n a c m kept may answers =
-    (record { place = 1; stands = refl }, fresh_line t.value w n kept.ran (may_be_entered w n c may).0, answers)
+    (record { place = 1; stands = refl }, fresh_line (number_of t) w n kept.ran (may_be_entered w n c may).0, answers)
 
-pub call_once : (t : TxNo) (w : World) (h : Known) (k : CoreKept) (n : ℕ) (a : ActorNo) (c : Call) (m : ℕ) → Kept t w h k → may_enter w n c ≡ true → AreMadeOnce (IsIn (entered (Calls n a c m) w.calls))
+pub call_once : (t : TxId) (w : World) (h : Known) (k : CoreKept) (n : ℕ) (a : ActorNo) (c : Call) (m : ℕ) → Kept t w h k → may_enter w n c ≡ true → AreMadeOnce (IsIn (entered (Calls n a c m) w.calls))
 call_once t w h k n a c m kept may = once_more w.calls n a c kept.once (may_be_entered w n c may).1
 
 -- it is free at the half
-pub free_there : (t : TxNo) (w : World) (h : Known) (k : CoreKept) (n : ℕ) (c : Call) → Kept t w h k → may_enter w n c ≡ true → is_free h.half n c ≡ true
-free_there t w h k n c kept may = ap (λ (x : Half). is_free x n c) (half_is t w h k kept) ∙ free_call t.value w n c kept.ran may
+pub free_there : (t : TxId) (w : World) (h : Known) (k : CoreKept) (n : ℕ) (c : Call) → Kept t w h k → may_enter w n c ≡ true → is_free h.half n c ≡ true
+free_there t w h k n c kept may = ap (λ (x : Half). is_free x n c) (half_is t w h k kept) ∙ free_call (number_of t) w n c kept.ran may
 
 -- and ready to be written
-pub call_ready : (t : TxNo) (w : World) (h g : Known) (k : CoreKept) (n : ℕ) (a : ActorNo) (c : Call) (m : ℕ) (o q : Outgoing) (p xs : List Entry) → Kept t w h k → p ≡ w.past → is_local c ≡ true → is_unlinked w c ≡ true → may_enter w n c ≡ true
-    → MayAnswer t.value w c m → g ≡ known_after (entered (Calls n a c m) []) h (local_call h.transaction.value h.half n a c m) → xs ≡ q.entries → q ≡ put_out o (local_call h.transaction.value h.half n a c m) → o ≡ blank
+pub call_ready : (t : TxId) (w : World) (h g : Known) (k : CoreKept) (n : ℕ) (a : ActorNo) (c : Call) (m : ℕ) (o q : Outgoing) (p xs : List Entry) → Kept t w h k → p ≡ w.past → is_local c ≡ true → is_unlinked w c ≡ true → may_enter w n c ≡ true
+    → MayAnswer (number_of t) w c m → g ≡ known_after (entered (Calls n a c m) []) h (local_call (number_of h.transaction) h.half n a c m) → xs ≡ q.entries → q ≡ put_out o (local_call (number_of h.transaction) h.half n a c m) → o ≡ blank
     → Ready t w (Calls n a c m) g k p xs
 call_ready t w h g k n a c m o q p xs kept same near alone may answers local value wrote clear =
-    let es = local_call h.transaction.value h.half n a c m in
-    let block : es ≡ block_at t.value w (Calls n a c m) =
-    ap (λ (x : Known). local_call x.transaction.value x.half n a c m) kept.half ∙ call_block t.value w n a c m near alone in
+    let es = local_call (number_of h.transaction) h.half n a c m in
+    let block : es ≡ block_at (number_of t) w (Calls n a c m) =
+    ap (λ (x : Known). local_call (number_of x.transaction) x.half n a c m) kept.half ∙ call_block (number_of t) w n a c m near alone in
     let come = may_come t w h k n a c m kept may answers in
     let once = call_once t w h k n a c m kept may in
-    let calm : each is_near (block_at t.value w (Calls n a c m)) ≡ true = ap (each is_near) (sym block) ∙ (near_call h.transaction.value h.half n a c m).proof in
+    let calm : each is_near (block_at (number_of t) w (Calls n a c m)) ≡ true = ap (each is_near) (sym block) ∙ (near_call (number_of h.transaction) h.half n a c m).proof in
     ready t w (Calls n a c m) h g k p xs kept same come once
     (near_kept t w (Calls n a c m) h g k kept come once (local ∙ ap (known_after (entered (Calls n a c m) []) h) block) calm)
     (block_of o q xs es value wrote clear ∙ block) calm
 
-pub answer_there : (t : TxNo) (w : World) (h : Known) (k : CoreKept) (c : Call) (m : ℕ) → Kept t w h k → is_local c ≡ true → half_answer h.transaction.value h.half c m ≡ answer_at t.value w c m
-answer_there t w h k c m kept near = ap (λ (x : Known). half_answer x.transaction.value x.half c m) kept.half ∙ answer_is t.value w c m near
+pub answer_there : (t : TxId) (w : World) (h : Known) (k : CoreKept) (c : Call) (m : ℕ) → Kept t w h k → is_local c ≡ true → half_answer (number_of h.transaction) h.half c m ≡ answer_at (number_of t) w c m
+answer_there t w h k c m kept near = ap (λ (x : Known). half_answer (number_of x.transaction) x.half c m) kept.half ∙ answer_is (number_of t) w c m near
 
 -- the calls with one more
 pub with_call : (ks js ls : List EnteredCall) (k : EnteredCall) → ls ≡ js ++ k ∷ [] → js ≡ ks → past_of ls ≡ k ∷ past_of ks

@@ -1,6 +1,8 @@
 -- A call that writes its entry alone, in a world that holds.
 use Rattle.std.proofs.Common.{◌≡◌, ℕ, true, false, List, [], ◌∷◌, refl, ap, sym, ◌∙◌}
 use Rattle.dtx_values.specs.declared.call.Call.{Call}
+use Rattle.dtx_values.specs.TxIds.{number_of}
+use Rattle.dtx_values.specs.declared.tx_id.TxId.{TxId}
 use Rattle.dtx_values.specs.declared.call.Call.TheVariants.{Await, Do}
 use Rattle.dtx_values.specs.declared.entry.Answer.{Answer}
 use Rattle.dtx_values.specs.declared.entry.Answer.TheVariants.{Did, Fine, True, Wait}
@@ -41,18 +43,18 @@ unfolding follow_all follow
 alone_followed k n a x = refl
 
 -- so it is ready to be written
-pub alone_ready : (t : TxNo) (w : World) (h : Known) (k : CoreKept) (n : ℕ) (a : ActorNo) (c : Call) (m : ℕ) (x : Answer) → Kept t w h k → may_enter w n c ≡ true → MayAnswer t.value w c m
-    → x ≡ answer_at t.value w c m → has_facts x ≡ false → Linked t w (Calls n a c m) h k (Called n a x ∷ [])
+pub alone_ready : (t : TxId) (w : World) (h : Known) (k : CoreKept) (n : ℕ) (a : ActorNo) (c : Call) (m : ℕ) (x : Answer) → Kept t w h k → may_enter w n c ≡ true → MayAnswer (number_of t) w c m
+    → x ≡ answer_at (number_of t) w c m → has_facts x ≡ false → Linked t w (Calls n a c m) h k (Called n a x ∷ [])
 alone_ready t w h k n a c m x kept may answers is silent =
-    linked t w h h k k n a c m (Called n a x ∷ []) kept may answers (alone_block t.value w n a c m x is silent) refl
+    linked t w h h k k n a c m (Called n a x ∷ []) kept may answers (alone_block (number_of t) w n a c m x is silent) refl
     (ap (λ (g : Half). record { transaction = h.transaction; half = g }) (sym (unheard (entered (Calls n a c m) []) h.half n a x silent))) (alone_followed k n a x)
 
 -- the answers of await and do
-pub await_is : (t : TxNo) (w : World) (h : Known) (k : CoreKept) (c : Call) (u : TxNo) (m : ℕ) (x : Answer) → Kept t w h k → c ≡ Await u → x ≡ if_begun h.half.seen.limit (await_answer h.half.seen.told_client) → x ≡ answer_at t.value w c m
+pub await_is : (t : TxId) (w : World) (h : Known) (k : CoreKept) (c : Call) (u : TxNo) (m : ℕ) (x : Answer) → Kept t w h k → c ≡ Await u → x ≡ if_begun h.half.seen.limit (await_answer h.half.seen.told_client) → x ≡ answer_at (number_of t) w c m
 unfolding answer_at local_answer
 await_is t w h k c u m x kept same is =
-    is ∙ ap (λ (g : Half). if_begun g.seen.limit (await_answer g.seen.told_client)) (half_is t w h k kept) ∙ ap (λ d. answer_at t.value w d m) (sym same)
+    is ∙ ap (λ (g : Half). if_begun g.seen.limit (await_answer g.seen.told_client)) (half_is t w h k kept) ∙ ap (λ d. answer_at (number_of t) w d m) (sym same)
 
-pub did_is : (t : TxNo) (w : World) (h : Known) (k : CoreKept) (c : Call) (u : TxNo) (i j m : ℕ) (x : Answer) → Kept t w h k → c ≡ Do u i j → x ≡ if_begun h.half.seen.limit (Did m) → x ≡ answer_at t.value w c m
+pub did_is : (t : TxId) (w : World) (h : Known) (k : CoreKept) (c : Call) (u : TxNo) (i j m : ℕ) (x : Answer) → Kept t w h k → c ≡ Do u i j → x ≡ if_begun h.half.seen.limit (Did m) → x ≡ answer_at (number_of t) w c m
 unfolding answer_at local_answer
-did_is t w h k c u i j m x kept same is = is ∙ ap (λ (g : Half). if_begun g.seen.limit (Did m)) (half_is t w h k kept) ∙ ap (λ d. answer_at t.value w d m) (sym same)
+did_is t w h k c u i j m x kept same is = is ∙ ap (λ (g : Half). if_begun g.seen.limit (Did m)) (half_is t w h k kept) ∙ ap (λ d. answer_at (number_of t) w d m) (sym same)

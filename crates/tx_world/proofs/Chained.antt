@@ -1,6 +1,7 @@
 -- Pending steps that are done one after the other enter no call, and are the steps that a `do` counts.
 use Rattle.std.proofs.Common.{◌≡◌, ◌∙◌, ℕ, zero, suc, Bool, true, false, ◌&&◌, not, List, Some, refl, sym, ap, subst, if◌then◌else◌}
-use Rattle.dtx_values.specs.declared.number.TxNo.{TxNo}
+use Rattle.dtx_values.specs.TxIds.{number_of}
+use Rattle.dtx_values.specs.declared.tx_id.TxId.{TxId}
 use Rattle.dtx_model.specs.declared.waiting.EnteredCall.{EnteredCall}
 use Rattle.dtx_model.specs.Words.{has, kth}
 use Rattle.dtx_model.specs.World.{World}
@@ -29,7 +30,7 @@ turned_calls up t w m = by (sends_begin t w m && not up)
 -- so steps leave the calls as they are
 kth_calls : {D : Type 0} (faults : D → ℕ) (k : ℕ) (old : TxState) (from : LogState D) (new : TxState) (to : LogState D) → DoesKth faults k old from new to → new.world.calls ≡ old.world.calls
 kth_calls faults k old from new to d =
-    ap (λ (w : World). w.calls) d.done.world ∙ turned_calls from.is_up old.transaction.value old.world d.step ∙ enters_none old.world d.name d.step old.world.calls d.named
+    ap (λ (w : World). w.calls) d.done.world ∙ turned_calls from.is_up (number_of old.transaction) old.world d.step ∙ enters_none old.world d.name d.step old.world.calls d.named
 
 pub stepped_calls : {D : Type 0} (faults : D → ℕ) (k m : ℕ) (old : TxState) (from : LogState D) (new : TxState) (to : LogState D) → Stepped faults k m old from new to → new.world.calls ≡ old.world.calls
 stepped_calls faults k zero old from new to s = ap (λ (x : TxState). x.world.calls) s.0
@@ -52,19 +53,19 @@ stop_after up t w m = by (sends_begin t w m) refl up
 
 -- one step more, which was the k-th that was pending: the caller's own, or the world's
 pub did_more : {D : Type 0} (faults : D → ℕ) (k m : ℕ) (start : World) (old : TxState) (from : LogState D) (new : TxState) (to : LogState D) (n : StepName) (step : Step)
-    → HasStepped old.transaction.value k m start old.world → kth (pending old.world) k ≡ Some n → IsNamed old.world n step → Does faults step old from new to
-    → HasStepped new.transaction.value k (suc m) start new.world
+    → HasStepped (number_of old.transaction) k m start old.world → kth (pending old.world) k ≡ Some n → IsNamed old.world n step → Does faults step old from new to
+    → HasStepped (number_of new.transaction) k (suc m) start new.world
 did_more faults k m start old from new to n step before stands named d =
-    let s = stop_after from.is_up old.transaction.value old.world step in
-    let more : HasStepped old.transaction.value k (suc m) start new.world = (old.world, before, n, step, stands, named, s.0, s.1, d.world ∙ s.2) in
-    subst (λ (t : TxNo). HasStepped t.value k (suc m) start new.world) (sym d.transaction) more
+    let s = stop_after from.is_up (number_of old.transaction) old.world step in
+    let more : HasStepped (number_of old.transaction) k (suc m) start new.world = (old.world, before, n, step, stands, named, s.0, s.1, d.world ∙ s.2) in
+    subst (λ (t : TxId). HasStepped (number_of t) k (suc m) start new.world) (sym d.transaction) more
 
 pub kth_more : {D : Type 0} (faults : D → ℕ) (k m : ℕ) (start : World) (old : TxState) (from : LogState D) (new : TxState) (to : LogState D)
-    → HasStepped old.transaction.value k m start old.world → DoesKth faults k old from new to → HasStepped new.transaction.value k (suc m) start new.world
+    → HasStepped (number_of old.transaction) k m start old.world → DoesKth faults k old from new to → HasStepped (number_of new.transaction) k (suc m) start new.world
 kth_more faults k m start old from new to before d = did_more faults k m start old from new to d.name d.step before d.stands d.named d.done
 
 -- so steps that a world did one after the other are steps of the model
 pub has_stepped : {D : Type 0} (faults : D → ℕ) (k m : ℕ) (old : TxState) (from : LogState D) (new : TxState) (to : LogState D)
-    → Stepped faults k m old from new to → HasStepped new.transaction.value k m old.world new.world
+    → Stepped faults k m old from new to → HasStepped (number_of new.transaction) k m old.world new.world
 has_stepped faults k zero old from new to s = ap (λ (x : TxState). x.world) s.0
 has_stepped faults k (suc m) old from new to s = kth_more faults k m old.world s.0 s.1 new to (has_stepped faults k m old from s.0 s.1 s.2) s.3

@@ -1,13 +1,15 @@
 -- What comes on a connection: it has a line, there is room for it, and what it makes is the block of its delivery.
 use Rattle.std.proofs.Common.{◌≡◌, ℕ, Bool, true, false, ◌&&◌, not, List, [], ◌∷◌, ◌++◌, ◌↔◌, Some, None, refl, ap, sym, subst, ◌∙◌}
 use Rattle.std.proofs.lemmas.Bool.{or_left}
+use Rattle.dtx_values.proofs.Ids.{number_high, number_low}
 use Rattle.dtx_values.specs.declared.entry.Entry.{Entry}
+use Rattle.dtx_values.specs.TxIds.{number_of}
+use Rattle.dtx_values.specs.declared.tx_id.TxId.{TxId}
 use Rattle.dtx_values.specs.declared.entry.Entry.TheVariants.{Down as Ended, Got, Sent}
 use Rattle.dtx_values.specs.declared.message.Conn.{Conn}
 use Rattle.dtx_values.specs.declared.message.Dir.{Dir}
 use Rattle.dtx_values.specs.declared.message.Dir.TheVariants.{Up, Down}
 use Rattle.dtx_values.specs.declared.message.Message.{Message}
-use Rattle.dtx_values.specs.declared.number.TxNo.{TxNo}
 use Rattle.dtx_values.specs.Lines.{has_line}
 use Rattle.dtx_values.specs.Outgoing.{Outgoing, blank, written as put_out}
 use Rattle.dtx_values.specs.declared.message.Conn.TheVariants.{Begin, Voter, Enl, Again}
@@ -109,11 +111,11 @@ block_down t w c End n k = ap (delivered t w c Down) (sym (end_empty c Down w.pa
 block_down t w c (BadFrame e) n k = absurd k
 
 -- the coordinator has room for what came
-pub came_few : (t : TxNo) (w : World) (h : Known) (k : CoreKept) (c : Conn) (x : Delivered) (n : List Entry) → Kept t w h k → Came c Up x w.past n → (m : Message) → x ≡ Msg m → IsFew (follow k.state (Got c Up m))
+pub came_few : (t : TxId) (w : World) (h : Known) (k : CoreKept) (c : Conn) (x : Delivered) (n : List Entry) → Kept t w h k → Came c Up x w.past n → (m : Message) → x ≡ Msg m → IsFew (follow k.state (Got c Up m))
 came_few t w h k c x n kept came m e =
     let cross : MayCross w.past (Got c Up m) = (subst (λ (y : Delivered). Came c Up y w.past n) e came).0 in
     let first = next_first m (in_transit c Up w.past) cross in
-    subst (λ (s : Coordinated). IsFew (follow s (Got c Up m))) (sym (core_is t w h k kept)) (runs_few (IsIn w.calls) t.value kept.ran.0 w c m first.0 t.in_range.0 t.in_range.1 kept.once kept.ran.1 first.1)
+    subst (λ (s : Coordinated). IsFew (follow s (Got c Up m))) (sym (core_is t w h k kept)) (runs_few (IsIn w.calls) (number_of t) kept.ran.0 w c m first.0 (number_low t) (number_high t) kept.once kept.ran.1 first.1)
 
 -- what comes to one side is nothing to the other
 up_heeded : (h : Half) (c : Conn) (x : Delivered) → heeds_all [] h (noted c Up x) ≡ h
@@ -184,30 +186,30 @@ far_stopped k (x ∷ es) f = far_stopped (follow k x) es (and_right (is_far x) (
     one _ f = absurd (cc)
 
 -- What came on a connection was heard: the side to which it goes took it, and what follows of it is ready to be written.
-pub record Heard (t : TxNo) (w : World) (c : Conn) (d : Dir) (h : Known) (j : CoreKept) (n xs : List Entry) : Type 0 where
-  pub kept : Kept t (after t.value w (Delivers c d)) h j
-  pub past : onto n xs ≡ onto w.past (block_at t.value w (Delivers c d))
+pub record Heard (t : TxId) (w : World) (c : Conn) (d : Dir) (h : Known) (j : CoreKept) (n xs : List Entry) : Type 0 where
+  pub kept : Kept t (after (number_of t) w (Delivers c d)) h j
+  pub past : onto n xs ≡ onto w.past (block_at (number_of t) w (Delivers c d))
   pub written : each is_written xs ≡ true
   pub sendable : are_sendable (onto n xs) ≡ true
   pub stopped : j.state.stopped ≡ is_stopped n
-  pub silent : sends_begin t.value w (Delivers c d) ≡ false
+  pub silent : sends_begin (number_of t) w (Delivers c d) ≡ false
 
-pub up_ready : (t : TxNo) (w : World) (h : Known) (k j : CoreKept) (c : Conn) (x : Delivered) (o p : Outgoing) (n xs : List Entry) → Kept t w h k → has_left c Up w.past ≡ true → Came c Up x w.past n
-    → j.transaction ≡ k.transaction → j.state ≡ follow_all k.state (noted c Up x ++ rest_up (identifier_of k.transaction.value) k.state c x)
-    → xs ≡ p.entries → p ≡ put_out o (rest_up (identifier_of k.transaction.value) k.state c x) → o ≡ blank → Heard t w c Up h j n xs
+pub up_ready : (t : TxId) (w : World) (h : Known) (k j : CoreKept) (c : Conn) (x : Delivered) (o p : Outgoing) (n xs : List Entry) → Kept t w h k → has_left c Up w.past ≡ true → Came c Up x w.past n
+    → j.transaction ≡ k.transaction → j.state ≡ follow_all k.state (noted c Up x ++ rest_up (identifier_of (number_of k.transaction)) k.state c x)
+    → xs ≡ p.entries → p ≡ put_out o (rest_up (identifier_of (number_of k.transaction)) k.state c x) → o ≡ blank → Heard t w c Up h j n xs
 up_ready t w h k j c x o p n xs kept left came same state value wrote clear =
-    let rest = rest_up (identifier_of t.value) (core w) c x in
-    let is_rest : rest_up (identifier_of k.transaction.value) k.state c x ≡ rest =
-    ap (λ (y : TxNo). rest_up (identifier_of y.value) k.state c x) (core_transaction t w h k kept) ∙ ap (λ (s : Coordinated). rest_up (identifier_of t.value) s c x) (core_is t w h k kept) in
-    let block = block_up t.value w c x n came in
-    let xs_is : xs ≡ rest = block_of o p xs (rest_up (identifier_of k.transaction.value) k.state c x) value wrote clear ∙ is_rest in
-    let far = (rest_far (identifier_of t.value) (core w) c x).proof in
-    let past : onto n xs ≡ onto w.past (block_at t.value w (Delivers c Up)) =
+    let rest = rest_up (identifier_of (number_of t)) (core w) c x in
+    let is_rest : rest_up (identifier_of (number_of k.transaction)) k.state c x ≡ rest =
+    ap (λ (y : TxId). rest_up (identifier_of (number_of y)) k.state c x) (core_transaction t w h k kept) ∙ ap (λ (s : Coordinated). rest_up (identifier_of (number_of t)) s c x) (core_is t w h k kept) in
+    let block = block_up (number_of t) w c x n came in
+    let xs_is : xs ≡ rest = block_of o p xs (rest_up (identifier_of (number_of k.transaction)) k.state c x) value wrote clear ∙ is_rest in
+    let far = (rest_far (identifier_of (number_of t)) (core w) c x).proof in
+    let past : onto n xs ≡ onto w.past (block_at (number_of t) w (Delivers c Up)) =
     ap (onto n) xs_is ∙ ap (λ g. onto g rest) (came_past c Up x w.past n came) ∙ sym (onto-append w.past (noted c Up x) rest) ∙ ap (onto w.past) block in
     let may = may_write t w (Delivers c Up) kept.ran left kept.once in
-    let moved : follow_all k.state (noted c Up x ++ rest_up (identifier_of k.transaction.value) k.state c x) ≡ follow_all k.state (block_at t.value w (Delivers c Up)) =
+    let moved : follow_all k.state (noted c Up x ++ rest_up (identifier_of (number_of k.transaction)) k.state c x) ≡ follow_all k.state (block_at (number_of t) w (Delivers c Up)) =
     ap (λ es. follow_all k.state (noted c Up x ++ es)) is_rest ∙ ap (follow_all k.state) block in
-    let still : heeds_all [] h.half (block_at t.value w (Delivers c Up)) ≡ h.half =
+    let still : heeds_all [] h.half (block_at (number_of t) w (Delivers c Up)) ≡ h.half =
     ap (heeds_all [] h.half) (sym block) ∙ heeds_all-append h.half (noted c Up x) rest ∙ ap (λ (g : Half). heeds_all [] g rest) (up_heeded h.half c x) ∙ far_heeds_all [] h.half rest far in
     record {
       kept =
@@ -232,21 +234,21 @@ noted_stopped c (Msg m) h = refl
 noted_stopped c End h = refl
 noted_stopped c (BadFrame e) h = refl
 
-pub down_ready : (t : TxNo) (w : World) (h g : Known) (k : CoreKept) (c : Conn) (x : Delivered) (o p : Outgoing) (n xs : List Entry) → Kept t w h k → has_left c Down w.past ≡ true → Came c Down x w.past n
-    → g ≡ known_after [] h (noted c Down x ++ rest_down h.transaction.value h.half c x)
-    → xs ≡ p.entries → p ≡ put_out o (rest_down h.transaction.value h.half c x) → o ≡ blank → Ready t w (Delivers c Down) g k n xs
+pub down_ready : (t : TxId) (w : World) (h g : Known) (k : CoreKept) (c : Conn) (x : Delivered) (o p : Outgoing) (n xs : List Entry) → Kept t w h k → has_left c Down w.past ≡ true → Came c Down x w.past n
+    → g ≡ known_after [] h (noted c Down x ++ rest_down (number_of h.transaction) h.half c x)
+    → xs ≡ p.entries → p ≡ put_out o (rest_down (number_of h.transaction) h.half c x) → o ≡ blank → Ready t w (Delivers c Down) g k n xs
 down_ready t w h g k c x o p n xs kept left came local value wrote clear =
-    let rest = rest_down t.value (half w) c x in
-    let is_rest : rest_down h.transaction.value h.half c x ≡ rest = ap (λ (y : Known). rest_down y.transaction.value y.half c x) kept.half in
-    let block = block_down t.value w c x n came in
-    let xs_is : xs ≡ rest = block_of o p xs (rest_down h.transaction.value h.half c x) value wrote clear ∙ is_rest in
-    let near = (rest_near t.value (half w) c x).proof in
-    let past : onto n xs ≡ onto w.past (block_at t.value w (Delivers c Down)) =
+    let rest = rest_down (number_of t) (half w) c x in
+    let is_rest : rest_down (number_of h.transaction) h.half c x ≡ rest = ap (λ (y : Known). rest_down (number_of y.transaction) y.half c x) kept.half in
+    let block = block_down (number_of t) w c x n came in
+    let xs_is : xs ≡ rest = block_of o p xs (rest_down (number_of h.transaction) h.half c x) value wrote clear ∙ is_rest in
+    let near = (rest_near (number_of t) (half w) c x).proof in
+    let past : onto n xs ≡ onto w.past (block_at (number_of t) w (Delivers c Down)) =
     ap (onto n) xs_is ∙ ap (λ y. onto y rest) (came_past c Down x w.past n came) ∙ sym (onto-append w.past (noted c Down x) rest) ∙ ap (onto w.past) block in
     let may = may_write t w (Delivers c Down) kept.ran left kept.once in
-    let still : follow_all k.state (block_at t.value w (Delivers c Down)) ≡ k.state =
+    let still : follow_all k.state (block_at (number_of t) w (Delivers c Down)) ≡ k.state =
     ap (follow_all k.state) (sym block) ∙ follow_all-append k.state (noted c Down x) rest ∙ ap (λ (s : Coordinated). follow_all s rest) (down_followed k.state c x) ∙ near_follow_all k.state rest near in
-    let sends : has is_begin_sent xs ≡ sends_begin t.value w (Delivers c Down) = ap (has is_begin_sent) xs_is ∙ sym (noted_begin c Down x rest) ∙ ap (has is_begin_sent) block in
+    let sends : has is_begin_sent xs ≡ sends_begin (number_of t) w (Delivers c Down) = ap (has is_begin_sent) xs_is ∙ sym (noted_begin c Down x rest) ∙ ap (has is_begin_sent) block in
     record {
       came = left;
       kept =

@@ -1,6 +1,8 @@
 -- A step of the local side writes few entries, where no promotion began and it begins none.
 use Rattle.std.proofs.Common.{◌≡◌, ◌≤◌, ◌+◌, Bool, true, false, ◌&&◌, not, List, [], ◌∷◌, length, Option, Some, None, find, is_some, ap, sym, subst, ◌⊎◌, inl, inr, arith, lit≤, if◌then◌else◌}
 use Rattle.dtx_values.specs.Clones.{is_open_rollback}
+use Rattle.dtx_values.specs.TxIds.{number_of}
+use Rattle.dtx_values.specs.declared.tx_id.TxId.{TxId}
 use Rattle.dtx_values.specs.Owners.{owner_of}
 use Rattle.dtx_values.specs.Table.{voted}
 use Rattle.dtx_values.specs.Vote.{is_no}
@@ -11,7 +13,6 @@ use Rattle.dtx_values.specs.declared.entry.Entry.{Entry}
 use Rattle.dtx_values.specs.declared.note.Reply.{Reply}
 use Rattle.dtx_values.specs.declared.note.Reply.TheVariants.{Vote as VoteReply}
 use Rattle.dtx_values.specs.declared.number.EnlNo.{EnlNo}
-use Rattle.dtx_values.specs.declared.number.TxNo.{TxNo}
 use Rattle.dtx_values.specs.declared.words.Outcome.{Outcome}
 use Rattle.dtx_model.specs.declared.listener.Listener.{Listener}
 use Rattle.dtx_model.specs.Words.{has, onto}
@@ -103,14 +104,14 @@ length-onto h [] = omega arith
 length-onto h (x ∷ xs) = omega (arith, length-onto (x ∷ h) xs)
 
 -- so has what such a step writes
-pub few_there : {t : TxNo} {w : World} {m : Step} {h g : Known} {j k : CoreKept} {p xs : List Entry} (u : Bool) → Kept t w h j → Ready t w m g k p xs → p ≡ w.past → has is_promoting (block_at t.value w m) ≡ false
-    → ((v : World) → Follows h.transaction.value v h.half → u ≡ is_unpromoted v.past) → not u ≡ false → length xs ≤ 4
+pub few_there : {t : TxId} {w : World} {m : Step} {h g : Known} {j k : CoreKept} {p xs : List Entry} (u : Bool) → Kept t w h j → Ready t w m g k p xs → p ≡ w.past → has is_promoting (block_at (number_of t) w m) ≡ false
+    → ((v : World) → Follows (number_of h.transaction) v h.half → u ≡ is_unpromoted v.past) → not u ≡ false → length xs ≤ 4
 few_there {t} {w} {m} {h} {g} {j} {k} {p} {xs} u kept r same calm says n =
-    let local = free-local (IsIn w.calls) t.value w.past (w.calls, kept.ran) (unpromoted_there u kept says n) in
-    by (step-narrow (IsIn (entered m w.calls)) t.value w m local r.came)
+    let local = free-local (IsIn w.calls) (number_of t) w.past (w.calls, kept.ran) (unpromoted_there u kept says n) in
+    by (step-narrow (IsIn (entered m w.calls)) (number_of t) w m local r.came)
   where
-    by : (has is_promoting (block_at t.value w m) ≡ true) ⊎ IsNarrow t.value w m → length xs ≤ 4
-    by (inl b) = absurd (not_both (has is_promoting (block_at t.value w m)) b calm)
+    by : (has is_promoting (block_at (number_of t) w m) ≡ true) ⊎ IsNarrow (number_of t) w m → length xs ≤ 4
+    by (inl b) = absurd (not_both (has is_promoting (block_at (number_of t) w m)) b calm)
     by (inr narrow) =
-        let few : length (block_at t.value w m) ≤ 4 = subst (λ (es : List Entry). length es ≤ 4) (sym narrow.0) (few_block (observe w.past) m) in
-        omega (arith, few, length-onto p xs, ap length r.past, length-onto w.past (block_at t.value w m), ap length same)
+        let few : length (block_at (number_of t) w m) ≤ 4 = subst (λ (es : List Entry). length es ≤ 4) (sym narrow.0) (few_block (observe w.past) m) in
+        omega (arith, few, length-onto p xs, ap length r.past, length-onto w.past (block_at (number_of t) w m), ap length same)

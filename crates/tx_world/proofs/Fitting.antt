@@ -1,11 +1,12 @@
 -- The records that a log keeps of one transaction stay where those of others than another do, and so they fit it as before.
-use Rattle.std.proofs.Common.{◌≡◌, ◌≢◌, ◌⊎◌, ◌≤◌, ℕ, Bool, true, false, not, List, [], ◌∷◌, filter, length, Option, Some, refl, ap, sym, subst, ◌∙◌, inl, inr, if◌then◌else◌, arith}
+use Rattle.std.proofs.Common.{◌≡◌, ◌≢◌, ◌≤◌, ℕ, Bool, true, false, not, List, [], ◌∷◌, filter, length, Option, Some, refl, ap, sym, subst, ◌∙◌, inl, inr, if◌then◌else◌, arith}
 use Rattle.std.proofs.lemmas.Bool.{eqb-true}
 use Rattle.std.proofs.lemmas.Bool.Decides.{eqb_tells}
-use Rattle.dtx_values.specs.declared.number.TxNo.{TxNo}
+use Rattle.dtx_values.specs.TxIds.{number_of}
+use Rattle.dtx_values.specs.declared.tx_id.TxId.{TxId}
 use Rattle.dtx_model.specs.Log.{CommitRecord, first_of, is_record_of}
 use Rattle.dtx_model.specs.Promotes.{identifier_of}
-use Rattle.dtx_model.proofs.SameNumbers.{same_transaction}
+use Rattle.dtx_values.proofs.Ids.{same_id}
 use Rattle.tx_world.specs.State.{TxState}
 use Rattle.tx_world.specs.AtLog.{Fits, Tie, id_of, of_others}
 
@@ -51,5 +52,5 @@ fits_same x rs qs e f =
     }
 
 -- transactions have identifiers of their own
-pub own_identifier : (u t : TxNo) → u ≢ t → identifier_of u.value ≢ identifier_of t.value
-own_identifier u t n = λ e. n (same_transaction u t (omega (arith, e)))
+pub own_identifier : (u t : TxId) → u ≢ t → identifier_of (number_of u) ≢ identifier_of (number_of t)
+own_identifier u t n = λ e. n (same_id u t (omega (arith, e)))

@@ -1,7 +1,8 @@
 -- What a step or a call leaves of the log where it doesn't touch it, and what two leave, one after the other.
 use Rattle.std.proofs.Common.{◌≡◌, ◌∙◌, inl, inr, ℕ, Bool, List, Option, le_refl, le_trans, refl, sym, ap, subst}
 use Rattle.std.specs.Prelude.{IfOk, IsTrue, Ok, Err, Result}
-use Rattle.dtx_values.specs.declared.number.TxNo.{TxNo}
+use Rattle.dtx_values.specs.TxIds.{number_of}
+use Rattle.dtx_values.specs.declared.tx_id.TxId.{TxId}
 use Rattle.dtx_model.specs.Promotes.{identifier_of}
 use Rattle.dtx_model.specs.Log.{CommitRecord, log_has}
 use Rattle.coordinator_log.specs.Slots.{open_records}
@@ -42,13 +43,13 @@ keeps_on : {D : Type 0} (image : D → List ℕ → Type 0) (old mid new : TxSta
     → KeepsLog image old from new to
 keeps_on image old mid new from at_it to same a b =
     let P : ℕ → Type 0 = λ id. Keeps image id (Fits mid) (Fits new) at_it to in
-    keeps_both image (id_of old) (Fits old) (Fits mid) (Fits new) from at_it to a (subst P (ap (λ (t : TxNo). identifier_of t.value) same) b)
+    keeps_both image (id_of old) (Fits old) (Fits mid) (Fits new) from at_it to a (subst P (ap (λ (t : TxId). identifier_of (number_of t)) same) b)
 
 -- and of the records that the log keeps in memory
 slots_on : {D : Type 0} (old mid new : TxState) (from at_it to : LogState D) → mid.transaction ≡ old.transaction → KeepsSlots old from mid at_it → KeepsSlots mid at_it new to → KeepsSlots old from new to
 slots_on old mid new from at_it to same a b =
     let P : ℕ → Type 0 = λ id. of_others id (open_records to.slots) ≡ of_others id (open_records at_it.slots) in
-    record { others = subst P (ap (λ (t : TxNo). identifier_of t.value) same) b.others ∙ a.others; had = λ h. b.had (a.had h) }
+    record { others = subst P (ap (λ (t : TxId). identifier_of (number_of t)) same) b.others ∙ a.others; had = λ h. b.had (a.had h) }
 
 -- What two leave, one after the other, they leave together.
 pub leaves_on : {D : Type 0} {honest : Bool} {image : D → List ℕ → Type 0} {faults : D → ℕ} (old mid new : TxState) (from at_it to : LogState D) → mid.transaction ≡ old.transaction → Leaves honest image faults old from mid at_it
@@ -65,7 +66,7 @@ fits_there : (P : (List CommitRecord → Type 0) → Type 0) (old new : TxState)
 fits_there P old new there same p =
     let sure : P (IsFit (id_of old) old.ours new.unsure) = subst (λ (u : Bool). P (IsFit (id_of old) old.ours u)) (sym same.1) p in
     let ours : P (IsFit (id_of old) new.ours new.unsure) = subst (λ (o : Option CommitRecord). P (IsFit (id_of old) o new.unsure)) (sym same.0) sure in
-    subst (λ (t : TxNo). P (IsFit (identifier_of t.value) new.ours new.unsure)) (sym there) ours
+    subst (λ (t : TxId). P (IsFit (identifier_of (number_of t)) new.ours new.unsure)) (sym there) ours
 
 -- A step or a call that doesn't touch the log, nor the record that is kept, leaves what there was.
 pub leaves_beside : {D : Type 0} {honest : Bool} {image : D → List ℕ → Type 0} {faults : D → ℕ} (old new : TxState) (l : LogState D) → (IsTrue honest → IsTrue l.is_up → Fits old (open_records l.slots))
@@ -75,7 +76,7 @@ leaves_beside {D} {honest} {image} {faults} old new l fits there same named =
     record {
       kept = λ is. fits_there (λ (f : List CommitRecord → Type 0). Keeps image (id_of old) (Fits old) f l l) old new there same
           (record { fits = fits is; imaged = λ i. i; logs = λ i. i; others = refl; others_imaged = λ c i. inl i });
-      slots = record { others = refl; had = λ h. subst (λ (t : TxNo). H (identifier_of t.value) new.ours) (sym there) (subst (H (id_of old)) (sym same.0) h) };
+      slots = record { others = refl; had = λ h. subst (λ (t : TxId). H (identifier_of (number_of t)) new.ours) (sym there) (subst (H (id_of old)) (sym same.0) h) };
       named = named;
       later = later_same faults l;
     }

@@ -5,6 +5,8 @@ use Rattle.std.proofs.lemmas.Bool.Decides.{nat_tests}
 use Rattle.std.proofs.lemmas.Bool.{cond-false}
 use Rattle.std.proofs.lemmas.List.{append_assoc, length-append, length-take}
 use Rattle.dtx_values.specs.declared.entry.Answer.{Answer}
+use Rattle.dtx_values.specs.TxIds.{number_of}
+use Rattle.dtx_values.specs.declared.tx_id.TxId.{TxId}
 use Rattle.dtx_values.specs.declared.entry.Answer.TheVariants.{Fine}
 use Rattle.dtx_values.specs.declared.entry.Entry.{Entry}
 use Rattle.dtx_values.specs.declared.entry.Entry.TheVariants.{Called, Cut, Lost, Sent, Got, Stopped}
@@ -25,7 +27,6 @@ use Rattle.dtx_model.specs.Wires.{in_transit, is_kept, is_open_wire, is_stopped,
 use Rattle.dtx_model.specs.World.{World, answer_at, cut, cut_upward, gone_by, half, is_promotable_row, on_the_way, open_ones}
 use Rattle.dtx_model.proofs.Histories.{onto-append}
 use Rattle.dtx_values.specs.declared.call.Call.TheVariants.{Gone}
-use Rattle.dtx_values.specs.declared.number.TxNo.{TxNo}
 use Rattle.dtx_model.specs.Answers.{gone_answer, if_begun}
 use Rattle.dtx_model.specs.Facts.{has_facts}
 use Rattle.dtx_model.specs.Caused.{is_begin_sent}
@@ -264,12 +265,12 @@ left_followed : (k : CoreKept) (n : ℕ) (a : ActorNo) (e : EnlNo) (p : List Ent
 unfolding follow_all follow
 left_followed k n a e p b = ap (λ (s : Coordinated). record { transaction = k.transaction; state = s }) (sym (cuts_followed k.state p b e))
 
-pub left : (t : TxNo) (w : World) (h g : Known) (k : CoreKept) (n : ℕ) (a : ActorNo) (e : EnlNo) (b : Bool) (m : ℕ) → Kept t w h k → may_enter w n (Gone e) ≡ true → answer_at t.value w (Gone e) 0 ≡ Fine
+pub left : (t : TxId) (w : World) (h g : Known) (k : CoreKept) (n : ℕ) (a : ActorNo) (e : EnlNo) (b : Bool) (m : ℕ) → Kept t w h k → may_enter w n (Gone e) ≡ true → answer_at (number_of t) w (Gone e) 0 ≡ Fine
     → is_empty (open_ones w e) ≡ false → b ≡ is_promotable_row (half w).seen e.value → g ≡ known_after [] h (loss true h.half e)
     → Linked t w (Calls n a (Gone e) m) g k (Called n a Fine ∷ Lost e ∷ links_cut w.past b e)
 left t w h g k n a e b m kept may fine some is local =
     linked t w h g k k n a (Gone e) m (Called n a Fine ∷ Lost e ∷ links_cut w.past b e) kept may tt
-    (ap (λ (xs : List Entry). Called n a Fine ∷ xs) (left_facts w e b is some) ∙ fine_block t.value w n a (Gone e) m (gone_same t.value w e m ∙ fine)) (cuts_silent n a w.past b e)
+    (ap (λ (xs : List Entry). Called n a Fine ∷ xs) (left_facts w e b is some) ∙ fine_block (number_of t) w n a (Gone e) m (gone_same (number_of t) w e m ∙ fine)) (cuts_silent n a w.past b e)
     (left_heeded h g n a e w.past b local) (left_followed k n a e w.past b)
 
 -- what was written before the cuts might be sent
@@ -294,13 +295,13 @@ begun_fine : (l : Option ℕ) (x : Answer) → if_begun l x ≡ Fine → x ≡ F
 begun_fine None x k = absurd cc
 begun_fine (Some d) x k = k
 
-pub gone_stands : (t : TxNo) (w : World) (h : Known) (k : CoreKept) (e : EnlNo) → Kept t w h k → answer_at t.value w (Gone e) 0 ≡ Fine → gone_answer (stands h.half.seen e.value) (is_gone h.half.seen e.value) ≡ Fine
+pub gone_stands : (t : TxId) (w : World) (h : Known) (k : CoreKept) (e : EnlNo) → Kept t w h k → answer_at (number_of t) w (Gone e) 0 ≡ Fine → gone_answer (stands h.half.seen e.value) (is_gone h.half.seen e.value) ≡ Fine
 unfolding answer_at
 gone_stands t w h k e kept fine =
     ap (λ (x : Half). gone_answer (stands x.seen e.value) (is_gone x.seen e.value)) (half_is t w h k kept) ∙ begun_fine (half w).seen.limit (gone_answer (stands (half w).seen e.value) (is_gone (half w).seen e.value)) fine
 
-pub gone_is : (t : TxNo) (w : World) (h : Known) (k : CoreKept) (e : EnlNo) (m : ℕ) (a : Answer) → Kept t w h k → a ≡ if_begun h.half.seen.limit (gone_answer (stands h.half.seen e.value) (is_gone h.half.seen e.value))
-    → a ≡ answer_at t.value w (Gone e) m
+pub gone_is : (t : TxId) (w : World) (h : Known) (k : CoreKept) (e : EnlNo) (m : ℕ) (a : Answer) → Kept t w h k → a ≡ if_begun h.half.seen.limit (gone_answer (stands h.half.seen e.value) (is_gone h.half.seen e.value))
+    → a ≡ answer_at (number_of t) w (Gone e) m
 unfolding answer_at
 gone_is t w h k e m a kept answered = answered ∙ ap (λ (x : Half). if_begun x.seen.limit (gone_answer (stands x.seen e.value) (is_gone x.seen e.value))) (half_is t w h k kept)
 
@@ -315,7 +316,7 @@ unfolding answer_at
 gone_alone t w e m a k d = gone_refused (half w).seen.limit (stands (half w).seen e.value) (is_gone (half w).seen e.value) a k d
 
 -- whether the rows of the half have it as a promotable
-pub rows_promotable : (t : TxNo) (w : World) (h : Known) (k : CoreKept) (e : EnlNo) (rows : List Row) (b : Bool) → Kept t w h k → rows ≡ h.half.seen.table → b ≡ has (λ x. is_of e.value x && is_promotable x.class) rows
+pub rows_promotable : (t : TxId) (w : World) (h : Known) (k : CoreKept) (e : EnlNo) (rows : List Row) (b : Bool) → Kept t w h k → rows ≡ h.half.seen.table → b ≡ has (λ x. is_of e.value x && is_promotable x.class) rows
     → b ≡ is_promotable_row (half w).seen e.value
 rows_promotable t w h k e rows b kept same is =
     is ∙ ap (λ (xs : List Row). has (λ x. is_of e.value x && is_promotable x.class) xs) same ∙ ap (λ (x : Half). is_promotable_row x.seen e.value) (half_is t w h k kept)

@@ -1,6 +1,8 @@
 -- A call that the connections or the coordinator answer, where it is done: what it leaves.
 use Rattle.std.proofs.Common.{◌≡◌, ◌≢◌, ◌∙◌, ℕ, Bool, true, false, List, [], ◌∷◌, Option, Some, None, refl, ap, sym, if◌then◌else◌}
 use Rattle.dtx_values.specs.declared.call.Call.{Call}
+use Rattle.dtx_values.specs.TxIds.{number_of}
+use Rattle.dtx_values.specs.declared.tx_id.TxId.{TxId}
 use Rattle.dtx_values.specs.declared.call.Call.TheVariants.{Lose, Recovered}
 use Rattle.dtx_values.specs.declared.entry.Answer.{Answer}
 use Rattle.dtx_values.specs.declared.entry.Answer.TheVariants.{Fine, NoSuch}
@@ -36,14 +38,14 @@ unfolding block_at
 fine_block t w n a c m e = ap (called t w n a c) (sym e)
 
 -- what holds after it
-pub record Linked (t : TxNo) (w : World) (m : Step) (g : Known) (j : CoreKept) (es : List Entry) : Type 0 where
-  pub kept : Kept t (after t.value w m) g j
-  pub block : es ≡ block_at t.value w m
+pub record Linked (t : TxId) (w : World) (m : Step) (g : Known) (j : CoreKept) (es : List Entry) : Type 0 where
+  pub kept : Kept t (after (number_of t) w m) g j
+  pub block : es ≡ block_at (number_of t) w m
   pub sendable : are_sendable (onto w.past es) ≡ true
-  pub silent : false ≡ sends_begin t.value w m
+  pub silent : false ≡ sends_begin (number_of t) w m
 
-pub linked : (t : TxNo) (w : World) (h g : Known) (k j : CoreKept) (n : ℕ) (a : ActorNo) (c : Call) (m : ℕ) (es : List Entry) → Kept t w h k → may_enter w n c ≡ true → MayAnswer t.value w c m
-    → es ≡ block_at t.value w (Calls n a c m) → has is_begin_sent es ≡ false → g ≡ known_after (entered (Calls n a c m) []) h es → j ≡ record { transaction = k.transaction; state = follow_all k.state es }
+pub linked : (t : TxId) (w : World) (h g : Known) (k j : CoreKept) (n : ℕ) (a : ActorNo) (c : Call) (m : ℕ) (es : List Entry) → Kept t w h k → may_enter w n c ≡ true → MayAnswer (number_of t) w c m
+    → es ≡ block_at (number_of t) w (Calls n a c m) → has is_begin_sent es ≡ false → g ≡ known_after (entered (Calls n a c m) []) h es → j ≡ record { transaction = k.transaction; state = follow_all k.state es }
     → Linked t w (Calls n a c m) g j es
 linked t w h g k j n a c m es kept may answers block silent local far =
     let come = may_come t w h k n a c m kept may answers in
@@ -88,10 +90,10 @@ cut_followed : (k : CoreKept) (n : ℕ) (a : ActorNo) (c : Conn) (i j : ℕ) →
 unfolding follow_all follow
 cut_followed k n a c i j = refl
 
-pub lost : (t : TxNo) (w : World) (h : Known) (k : CoreKept) (n : ℕ) (a : ActorNo) (u : TxNo) (c : Conn) (x y m : ℕ) → Kept t w h k → may_enter w n (Lose u c x y) ≡ true → answer_at t.value w (Lose u c x y) 0 ≡ Fine
+pub lost : (t : TxId) (w : World) (h : Known) (k : CoreKept) (n : ℕ) (a : ActorNo) (u : TxNo) (c : Conn) (x y m : ℕ) → Kept t w h k → may_enter w n (Lose u c x y) ≡ true → answer_at (number_of t) w (Lose u c x y) 0 ≡ Fine
     → Linked t w (Calls n a (Lose u c x y) m) h k (Called n a Fine ∷ cut w.past c x y ∷ [])
 lost t w h k n a u c x y m kept may fine =
-    linked t w h h k k n a (Lose u c x y) m (Called n a Fine ∷ cut w.past c x y ∷ []) kept may tt (fine_block t.value w n a (Lose u c x y) m (lose_same t.value w u c x y m ∙ fine)) refl
+    linked t w h h k k n a (Lose u c x y) m (Called n a Fine ∷ cut w.past c x y ∷ []) kept may tt (fine_block (number_of t) w n a (Lose u c x y) m (lose_same (number_of t) w u c x y m ∙ fine)) refl
     (cut_heeded h n a u c x y _ _) (cut_followed k n a c _ _)
 
 -- a manager has recovered
@@ -108,10 +110,10 @@ recovery_followed : (k j : CoreKept) (n : ℕ) (a : ActorNo) (r : RmNo) → j.tr
 unfolding follow_all follow
 recovery_followed k j n a r same state = λ i. record { transaction = same i; state = state i }
 
-pub recovered : (t : TxNo) (w : World) (h : Known) (k j : CoreKept) (n : ℕ) (a : ActorNo) (u : TxNo) (r : RmNo) (m : ℕ) → Kept t w h k → may_enter w n (Recovered u r) ≡ true → answer_at t.value w (Recovered u r) 0 ≡ Fine
+pub recovered : (t : TxId) (w : World) (h : Known) (k j : CoreKept) (n : ℕ) (a : ActorNo) (u : TxNo) (r : RmNo) (m : ℕ) → Kept t w h k → may_enter w n (Recovered u r) ≡ true → answer_at (number_of t) w (Recovered u r) 0 ≡ Fine
     → j.transaction ≡ k.transaction → j.state ≡ follow k.state (RecoveredEntry r) → Linked t w (Calls n a (Recovered u r) m) h j (Called n a Fine ∷ RecoveredEntry r ∷ [])
 recovered t w h k j n a u r m kept may fine same state =
-    linked t w h h k j n a (Recovered u r) m (Called n a Fine ∷ RecoveredEntry r ∷ []) kept may tt (fine_block t.value w n a (Recovered u r) m (recovered_same t.value w u r m ∙ fine)) refl
+    linked t w h h k j n a (Recovered u r) m (Called n a Fine ∷ RecoveredEntry r ∷ []) kept may tt (fine_block (number_of t) w n a (Recovered u r) m (recovered_same (number_of t) w u r m ∙ fine)) refl
     (recovery_heeded h n a u r) (recovery_followed k j n a r same state)
 
 -- the history after a loss
@@ -120,8 +122,8 @@ lost_past n a c x y i j h p q wrote e f k =
     k ∙ ap (λ (g : List Entry). cut g c i j ∷ g) wrote ∙ ap (λ z. cut h c z j ∷ Called n a Fine ∷ h) e ∙ ap (λ z. cut h c x z ∷ Called n a Fine ∷ h) f
 
 -- what it is answered
-pub lose_is : (t : TxNo) (w : World) (h : Known) (k : CoreKept) (u : TxNo) (c : Conn) (x y m : ℕ) (b : Bool) (a : Answer) → Kept t w h k → b ≡ is_open_wire c w.past → a ≡ if_begun h.half.seen.limit (if b then Fine else NoSuch)
-    → a ≡ answer_at t.value w (Lose u c x y) m
+pub lose_is : (t : TxId) (w : World) (h : Known) (k : CoreKept) (u : TxNo) (c : Conn) (x y m : ℕ) (b : Bool) (a : Answer) → Kept t w h k → b ≡ is_open_wire c w.past → a ≡ if_begun h.half.seen.limit (if b then Fine else NoSuch)
+    → a ≡ answer_at (number_of t) w (Lose u c x y) m
 unfolding answer_at
 lose_is t w h k u c x y m b a kept wire answered =
     answered ∙ ap (λ (v : Bool). if_begun h.half.seen.limit (if v then Fine else NoSuch)) wire ∙ ap (λ (g : Half). if_begun g.seen.limit (lose_answer w c)) (half_is t w h k kept)

@@ -3,6 +3,7 @@ use Rattle.std.proofs.Common.{◌≡◌, ◌<◌, ◌≤◌, ℕ, zero, suc, ◌
 use Rattle.std.specs.List.{flat_map}
 use Rattle.std.proofs.lemmas.List.{length-map}
 use Rattle.dtx_values.specs.declared.entry.Entry.{Entry}
+use Rattle.dtx_values.specs.declared.tx_id.TxId.{TxId}
 use Rattle.dtx_values.specs.declared.message.Conn.{Conn}
 use Rattle.dtx_values.specs.declared.message.Dir.{Dir}
 use Rattle.dtx_values.specs.declared.note.Plan.{Plan}
@@ -10,7 +11,6 @@ use Rattle.dtx_values.specs.declared.note.Reply.{Reply}
 use Rattle.dtx_values.specs.declared.number.EnlNo.{EnlNo}
 use Rattle.dtx_values.specs.declared.end.End.{End}
 use Rattle.dtx_values.specs.declared.message.Dir.TheVariants.{Up, Down}
-use Rattle.dtx_values.specs.declared.number.TxNo.{TxNo}
 use Rattle.dtx_values.specs.declared.row.Row.{Row}
 use Rattle.dtx_model.specs.declared.branch.Branch.{Branch}
 use Rattle.dtx_model.specs.Words.{kth}
@@ -36,7 +36,7 @@ use Rattle.world_parts.specs.Pending.{IsAt, IsDueAt, IsDueIn, IsPlannedAt, IsRep
 use Rattle.world_parts.proofs.Places.{at_later, at_sooner, named_few, no_replies, replies_are}
 
 -- a place of the pending steps of a world that holds, part by part
-pub at_reply : (t : TxNo) (w : World) (h : Known) (k : CoreKept) (i : ℕ) (s : PendingStep) → Kept t w h k → IsAt (replies_due (plan_of w.calls) h.half) i (StepHere s) → IsAt (pending w) i (StepHere s)
+pub at_reply : (t : TxId) (w : World) (h : Known) (k : CoreKept) (i : ℕ) (s : PendingStep) → Kept t w h k → IsAt (replies_due (plan_of w.calls) h.half) i (StepHere s) → IsAt (pending w) i (StepHere s)
 unfolding pending local_pending
 at_reply t w h k i s kept here =
     let p = plan_of w.calls in
@@ -45,7 +45,7 @@ at_reply t w h k i s kept here =
     let found = subst (λ (g : Half). IsAt (replies_due p g) i (StepHere s)) (half_is t w h k kept) here in
     at_sooner (replies ++ act ++ core_act (core w)) (flat_map (deliveries_on w.past) (half w).seen.ends) i s (at_sooner (replies ++ act) (core_act (core w)) i s (at_sooner replies act i s found))
 
-pub at_act : (t : TxNo) (w : World) (h : Known) (k : CoreKept) (i n : ℕ) (s : PendingStep) → Kept t w h k → IsAt (replies_due (plan_of w.calls) h.half) i (Beyond n) → IsAt (local_if (act_entries h.half)) n (StepHere s)
+pub at_act : (t : TxId) (w : World) (h : Known) (k : CoreKept) (i n : ℕ) (s : PendingStep) → Kept t w h k → IsAt (replies_due (plan_of w.calls) h.half) i (Beyond n) → IsAt (local_if (act_entries h.half)) n (StepHere s)
     → IsAt (pending w) i (StepHere s)
 unfolding pending local_pending
 at_act t w h k i n s kept before here =
@@ -57,7 +57,7 @@ at_act t w h k i n s kept before here =
     at_sooner (replies ++ act ++ core_act (core w)) (flat_map (deliveries_on w.past) (half w).seen.ends) i s (at_sooner (replies ++ act) (core_act (core w)) i s (at_later replies act i n (StepHere s) passed found))
 
 -- where no reply is due, the local act is the first
-pub act_is_first : (t : TxNo) (w : World) (h : Known) (k : CoreKept) → Kept t w h k → all_due h.half.seen ≡ [] → not (is_empty (act_entries (half w))) ≡ true → kth (pending w) 1 ≡ Some LocalAct
+pub act_is_first : (t : TxId) (w : World) (h : Known) (k : CoreKept) → Kept t w h k → all_due h.half.seen ≡ [] → not (is_empty (act_entries (half w))) ≡ true → kth (pending w) 1 ≡ Some LocalAct
 act_is_first t w h k kept none some =
     let here = subst (λ (g : Half). slice_get (local_if (act_entries g)) 0 ≡ Some LocalAct) (sym (half_is t w h k kept)) (first (act_entries (half w)) some) in
     at_act t w h k 0 0 Act kept (no_replies (plan_of w.calls) h.half 0 none) here
@@ -67,7 +67,7 @@ act_is_first t w h k kept none some =
     first (x ∷ es) e = refl
 
 -- What is at a place up to the coordinator's act.
-core_there : (t : TxNo) (w : World) (h : Known) (k : CoreKept) (i n m : ℕ) (a : At) → Kept t w h k → IsAt (replies_due (plan_of w.calls) h.half) i (Beyond n) → IsAt (local_if (act_entries h.half)) n (Beyond m)
+core_there : (t : TxId) (w : World) (h : Known) (k : CoreKept) (i n m : ℕ) (a : At) → Kept t w h k → IsAt (replies_due (plan_of w.calls) h.half) i (Beyond n) → IsAt (local_if (act_entries h.half)) n (Beyond m)
     → IsAt (core_act k.state) m a → IsAt (replies_due (plan_of w.calls) (half w) ++ local_if (act_entries (half w)) ++ core_act (core w)) i a
 core_there t w h k i n m a kept before between here =
     let replies = replies_due (plan_of w.calls) (half w) in
@@ -77,14 +77,14 @@ core_there t w h k i n m a kept before between here =
     let found = subst (λ (x : Coordinated). IsAt (core_act x) m a) (core_is t w h k kept) here in
     at_later (replies ++ act) (core_act (core w)) i m a (at_later replies act i n (Beyond m) passed more) found
 
-pub at_core : (t : TxNo) (w : World) (h : Known) (k : CoreKept) (i n m : ℕ) (s : PendingStep) → Kept t w h k → IsAt (replies_due (plan_of w.calls) h.half) i (Beyond n) → IsAt (local_if (act_entries h.half)) n (Beyond m)
+pub at_core : (t : TxId) (w : World) (h : Known) (k : CoreKept) (i n m : ℕ) (s : PendingStep) → Kept t w h k → IsAt (replies_due (plan_of w.calls) h.half) i (Beyond n) → IsAt (local_if (act_entries h.half)) n (Beyond m)
     → IsAt (core_act k.state) m (StepHere s) → IsAt (pending w) i (StepHere s)
 unfolding pending local_pending
 at_core t w h k i n m s kept before between here =
     at_sooner (replies_due (plan_of w.calls) (half w) ++ local_if (act_entries (half w)) ++ core_act (core w)) (flat_map (deliveries_on w.past) (half w).seen.ends) i s
     (core_there t w h k i n m (StepHere s) kept before between here)
 
-pub at_delivery : (t : TxNo) (w : World) (h : Known) (k : CoreKept) (i n m l : ℕ) (a : At) → Kept t w h k → IsAt (replies_due (plan_of w.calls) h.half) i (Beyond n) → IsAt (local_if (act_entries h.half)) n (Beyond m)
+pub at_delivery : (t : TxId) (w : World) (h : Known) (k : CoreKept) (i n m l : ℕ) (a : At) → Kept t w h k → IsAt (replies_due (plan_of w.calls) h.half) i (Beyond n) → IsAt (local_if (act_entries h.half)) n (Beyond m)
     → IsAt (core_act k.state) m (Beyond l) → IsAt (flat_map (deliveries_on w.past) h.half.seen.ends) l a → IsAt (pending w) i a
 unfolding pending local_pending
 at_delivery t w h k i n m l a kept before between after_it here =
@@ -123,7 +123,7 @@ length-names : (bs : List Branch) (es : List EnlNo) → length (with_names bs es
 length-names [] es = omega arith
 length-names (b ∷ bs) es = let rest = length-names bs es in let here = named_few b.enlistment (with_names bs es) in omega (arith, rest, here)
 
-pub pending_few : (t : TxNo) (w : World) (h : Known) (k : CoreKept) → Kept t w h k → length h.half.seen.table ≤ 32 → length h.half.seen.branches ≤ 16 → length h.half.seen.ends ≤ 34 → length (pending w) ≤ 118
+pub pending_few : (t : TxId) (w : World) (h : Known) (k : CoreKept) → Kept t w h k → length h.half.seen.table ≤ 32 → length h.half.seen.branches ≤ 16 → length h.half.seen.ends ≤ 34 → length (pending w) ≤ 118
 unfolding pending local_pending
 pending_few t w h k kept rows branches ends =
     let p = plan_of w.calls in
@@ -161,16 +161,16 @@ within (y ∷ xs) zero x e = omega arith
 within (y ∷ xs) (suc k) x e = let less = within xs k x e in omega (arith, less)
 
 -- a step that is there is due
-pub reply_due : (t : TxNo) (w : World) (h : Known) (k : CoreKept) (s : PendingStep) → Kept t w h k → IsPlannedAt (plan_of w.calls) h.half.seen (StepHere s) → IsReply s → IsDueIn w s
+pub reply_due : (t : TxId) (w : World) (h : Known) (k : CoreKept) (s : PendingStep) → Kept t w h k → IsPlannedAt (plan_of w.calls) h.half.seen (StepHere s) → IsReply s → IsDueIn w s
 reply_due t w h k (PendingReply e n r) kept planned is = subst (λ (g : Half). IsPlannedAt (plan_of w.calls) g.seen (StepHere (PendingReply e n r))) (half_is t w h k kept) planned
 reply_due t w h k Act kept planned is = absurd is
 reply_due t w h k Coordinate kept planned is = absurd is
 reply_due t w h k (Deliver c d) kept planned is = absurd is
 
-pub act_due : (t : TxNo) (w : World) (h : Known) (k : CoreKept) (s : PendingStep) → Kept t w h k → s ≡ Act → is_empty (act_entries h.half) ≡ false → IsDueIn w s
+pub act_due : (t : TxId) (w : World) (h : Known) (k : CoreKept) (s : PendingStep) → Kept t w h k → s ≡ Act → is_empty (act_entries h.half) ≡ false → IsDueIn w s
 act_due t w h k s kept same some = subst (IsDueIn w) (sym same) (ap (λ (g : Half). is_empty (act_entries g)) (sym (half_is t w h k kept)) ∙ some)
 
-pub core_due : (t : TxNo) (w : World) (h : Known) (k : CoreKept) (s : PendingStep) → Kept t w h k → s ≡ Coordinate → (may_log k.state || may_free k.state) ≡ true → IsDueIn w s
+pub core_due : (t : TxId) (w : World) (h : Known) (k : CoreKept) (s : PendingStep) → Kept t w h k → s ≡ Coordinate → (may_log k.state || may_free k.state) ≡ true → IsDueIn w s
 core_due t w h k s kept same some = subst (IsDueIn w) (sym same) (ap (λ (x : Coordinated). may_log x || may_free x) (sym (core_is t w h k kept)) ∙ some)
 
 pub delivery_due : (w : World) (a : At) → ((t : PendingStep) → a ≡ StepHere t → (c : Conn) × (d : Dir) × (t ≡ Deliver c d) × (has_left c d w.past ≡ true)) → IsDueAt w a

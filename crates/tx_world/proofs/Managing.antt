@@ -1,6 +1,8 @@
 -- What it is answered that a manager has recovered.
 use Rattle.std.proofs.Common.{ℕ, ◌≡◌, ◌≢◌, ◌∙◌, Bool, true, false, not, Option, Some, None, ap, if◌then◌else◌}
 use Rattle.dtx_values.specs.declared.call.Call.TheVariants.{Recovered}
+use Rattle.dtx_values.specs.TxIds.{number_of}
+use Rattle.dtx_values.specs.declared.tx_id.TxId.{TxId}
 use Rattle.dtx_values.specs.declared.entry.Answer.{Answer}
 use Rattle.dtx_values.specs.declared.entry.Answer.TheVariants.{Fine, NoSuch, Over, Stopped}
 use Rattle.dtx_values.specs.declared.number.RmNo.{RmNo}
@@ -17,8 +19,8 @@ use Rattle.world_parts.specs.Managers.{first_link, has_accepted, recovery_answer
 use Rattle.tx_world.proofs.Onward.{core_is, half_is}
 
 -- what a `recovered` is answered
-pub recovered_is : (t : TxNo) (w : World) (h : Known) (k : CoreKept) (u : TxNo) (r : RmNo) (m : ℕ) (a : Answer) → Kept t w h k → a ≡ if_begun h.half.seen.limit (recovery_answer h.half.seen k.state w.past r)
-    → a ≡ answer_at t.value w (Recovered u r) m
+pub recovered_is : (t : TxId) (w : World) (h : Known) (k : CoreKept) (u : TxNo) (r : RmNo) (m : ℕ) (a : Answer) → Kept t w h k → a ≡ if_begun h.half.seen.limit (recovery_answer h.half.seen k.state w.past r)
+    → a ≡ answer_at (number_of t) w (Recovered u r) m
 unfolding answer_at
 recovered_is t w h k u r m a kept answered =
     answered

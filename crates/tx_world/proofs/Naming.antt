@@ -1,6 +1,8 @@
 -- The record that is kept names who said PREPARED: none of them changes while there is a record, nor while the coordinator stands stopped, and each step leaves it so.
 use Rattle.std.proofs.Common.{◌≡◌, ◌∙◌, inl, inr, ℕ, Bool, true, false, ◌&&◌, ◌||◌, not, List, [], ◌∷◌, map, filter, Option, Some, None, is_some, Result, Ok, Err, OnOk, OnErr, refl, ap, sym, subst, if◌then◌else◌}
 use Rattle.dtx_values.specs.RecoveryInfo.{pair_of}
+use Rattle.dtx_values.specs.TxIds.{number_of}
+use Rattle.dtx_values.specs.declared.tx_id.TxId.{TxId}
 use Rattle.dtx_values.specs.declared.entry.Entry.{Entry}
 use Rattle.dtx_values.specs.declared.entry.Entry.TheVariants.{Got, Restarted, Stopped}
 use Rattle.dtx_values.specs.declared.message.Conn.{Conn}
@@ -8,7 +10,6 @@ use Rattle.dtx_values.specs.declared.message.Conn.TheVariants.{Enl, Again}
 use Rattle.dtx_values.specs.declared.message.Dir.TheVariants.{Up}
 use Rattle.dtx_values.specs.declared.message.Message.{Message}
 use Rattle.dtx_values.specs.declared.message.Message.TheVariants.{EnlistAck, EnlistEnlist, ReenlistAck}
-use Rattle.dtx_values.specs.declared.number.TxNo.{TxNo}
 use Rattle.dtx_values.specs.Table.{insert_by}
 use Rattle.dtx_model.specs.declared.desk.Desk.{Desk}
 use Rattle.dtx_model.specs.declared.desk.Stage.{Stage}
@@ -121,43 +122,43 @@ kept_settled id k x o s = by k.stopped refl
     by false e = sym (o.recorded e) ∙ s
 
 -- So in a step that isn't the log's the record that is kept stays the one that the coordinator writes.
-names_on : (t : TxNo) (w v : World) (x : LogKept) (b : Bool) (es : List Entry) → IsOurs (identifier_of t.value) (core w) x → WireRun v.past → each is_elsewhere es ≡ true → v.past ≡ stop_if b (onto w.past es)
-    → Names t.value x.ours (core w) → Names t.value x.ours (core v)
+names_on : (t : TxId) (w v : World) (x : LogKept) (b : Bool) (es : List Entry) → IsOurs (identifier_of (number_of t)) (core w) x → WireRun v.past → each is_elsewhere es ≡ true → v.past ≡ stop_if b (onto w.past es)
+    → Names (number_of t) x.ours (core w) → Names (number_of t) x.ours (core v)
 names_on t w v x b es o wires el past n = λ s.
     let same : pairs_of (core v).desks ≡ pairs_of (core w).desks
-    = ap (λ (h : List Entry). pairs_of (coordinate h).desks) past ∙ turned_same b w.past es el (subst (λ (h : List Entry). WireRun h) past wires) (kept_settled (identifier_of t.value) (core w) x o s) in
-    names_same t.value x.ours (core w) (core v) same n s
+    = ap (λ (h : List Entry). pairs_of (coordinate h).desks) past ∙ turned_same b w.past es el (subst (λ (h : List Entry). WireRun h) past wires) (kept_settled (identifier_of (number_of t)) (core w) x o s) in
+    names_same (number_of t) x.ours (core w) (core v) same n s
 
 -- the same of a transaction as its users see it
 pub named_does : (up : Bool) (life : ℕ) (m : Step) (old new : TxState) → is_apart m ≡ true → IsOurs (id_of old) (core old.world) (record { ours = old.ours; unsure = old.unsure; life = old.life })
-    → IsOwnRun new.transaction.value new.world → DoesAt up life m old new → NamesPrepared old → NamesPrepared new
+    → IsOwnRun (number_of new.transaction) new.world → DoesAt up life m old new → NamesPrepared old → NamesPrepared new
 named_does up life m old new apart o ran d n =
     let t = old.transaction in
-    let b = sends_begin t.value old.world m && not up in
-    let es = block_at t.value old.world m in
-    let past : new.world.past ≡ stop_if b (onto old.world.past es) = ap (λ (w : World). w.past) d.world ∙ sym (ap (λ (w : World). w.past) (turned_past t.value old.world m up)) in
-    let there : Names t.value old.ours (core new.world)
-    = names_on t old.world new.world (record { ours = old.ours; unsure = old.unsure; life = old.life }) b es o (wire_run (IsIn new.world.calls) new.transaction.value ran.0 new.world ran.1)
-    (block_elsewhere t.value old.world m apart) past n in
-    let P : TxNo → Type 0 = λ u. Names u.value new.ours (core new.world) in
-    let Q : Option CommitRecord → Type 0 = λ p. Names t.value p (core new.world) in
+    let b = sends_begin (number_of t) old.world m && not up in
+    let es = block_at (number_of t) old.world m in
+    let past : new.world.past ≡ stop_if b (onto old.world.past es) = ap (λ (w : World). w.past) d.world ∙ sym (ap (λ (w : World). w.past) (turned_past (number_of t) old.world m up)) in
+    let there : Names (number_of t) old.ours (core new.world)
+    = names_on t old.world new.world (record { ours = old.ours; unsure = old.unsure; life = old.life }) b es o (wire_run (IsIn new.world.calls) (number_of new.transaction) ran.0 new.world ran.1)
+    (block_elsewhere (number_of t) old.world m apart) past n in
+    let P : TxId → Type 0 = λ u. Names (number_of u) new.ours (core new.world) in
+    let Q : Option CommitRecord → Type 0 = λ p. Names (number_of t) p (core new.world) in
     subst P (sym d.transaction) (subst Q (sym (kept_apart m old new apart d.kept)) there)
 
 -- of a call, or a step, that may fail
 pub named_ok : {A E : Type 0} (r : Result A E) (up : Bool) (life : ℕ) (m : Step) (old new : TxState) → is_apart m ≡ true → IsOurs (id_of old) (core old.world) (record { ours = old.ours; unsure = old.unsure; life = old.life })
-    → IsOwnRun new.transaction.value new.world → OnOk r (DoesAt up life m old new) → OnErr r (new ≡ old) → NamesPrepared old → NamesPrepared new
+    → IsOwnRun (number_of new.transaction) new.world → OnOk r (DoesAt up life m old new) → OnErr r (new ≡ old) → NamesPrepared old → NamesPrepared new
 named_ok (Ok a) up life m old new apart o ran d e n = named_does up life m old new apart o ran d n
 named_ok (Err f) up life m old new apart o ran d e n = subst (λ (x : TxState). NamesPrepared x) (sym e) n
 
 -- and of a step that was written
-pub named_near : {t : TxNo} {w v : World} {f g : Known} {k j : CoreKept} (up : Bool) (life : ℕ) (m : Step) (x y : LogKept) (old : TxState) → Whole t w f k x → Whole t v g j y → is_apart m ≡ true → seen_as t w x ≡ old
+pub named_near : {t : TxId} {w v : World} {f g : Known} {k j : CoreKept} (up : Bool) (life : ℕ) (m : Step) (x y : LogKept) (old : TxState) → Whole t w f k x → Whole t v g j y → is_apart m ≡ true → seen_as t w x ≡ old
     → DoesAt up life m old (seen_as t v y) → NamesPrepared old → NamesPrepared (seen_as t v y)
 named_near {t} {w} {v} {f} {g} {k} {j} up life m x y old was is apart seen d n =
     let P : TxState → Type 0 = λ z. DoesAt up life m z (seen_as t v y) → NamesPrepared z → NamesPrepared (seen_as t v y) in
     let here : P (seen_as t w x) = named_does up life m (seen_as t w x) (seen_as t v y) apart (own_ours t w f k x was) is.kept.ran in
     subst P seen here d n
 
-pub named_alone : {t : TxNo} {w v : World} {f g : Known} {k j : CoreKept} (m : Step) (x : LogKept) (old : TxState) → Whole t w f k x → Whole t v g j x → is_apart m ≡ true → seen_as t w x ≡ old
+pub named_alone : {t : TxId} {w v : World} {f g : Known} {k j : CoreKept} (m : Step) (x : LogKept) (old : TxState) → Whole t w f k x → Whole t v g j x → is_apart m ≡ true → seen_as t w x ≡ old
     → DoesAlone m old (seen_as t v x) → NamesPrepared old → NamesPrepared (seen_as t v x)
 named_alone {t} {w} {v} m x old was is apart seen d n = named_near true 0 m x x old was is apart seen (at_alone true 0 m old (seen_as t v x) d) n
 
@@ -175,10 +176,10 @@ stopped_names : (t : ℕ) (o : Option CommitRecord) (h : List Entry) → Names t
 unfolding coordinate
 stopped_names t o h n = named_stopped t o (coordinate h) n
 
-pub named_halt : (t : TxNo) (w v : World) (x : LogKept) (old : TxState) → v.past ≡ Stopped ∷ w.past → seen_as t w x ≡ old → NamesPrepared old → NamesPrepared (seen_as t v x)
+pub named_halt : (t : TxId) (w v : World) (x : LogKept) (old : TxState) → v.past ≡ Stopped ∷ w.past → seen_as t w x ≡ old → NamesPrepared old → NamesPrepared (seen_as t v x)
 named_halt t w v x old past seen n =
     let P : TxState → Type 0 = λ z. NamesPrepared z → NamesPrepared (seen_as t v x) in
-    let here : P (seen_as t w x) = λ m. subst (λ (h : List Entry). Names t.value x.ours (coordinate h)) (sym past) (stopped_names t.value x.ours w.past m) in
+    let here : P (seen_as t w x) = λ m. subst (λ (h : List Entry). Names (number_of t) x.ours (coordinate h)) (sym past) (stopped_names (number_of t) x.ours w.past m) in
     subst P seen here n
 
 -- and so does an opening, where what it found ties with what was kept.
@@ -187,11 +188,11 @@ unfolding coordinate
 found_names t o found u true h tie n = named_found t o found u (coordinate (Stopped ∷ h)) tie (stopped_names t o h n)
 found_names t o found u false h tie n = named_found t o found u (coordinate h) tie n
 
-pub named_told : (t : TxNo) (w v : World) (x y : LogKept) (old : TxState) (b : Bool) (found : Option CommitRecord) → v.past ≡ Restarted (is_some found) ∷ stop_if b w.past → seen_as t w x ≡ old
+pub named_told : (t : TxId) (w v : World) (x y : LogKept) (old : TxState) (b : Bool) (found : Option CommitRecord) → v.past ≡ Restarted (is_some found) ∷ stop_if b w.past → seen_as t w x ≡ old
     → Tie old.ours old.unsure found → y.ours ≡ found → NamesPrepared old → NamesPrepared (seen_as t v y)
 named_told t w v x y old b found past seen tie kept n =
     let P : TxState → Type 0 = λ z. Tie z.ours z.unsure found → NamesPrepared z → NamesPrepared (seen_as t v y) in
     let here : P (seen_as t w x) = λ ties m.
-    subst (λ (o : Option CommitRecord). Names t.value o (core v)) (sym kept)
-    (subst (λ (h : List Entry). Names t.value found (coordinate h)) (sym past) (found_names t.value x.ours found x.unsure b w.past ties m)) in
+    subst (λ (o : Option CommitRecord). Names (number_of t) o (core v)) (sym kept)
+    (subst (λ (h : List Entry). Names (number_of t) found (coordinate h)) (sym past) (found_names (number_of t) x.ours found x.unsure b w.past ties m)) in
     subst P seen here tie n

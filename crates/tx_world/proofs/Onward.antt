@@ -2,6 +2,8 @@
 use Rattle.std.proofs.Common.{◌≡◌, ℕ, zero, suc, Bool, true, false, ◌&&◌, ◌||◌, not, List, [], ◌∷◌, Some, refl, ap, sym, ◌∙◌, subst, if◌then◌else◌}
 use Rattle.std.proofs.lemmas.Bool.{cond-false, cond-true}
 use Rattle.dtx_values.specs.declared.call.Call.{Call}
+use Rattle.dtx_values.specs.TxIds.{number_of}
+use Rattle.dtx_values.specs.declared.tx_id.TxId.{TxId}
 use Rattle.dtx_values.specs.declared.entry.Entry.{Entry}
 use Rattle.dtx_values.specs.declared.entry.Entry.TheVariants.{Down as Ended, Freed, Got, LogFull, Logged, Recovered, Restarted, Sent, Stopped}
 use Rattle.dtx_values.specs.declared.message.Conn.TheVariants.{Begin, Voter, Enl, Again}
@@ -10,7 +12,6 @@ use Rattle.dtx_values.specs.declared.note.Note.{Note}
 use Rattle.dtx_values.specs.declared.note.Reply.{Reply}
 use Rattle.dtx_values.specs.declared.number.ActorNo.{ActorNo}
 use Rattle.dtx_values.specs.declared.number.EnlNo.{EnlNo}
-use Rattle.dtx_values.specs.declared.number.TxNo.{TxNo}
 use Rattle.dtx_model.specs.Words.{each, has, kth, onto}
 use Rattle.dtx_model.specs.Outcome.{is_empty}
 use Rattle.dtx_model.specs.Observed.{track}
@@ -34,7 +35,7 @@ use Rattle.tx_world.specs.Kept.{Kept, stop_if, stopped_if}
 use Rattle.world_laws.proofs.Near.{near_act, near_reply}
 
 -- a world to which nothing happened yet
-pub new_kept : (t : TxNo) (ks : List EnteredCall) (past : List Entry) (h : Known) (k : CoreKept) → ks ≡ [] → past ≡ [] → h ≡ record { transaction = t; half = half_of [] [] }
+pub new_kept : (t : TxId) (ks : List EnteredCall) (past : List Entry) (h : Known) (k : CoreKept) → ks ≡ [] → past ≡ [] → h ≡ record { transaction = t; half = half_of [] [] }
     → k ≡ record { transaction = t; state = nothing } → Kept t (record { calls = ks; past = past }) h k
 unfolding coordinate
 new_kept t ks past h k no_calls no_past is_half is_core = record {
@@ -60,22 +61,22 @@ pub ran_on : (t : ℕ) (w : World) (m : Step) → IsOwnRun t w → MayCome (IsIn
 unfolding after
 ran_on t w m r k = (m ∷ r.0, (w, lift_ran (IsIn w.calls) (IsIn (entered m w.calls)) (in_more m w.calls) t r.0 w r.1, k, refl))
 
-pub step_kept : (t : TxNo) (w : World) (m : Step) (h g : Known) (k j : CoreKept) → Kept t w h k → MayCome (IsIn (entered m w.calls)) t.value w m → AreMadeOnce (IsIn (entered m w.calls))
-    → g ≡ known_after (entered m []) h (block_at t.value w m) → j ≡ record { transaction = k.transaction; state = follow_all k.state (block_at t.value w m) } → Kept t (after t.value w m) g j
+pub step_kept : (t : TxId) (w : World) (m : Step) (h g : Known) (k j : CoreKept) → Kept t w h k → MayCome (IsIn (entered m w.calls)) (number_of t) w m → AreMadeOnce (IsIn (entered m w.calls))
+    → g ≡ known_after (entered m []) h (block_at (number_of t) w m) → j ≡ record { transaction = k.transaction; state = follow_all k.state (block_at (number_of t) w m) } → Kept t (after (number_of t) w m) g j
 unfolding after
 step_kept t w m h g k j kept may once local far =
-    let es = block_at t.value w m in
+    let es = block_at (number_of t) w m in
     record {
-      ran = ran_on t.value w m kept.ran may;
+      ran = ran_on (number_of t) w m kept.ran may;
       once = once;
       half =
           local
           ∙ ap (λ (x : Known). known_after (entered m []) x es) kept.half
-          ∙ ap (λ (x : Half). record { transaction = t; half = x }) (sym (half_behind (IsIn (entered m w.calls)) t.value w m may));
+          ∙ ap (λ (x : Half). record { transaction = t; half = x }) (sym (half_behind (IsIn (entered m w.calls)) (number_of t) w m may));
       core =
           far
           ∙ ap (λ (x : CoreKept). record { transaction = x.transaction; state = follow_all x.state es }) kept.core
-          ∙ ap (λ (x : Coordinated). record { transaction = t; state = x }) (sym (core_behind t.value w m));
+          ∙ ap (λ (x : Coordinated). record { transaction = t; state = x }) (sym (core_behind (number_of t) w m));
     }
 
 -- what is written by the local side alone leaves the coordinator as it was
@@ -119,40 +120,40 @@ far_heeds_all ks h (x ∷ es) f =
     ap (λ (g : Half). heeds_all ks g es) (far_heeded ks h x (and_left (is_far x) (each is_far es) f)) ∙ far_heeds_all ks h es (and_right (is_far x) (each is_far es) f)
 
 -- a step of the local side that is no call
-pub near_kept : (t : TxNo) (w : World) (m : Step) (h g : Known) (k : CoreKept) → Kept t w h k → MayCome (IsIn (entered m w.calls)) t.value w m → AreMadeOnce (IsIn (entered m w.calls))
-    → g ≡ known_after (entered m []) h (block_at t.value w m) → each is_near (block_at t.value w m) ≡ true → Kept t (after t.value w m) g k
+pub near_kept : (t : TxId) (w : World) (m : Step) (h g : Known) (k : CoreKept) → Kept t w h k → MayCome (IsIn (entered m w.calls)) (number_of t) w m → AreMadeOnce (IsIn (entered m w.calls))
+    → g ≡ known_after (entered m []) h (block_at (number_of t) w m) → each is_near (block_at (number_of t) w m) ≡ true → Kept t (after (number_of t) w m) g k
 near_kept t w m h g k kept may once local near =
-    step_kept t w m h g k k kept may once local (ap (λ (x : Coordinated). record { transaction = k.transaction; state = x }) (sym (near_follow_all k.state (block_at t.value w m) near)))
+    step_kept t w m h g k k kept may once local (ap (λ (x : Coordinated). record { transaction = k.transaction; state = x }) (sym (near_follow_all k.state (block_at (number_of t) w m) near)))
 
 -- what the halves of a kept world know
-pub half_is : (t : TxNo) (w : World) (h : Known) (k : CoreKept) → Kept t w h k → h.half ≡ half w
+pub half_is : (t : TxId) (w : World) (h : Known) (k : CoreKept) → Kept t w h k → h.half ≡ half w
 half_is t w h k kept = ap (λ (x : Known). x.half) kept.half
 
-pub core_is : (t : TxNo) (w : World) (h : Known) (k : CoreKept) → Kept t w h k → k.state ≡ core w
+pub core_is : (t : TxId) (w : World) (h : Known) (k : CoreKept) → Kept t w h k → k.state ≡ core w
 core_is t w h k kept = ap (λ (x : CoreKept). x.state) kept.core
 
-pub core_transaction : (t : TxNo) (w : World) (h : Known) (k : CoreKept) → Kept t w h k → k.transaction ≡ t
+pub core_transaction : (t : TxId) (w : World) (h : Known) (k : CoreKept) → Kept t w h k → k.transaction ≡ t
 core_transaction t w h k kept = ap (λ (x : CoreKept). x.transaction) kept.core
 
 -- a reply that is due and fits
-pub reply_block : (t : TxNo) (w : World) (h : Known) (k : CoreKept) (e : EnlNo) (r : Reply) → Kept t w h k → reply_entries h.half e r ≡ block_at t.value w (Replies e r)
+pub reply_block : (t : TxId) (w : World) (h : Known) (k : CoreKept) (e : EnlNo) (r : Reply) → Kept t w h k → reply_entries h.half e r ≡ block_at (number_of t) w (Replies e r)
 unfolding block_at
 reply_block t w h k e r kept = ap (λ (x : Half). reply_entries x e r) (half_is t w h k kept)
 
-pub reply_kept : (t : TxNo) (w : World) (h g : Known) (k : CoreKept) (e : EnlNo) (r : Reply) (n : Note) → Kept t w h k → due_of h.half.seen e.value ≡ Some n → fits r n ≡ true
-    → g ≡ known_after [] h (reply_entries h.half e r) → Kept t (after t.value w (Replies e r)) g k
+pub reply_kept : (t : TxId) (w : World) (h g : Known) (k : CoreKept) (e : EnlNo) (r : Reply) (n : Note) → Kept t w h k → due_of h.half.seen e.value ≡ Some n → fits r n ≡ true
+    → g ≡ known_after [] h (reply_entries h.half e r) → Kept t (after (number_of t) w (Replies e r)) g k
 unfolding block_at
 reply_kept t w h g k e r n kept due fit local =
     near_kept t w (Replies e r) h g k kept (n, ap (λ (x : Half). due_of x.seen e.value) (sym (half_is t w h k kept)) ∙ due, fit) kept.once
     (local ∙ ap (known_after [] h) (reply_block t w h k e r kept)) (near_reply (half w) e r).proof
 
 -- the local act
-pub act_block : (t : TxNo) (w : World) (h : Known) (k : CoreKept) → Kept t w h k → act_entries h.half ≡ block_at t.value w Acts
+pub act_block : (t : TxId) (w : World) (h : Known) (k : CoreKept) → Kept t w h k → act_entries h.half ≡ block_at (number_of t) w Acts
 unfolding block_at
 act_block t w h k kept = ap (λ (x : Half). act_entries x) (half_is t w h k kept)
 
-pub act_kept : (t : TxNo) (w : World) (h g : Known) (k : CoreKept) → Kept t w h k → is_empty (act_entries h.half) ≡ false → g ≡ known_after [] h (act_entries h.half)
-    → Kept t (after t.value w Acts) g k
+pub act_kept : (t : TxId) (w : World) (h g : Known) (k : CoreKept) → Kept t w h k → is_empty (act_entries h.half) ≡ false → g ≡ known_after [] h (act_entries h.half)
+    → Kept t (after (number_of t) w Acts) g k
 unfolding block_at
 act_kept t w h g k kept some local =
     near_kept t w Acts h g k kept (ap (λ (x : Half). is_empty (act_entries x)) (sym (half_is t w h k kept)) ∙ some) kept.once
@@ -167,8 +168,8 @@ stop_followed : (k : Coordinated) → follow_all k (Stopped ∷ []) ≡ follow k
 unfolding follow_all
 stop_followed k = refl
 
-pub stop_kept : (t : TxNo) (w : World) (h : Known) (k j : CoreKept) → Kept t w h k → has is_begin_sent w.past ≡ true → k.state.stopped ≡ false
-    → j ≡ record { transaction = k.transaction; state = follow k.state Stopped } → Kept t (after t.value w Stops) h j
+pub stop_kept : (t : TxId) (w : World) (h : Known) (k j : CoreKept) → Kept t w h k → has is_begin_sent w.past ≡ true → k.state.stopped ≡ false
+    → j ≡ record { transaction = k.transaction; state = follow k.state Stopped } → Kept t (after (number_of t) w Stops) h j
 unfolding block_at
 stop_kept t w h k j kept begun runs far =
     let may = and_both (has is_begin_sent w.past) (not (core w).stopped) begun (not_false (core w).stopped (ap (λ (x : Coordinated). x.stopped) (sym (core_is t w h k kept)) ∙ runs)) in
@@ -176,28 +177,28 @@ stop_kept t w h k j kept begun runs far =
     (far ∙ ap (λ (x : Coordinated). record { transaction = k.transaction; state = x }) (sym (stop_followed k.state)))
 
 -- where BEGIN was sent while the log is stopped, the coordinator stopped at once
-pub turned_kept : (t : TxNo) (w : World) (m : Step) (up : Bool) (h : Known) (k j : CoreKept) → Kept t (after t.value w m) h k → (sends_begin t.value w m ≡ true → k.state.stopped ≡ false)
-    → j ≡ stopped_if (sends_begin t.value w m && not up) k → Kept t (turned up t.value w m) h j
+pub turned_kept : (t : TxId) (w : World) (m : Step) (up : Bool) (h : Known) (k j : CoreKept) → Kept t (after (number_of t) w m) h k → (sends_begin (number_of t) w m ≡ true → k.state.stopped ≡ false)
+    → j ≡ stopped_if (sends_begin (number_of t) w m && not up) k → Kept t (turned up (number_of t) w m) h j
 unfolding after
-turned_kept t w m up h k j kept runs far = by (sends_begin t.value w m && not up) refl
+turned_kept t w m up h k j kept runs far = by (sends_begin (number_of t) w m && not up) refl
   where
     v : World
-    v = after t.value w m
+    v = after (number_of t) w m
 
-    begun : sends_begin t.value w m ≡ true → has is_begin_sent v.past ≡ true
-    begun s = has-onto is_begin_sent w.past (block_at t.value w m) ∙ or_true (sends_begin t.value w m) (has is_begin_sent w.past) s
+    begun : sends_begin (number_of t) w m ≡ true → has is_begin_sent v.past ≡ true
+    begun s = has-onto is_begin_sent w.past (block_at (number_of t) w m) ∙ or_true (sends_begin (number_of t) w m) (has is_begin_sent w.past) s
       where
         or_true : (a b : Bool) → a ≡ true → (a || b) ≡ true
         or_true true b e = refl
         or_true false b e = absurd cc
 
-    by : (b : Bool) → (sends_begin t.value w m && not up) ≡ b → Kept t (turned up t.value w m) h j
+    by : (b : Bool) → (sends_begin (number_of t) w m && not up) ≡ b → Kept t (turned up (number_of t) w m) h j
     by true e =
-        let s = and_left (sends_begin t.value w m) (not up) e in
-        subst (λ (x : World). Kept t x h j) (sym (cond-true (sends_begin t.value w m && not up) (after t.value v Stops) v e))
+        let s = and_left (sends_begin (number_of t) w m) (not up) e in
+        subst (λ (x : World). Kept t x h j) (sym (cond-true (sends_begin (number_of t) w m && not up) (after (number_of t) v Stops) v e))
         (stop_kept t v h k j kept (begun s) (runs s) (far ∙ ap (λ b. stopped_if b k) e))
     by false e =
-        subst (λ (x : World). Kept t x h j) (sym (cond-false (sends_begin t.value w m && not up) (after t.value v Stops) v e))
+        subst (λ (x : World). Kept t x h j) (sym (cond-false (sends_begin (number_of t) w m && not up) (after (number_of t) v Stops) v e))
         (subst (λ (x : CoreKept). Kept t v h x) (sym (far ∙ ap (λ b. stopped_if b k) e)) kept)
 
 -- the history and the calls of the world after a step are what was written

@@ -1,6 +1,8 @@
 -- What comes right before a call lets it be entered, and then it is done.
 use Rattle.std.proofs.Common.{◌≡◌, ◌≤◌, ◌∙◌, ℕ, true, List, None, Result, Ok, Err, IfOk, OnOk, OnErr, refl, sym, ap, subst, ◌&&◌, ◌==◌, not, is_some, arith}
 use Rattle.dtx_values.specs.declared.call.Call.{Call}
+use Rattle.dtx_values.specs.TxIds.{number_of}
+use Rattle.dtx_values.specs.declared.tx_id.TxId.{TxId}
 use Rattle.dtx_values.specs.declared.call.Call.TheVariants.{Await, Do}
 use Rattle.dtx_values.specs.declared.entry.Answer.{Answer}
 use Rattle.dtx_values.specs.declared.number.ActorNo.{ActorNo}
@@ -19,12 +21,12 @@ use Rattle.tx_world.specs.OwnCalls.{DoesCall, Prepares, Repeats, place_of}
 use Rattle.tx_world.proofs.Chained.{has_stepped, stepped_calls}
 
 -- the steps of a `do` are those that it counts
-pub has_done : {D : Type 0} (faults : D → ℕ) (k n m : ℕ) (old : TxState) (from : LogState D) (new : TxState) (to : LogState D) → Repeats faults k n m old from new to → HasDone new.transaction.value new.world k n m
+pub has_done : {D : Type 0} (faults : D → ℕ) (k n m : ℕ) (old : TxState) (from : LogState D) (new : TxState) (to : LogState D) → Repeats faults k n m old from new to → HasDone (number_of new.transaction) new.world k n m
 has_done faults k n m old from new to r = record { before = old.world; stepped = has_stepped faults k m old from new to r.stepped; most = r.most; fewer = r.fewer }
 
 -- so what is prepared may be answered
 pub prepared_may : {D : Type 0} (faults : D → ℕ) (c : Call) (m : ℕ) (old : TxState) (from : LogState D) (new : TxState) (to : LogState D)
-    → Prepares faults c m old from new to → MayAnswer new.transaction.value new.world c m
+    → Prepares faults c m old from new to → MayAnswer (number_of new.transaction) new.world c m
 prepared_may faults (Do t k n) m old from new to p = has_done faults k n m old from new to p
 prepared_may faults (Await t) m old from new to p =
     or_right (is_some (half new.world).seen.told_client) (is_empty (pending new.world)) (ap (λ (ms : List StepName). is_empty ms) p.2.settled)
@@ -90,7 +92,7 @@ settles faults c t count old from new to is s = subst (λ (d : Call). Prepares f
 
 -- then the call is done
 pub call_done : {D E : Type 0} (faults : D → ℕ) (line : ℕ) (actor : ActorNo) (c : Call) (m : ℕ) (old : TxState) (from : LogState D) (mid new : TxState) (to : LogState D) (r : Result Answer E)
-    → Prepares faults c m old from mid to → mid.transaction ≡ old.transaction → IfOk r (λ a. a ≡ answer_at mid.transaction.value mid.world c m) → OnOk r (Does faults (Calls line actor c m) mid to new to)
+    → Prepares faults c m old from mid to → mid.transaction ≡ old.transaction → IfOk r (λ a. a ≡ answer_at (number_of mid.transaction) mid.world c m) → OnOk r (Does faults (Calls line actor c m) mid to new to)
     → IfOk r (λ a. DoesCall faults line actor c a old from new to)
 call_done faults line actor c m old from mid new to (Ok a) p same answer done =
     record {
@@ -98,7 +100,7 @@ call_done faults line actor c m old from mid new to (Ok a) p same answer done =
       before = mid;
       prepared = p;
       entered = done;
-      answered = answer ∙ ap (λ (t : TxNo). answer_at t.value mid.world c m) same;
+      answered = answer ∙ ap (λ (t : TxId). answer_at (number_of t) mid.world c m) same;
     }
 call_done faults line actor c m old from mid new to (Err e) p same answer done = tt
 

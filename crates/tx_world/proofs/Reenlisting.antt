@@ -1,7 +1,10 @@
 -- An enlistment comes back: what its call is answered, and what it writes and leaves where it is done.
 use Rattle.std.proofs.Common.{◌≡◌, ◌≢◌, ◌∙◌, ℕ, Bool, true, false, not, ◌&&◌, ◌||◌, List, [], ◌∷◌, find, Option, Some, None, Result, refl, ap, sym, if◌then◌else◌}
 use Rattle.std.proofs.lemmas.Bool.{or_left}
+use Rattle.dtx_values.proofs.Ids.{number_high, number_low}
 use Rattle.dtx_values.specs.Ends.{is_in}
+use Rattle.dtx_values.specs.TxIds.{number_of}
+use Rattle.dtx_values.specs.declared.tx_id.TxId.{TxId}
 use Rattle.dtx_values.specs.Outgoing.{Outgoing, blank, written as put_out}
 use Rattle.dtx_values.specs.RecoveryInfo.{IsInfo, info_bytes, is_id}
 use Rattle.dtx_values.specs.declared.call.Call.TheVariants.{Reenlist}
@@ -13,7 +16,6 @@ use Rattle.dtx_values.specs.declared.message.Info.{Info}
 use Rattle.dtx_values.specs.declared.number.ActorNo.{ActorNo}
 use Rattle.dtx_values.specs.declared.number.EnlNo.{EnlNo}
 use Rattle.dtx_values.specs.declared.number.RmNo.{RmNo}
-use Rattle.dtx_values.specs.declared.number.TxNo.{TxNo}
 use Rattle.dtx_model.specs.declared.branch.Branch.{Branch}
 use Rattle.dtx_model.specs.Answers.{if_begun}
 use Rattle.dtx_model.specs.Caused.{is_begin_sent}
@@ -58,11 +60,11 @@ checked_back i w (Some b) = by b.enlisted (is_finished_there (half w).seen b.enl
     by true false false false false = refl
 
 -- the bytes that the manager hands in are the information
-pub handed_in : (t : TxNo) (id : ℕ) (r : RmNo) (e : EnlNo) (b : List ℕ) → id ≡ identifier_of t.value → b ≡ info_bytes (record { id = id; rm = r; enl = e }) → IsInfo b (record { id = id; rm = r; enl = e })
-handed_in t id r e b is bytes = record { valid = ap is_id is ∙ id_valid t.value t.in_range.0 t.in_range.1; bytes = bytes }
+pub handed_in : (t : TxId) (id : ℕ) (r : RmNo) (e : EnlNo) (b : List ℕ) → id ≡ identifier_of (number_of t) → b ≡ info_bytes (record { id = id; rm = r; enl = e }) → IsInfo b (record { id = id; rm = r; enl = e })
+handed_in t id r e b is bytes = record { valid = ap is_id is ∙ id_valid (number_of t) (number_low t) (number_high t); bytes = bytes }
 
-pub reenlist_is : (t : TxNo) (w : World) (h : Known) (k : CoreKept) (e : EnlNo) (m id : ℕ) (r : RmNo) (xs : List Entry) (x : Result Info ReenlistRefusal) (a : Answer) → Kept t w h k
-    → a ≡ if_begun h.half.seen.limit (returned x) → x ≡ answered xs (record { id = id; rm = r; enl = e }) → past_of xs ≡ w.past → a ≡ answer_at t.value w (Reenlist e) m
+pub reenlist_is : (t : TxId) (w : World) (h : Known) (k : CoreKept) (e : EnlNo) (m id : ℕ) (r : RmNo) (xs : List Entry) (x : Result Info ReenlistRefusal) (a : Answer) → Kept t w h k
+    → a ≡ if_begun h.half.seen.limit (returned x) → x ≡ answered xs (record { id = id; rm = r; enl = e }) → past_of xs ≡ w.past → a ≡ answer_at (number_of t) w (Reenlist e) m
 unfolding answer_at
 reenlist_is t w h k e m id r xs x a kept told checked same =
     let i : Info = record { id = id; rm = r; enl = e } in
@@ -117,7 +119,7 @@ accepted e w (Some d) bs f = by (find (is_branch e) bs) refl f
         accepted_one e bs b q
         (fine_enlisted b.manager b.enlistment b.enlisted (is_finished_there (half w).seen b.enlistment.value) (is_in b.manager.value (core w).recovered) (is_connected b.enlistment w.past) (core w).stopped g)
 
-pub fine_accepted : (t : TxNo) (w : World) (h : Known) (k : CoreKept) (e : EnlNo) (m : ℕ) → Kept t w h k → answer_at t.value w (Reenlist e) m ≡ Fine → has (λ b. is_branch e.value b && b.enlisted) h.half.seen.branches ≡ true
+pub fine_accepted : (t : TxId) (w : World) (h : Known) (k : CoreKept) (e : EnlNo) (m : ℕ) → Kept t w h k → answer_at (number_of t) w (Reenlist e) m ≡ Fine → has (λ b. is_branch e.value b && b.enlisted) h.half.seen.branches ≡ true
 unfolding answer_at
 fine_accepted t w h k e m kept fine =
     ap (λ (g : Half). has (λ b. is_branch e.value b && b.enlisted) g.seen.branches) (half_is t w h k kept) ∙ accepted e.value w (half w).seen.limit (half w).seen.branches fine
@@ -135,24 +137,24 @@ unfolding answer_at
 reenlist_same t w e m = refl
 
 -- It is ready to be written.
-pub record Returned (t : TxNo) (w : World) (n : ℕ) (a : ActorNo) (e : EnlNo) (m : ℕ) (g : Known) (k : CoreKept) (p xs : List Entry) : Type 0 where
+pub record Returned (t : TxId) (w : World) (n : ℕ) (a : ActorNo) (e : EnlNo) (m : ℕ) (g : Known) (k : CoreKept) (p xs : List Entry) : Type 0 where
   pub ready : Linked t w (Calls n a (Reenlist e) m) g k xs
-  pub past : onto p xs ≡ onto w.past (block_at t.value w (Calls n a (Reenlist e) m))
+  pub past : onto p xs ≡ onto w.past (block_at (number_of t) w (Calls n a (Reenlist e) m))
   pub written : each is_written xs ≡ true
   pub sendable : are_sendable (onto p xs) ≡ true
 
-pub returns_back : (t : TxNo) (w : World) (h g : Known) (k : CoreKept) (n : ℕ) (a : ActorNo) (e : EnlNo) (m : ℕ) (o q : Outgoing) (p xs : List Entry) → Kept t w h k → p ≡ w.past → may_enter w n (Reenlist e) ≡ true
-    → answer_at t.value w (Reenlist e) 0 ≡ Fine → g ≡ known_after (entered (Calls n a (Reenlist e) m) []) h (return_block h.transaction.value h.half n a e)
-    → xs ≡ q.entries → q ≡ put_out o (return_block h.transaction.value h.half n a e) → o ≡ blank → Returned t w n a e m g k p xs
+pub returns_back : (t : TxId) (w : World) (h g : Known) (k : CoreKept) (n : ℕ) (a : ActorNo) (e : EnlNo) (m : ℕ) (o q : Outgoing) (p xs : List Entry) → Kept t w h k → p ≡ w.past → may_enter w n (Reenlist e) ≡ true
+    → answer_at (number_of t) w (Reenlist e) 0 ≡ Fine → g ≡ known_after (entered (Calls n a (Reenlist e) m) []) h (return_block (number_of h.transaction) h.half n a e)
+    → xs ≡ q.entries → q ≡ put_out o (return_block (number_of h.transaction) h.half n a e) → o ≡ blank → Returned t w n a e m g k p xs
 returns_back t w h g k n a e m o q p xs kept same may fine local value wrote clear =
-    let es = return_block h.transaction.value h.half n a e in
-    let there = return_block t.value (half w) n a e in
+    let es = return_block (number_of h.transaction) h.half n a e in
+    let there = return_block (number_of t) (half w) n a e in
     let xs_is : xs ≡ es = block_of o q xs es value wrote clear in
-    let here : es ≡ there = ap (λ (x : Known). return_block x.transaction.value x.half n a e) kept.half in
-    let block : xs ≡ block_at t.value w (Calls n a (Reenlist e) m) = xs_is ∙ here ∙ fine_block t.value w n a (Reenlist e) m (reenlist_same t.value w e m ∙ fine) in
-    let near : each is_near es ≡ true = (near_return h.transaction.value h.half n a e).proof in
+    let here : es ≡ there = ap (λ (x : Known). return_block (number_of x.transaction) x.half n a e) kept.half in
+    let block : xs ≡ block_at (number_of t) w (Calls n a (Reenlist e) m) = xs_is ∙ here ∙ fine_block (number_of t) w n a (Reenlist e) m (reenlist_same (number_of t) w e m ∙ fine) in
+    let near : each is_near es ≡ true = (near_return (number_of h.transaction) h.half n a e).proof in
     let still : follow_all k.state xs ≡ k.state = ap (follow_all k.state) xs_is ∙ near_follow_all k.state es near in
-    let l = linked t w h g k k n a (Reenlist e) m xs kept may tt block (ap (has is_begin_sent) xs_is ∙ silent_return h.transaction.value n a (find (is_branch e.value) h.half.seen.branches))
+    let l = linked t w h g k k n a (Reenlist e) m xs kept may tt block (ap (has is_begin_sent) xs_is ∙ silent_return (number_of h.transaction) n a (find (is_branch e.value) h.half.seen.branches))
     (local ∙ ap (known_after (entered (Calls n a (Reenlist e) m) []) h) (sym xs_is)) (ap (λ (s : Coordinated). record { transaction = k.transaction; state = s }) (sym still)) in
     record {
       ready = l;

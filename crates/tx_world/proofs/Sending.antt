@@ -1,6 +1,8 @@
 -- A step of the local side that can't begin a promotion sends nothing, where none began.
 use Rattle.std.proofs.Common.{◌≡◌, ◌≤◌, ◌+◌, ℕ, length, Bool, true, false, ◌||◌, not, List, [], ◌∷◌, is_some, refl, ap, sym, subst, ◌∙◌, arith}
 use Rattle.dtx_values.specs.declared.call.Call.{Call}
+use Rattle.dtx_values.specs.TxIds.{number_of}
+use Rattle.dtx_values.specs.declared.tx_id.TxId.{TxId}
 use Rattle.dtx_values.specs.declared.entry.Ask.TheVariants.{Promote, Single as AskSingle}
 use Rattle.dtx_values.specs.declared.entry.Entry.{Entry}
 use Rattle.dtx_values.specs.declared.entry.Entry.TheVariants.{Asked, Cut, Promoting, Recovered as RecoveredEntry, Sealed, Sent}
@@ -10,7 +12,6 @@ use Rattle.dtx_values.specs.declared.message.Message.TheVariants.{BeginCommit}
 use Rattle.dtx_values.specs.declared.note.Reply.{Reply}
 use Rattle.dtx_values.specs.declared.number.ActorNo.{ActorNo}
 use Rattle.dtx_values.specs.declared.number.EnlNo.{EnlNo}
-use Rattle.dtx_values.specs.declared.number.TxNo.{TxNo}
 use Rattle.dtx_model.specs.Words.{has}
 use Rattle.dtx_model.specs.World.{World, answer_at, half}
 use Rattle.dtx_model.specs.Steps.{Step, Acts, Calls, Replies, after, block_at}
@@ -79,23 +80,23 @@ local_unsent (Sent c d m) k = absurd cc
 local_unsent _ k = refl
 
 -- A step that is ready, where no promotion began, and it begins none, sends nothing.
-ready_unsent : {t : TxNo} {w : World} {m : Step} {g : Known} {k : CoreKept} {p xs : List Entry} → Ready t w m g k p xs → has is_promoting (block_at t.value w m) ≡ false → is_unpromoted w.past ≡ true
+ready_unsent : {t : TxId} {w : World} {m : Step} {g : Known} {k : CoreKept} {p xs : List Entry} → Ready t w m g k p xs → has is_promoting (block_at (number_of t) w m) ≡ false → is_unpromoted w.past ≡ true
     → has is_sent xs ≡ false
 unfolding after
 ready_unsent {t} {w} {m} {g} {k} {p} {xs} r calm_block u =
-    let v = after t.value w m in
-    let block = block_at t.value w m in
+    let v = after (number_of t) w m in
+    let block = block_at (number_of t) w m in
     let none : has is_promoting v.past ≡ false = has-onto is_promoting w.past block ∙ ap (λ b. b || has is_promoting w.past) calm_block ∙ not_true (has is_promoting w.past) u in
-    let local = free-local (IsIn v.calls) t.value v.past (v.calls, r.kept.ran) (not_false (has is_promoting v.past) none) in
+    let local = free-local (IsIn v.calls) (number_of t) v.past (v.calls, r.kept.ran) (not_false (has is_promoting v.past) none) in
     let unsent = has_none is_local is_sent local_unsent v.past local in
     or_first (has is_sent xs) (has is_sent p) (sym (has-onto is_sent p xs) ∙ ap (has is_sent) r.past ∙ unsent)
 
 -- what the local side knows of its world, it follows
-follows_kept : (t : TxNo) (w : World) (h : Known) (k : CoreKept) → Kept t w h k → Follows h.transaction.value w h.half
-follows_kept t w h k kept = record { ran = subst (λ (x : Known). IsOwnRun x.transaction.value w) (sym kept.half) kept.ran; knows = sym (half_is t w h k kept) }
+follows_kept : (t : TxId) (w : World) (h : Known) (k : CoreKept) → Kept t w h k → Follows (number_of h.transaction) w h.half
+follows_kept t w h k kept = record { ran = subst (λ (x : Known). IsOwnRun (number_of x.transaction) w) (sym kept.half) kept.ran; knows = sym (half_is t w h k kept) }
 
 -- so it knows that no promotion began
-pub unpromoted_there : {t : TxNo} {w : World} {h : Known} {j : CoreKept} (u : Bool) → Kept t w h j → ((v : World) → Follows h.transaction.value v h.half → u ≡ is_unpromoted v.past) → not u ≡ false
+pub unpromoted_there : {t : TxId} {w : World} {h : Known} {j : CoreKept} (u : Bool) → Kept t w h j → ((v : World) → Follows (number_of h.transaction) v h.half → u ≡ is_unpromoted v.past) → not u ≡ false
     → is_unpromoted w.past ≡ true
 unpromoted_there {t} {w} {h} {j} u kept says n = sym (says w (follows_kept t w h j kept)) ∙ is_true u n
   where
@@ -104,8 +105,8 @@ unpromoted_there {t} {w} {h} {j} u kept says n = sym (says w (follows_kept t w h
     is_true false n = absurd cc
 
 -- and then that it sends nothing
-pub unsent_there : {t : TxNo} {w : World} {m : Step} {h g : Known} {j k : CoreKept} {p xs : List Entry} (u : Bool) → Kept t w h j → Ready t w m g k p xs → has is_promoting (block_at t.value w m) ≡ false
-    → ((v : World) → Follows h.transaction.value v h.half → u ≡ is_unpromoted v.past) → not u ≡ false → has is_sent xs ≡ false
+pub unsent_there : {t : TxId} {w : World} {m : Step} {h g : Known} {j k : CoreKept} {p xs : List Entry} (u : Bool) → Kept t w h j → Ready t w m g k p xs → has is_promoting (block_at (number_of t) w m) ≡ false
+    → ((v : World) → Follows (number_of h.transaction) v h.half → u ≡ is_unpromoted v.past) → not u ≡ false → has is_sent xs ≡ false
 unsent_there u kept r calm_block says n = ready_unsent r calm_block (unpromoted_there u kept says n)
 
 -- there is room for what is sent, where it was made unless nothing is
@@ -119,7 +120,7 @@ room_where_few true n few many room is_few is_many has_many has_few = omega (ari
 room_where_few false n few many room is_few is_many has_many has_few = omega (arith, is_few refl)
 
 -- So the block of a step of the local side may be written, where room was made for what it sends unless it sends nothing, and is short.
-pub may_write_near : {t : TxNo} {w : World} {m : Step} {g : Known} {k : CoreKept} {xs : List Entry} (made : Bool) (h : Course) → Ready t w m g k h.past xs → length xs ≤ 64
+pub may_write_near : {t : TxId} {w : World} {m : Step} {g : Known} {k : CoreKept} {xs : List Entry} (made : Bool) (h : Course) → Ready t w m g k h.past xs → length xs ≤ 64
     → (made ≡ false → (has is_sent xs ≡ false) × (length xs ≤ 4)) → (made ≡ true → 66 ≤ h.room) × (6 ≤ h.room) → (made ≡ true → (64 ≤ h.start_room) × (64 ≤ h.send_room)) → MayWrite h xs k
 may_write_near {xs = xs} made h r few short room sends = record {
   written = r.written;

@@ -1,6 +1,7 @@
 -- Which steps write entries of the log: the coordinator's act there, a stop and a restart; and what restarts found stays tied to what was appended in each step but a restart.
 use Rattle.std.proofs.Common.{◌≡◌, ℕ, zero, suc, Bool, true, false, ◌&&◌, not, List, [], ◌∷◌, Result, Ok, Err, OnOk, OnErr, refl, ap, sym, subst, if◌then◌else◌}
 use Rattle.dtx_values.specs.declared.call.Call.{Call}
+use Rattle.dtx_values.specs.TxIds.{number_of}
 use Rattle.dtx_values.specs.declared.entry.Answer.{Answer}
 use Rattle.dtx_values.specs.declared.entry.Ask.TheVariants.{Promote, Single as AskSingle}
 use Rattle.dtx_values.specs.declared.entry.Entry.{Entry}
@@ -169,10 +170,10 @@ abbrev pub StaysTied : TxState → TxState → Type 0
 StaysTied old new = tied old.world.past ≡ true → tied new.world.past ≡ true
 
 pub does_tied : (up : Bool) (life : ℕ) (m : Step) (old new : TxState) → is_restarting m ≡ false → DoesAt up life m old new → StaysTied old new
-does_tied up life m old new i d k = subst (λ (w : World). tied w.past ≡ true) (sym d.world) (turned_tied up old.transaction.value old.world m i k)
+does_tied up life m old new i d k = subst (λ (w : World). tied w.past ≡ true) (sym d.world) (turned_tied up (number_of old.transaction) old.world m i k)
 
 pub alone_tied : (m : Step) (old new : TxState) → is_restarting m ≡ false → DoesAlone m old new → StaysTied old new
-alone_tied m old new i d k = subst (λ (w : World). tied w.past ≡ true) (sym d.world) (still_tied old.transaction.value old.world m i k)
+alone_tied m old new i d k = subst (λ (w : World). tied w.past ≡ true) (sym d.world) (still_tied (number_of old.transaction) old.world m i k)
 
 -- to what a call made of it that may fail, and then does nothing, or that may have nothing to do,
 pub ok_tied : {A E D : Type 0} (r : Result A E) (old new : TxState) → (D → StaysTied old new) → OnOk r D → OnErr r (new ≡ old) → StaysTied old new
@@ -197,7 +198,7 @@ kth_alone_tied k old new d = alone_tied d.step old new (named_elsewhere old.worl
 pub kth_tied : {D : Type 0} (faults : D → ℕ) (k : ℕ) (old : TxState) (from : LogState D) (new : TxState) (to : LogState D) → DoesKth faults k old from new to → StaysTied old new
 kth_tied faults k old from new to d k_tied =
     subst (λ (w : World). tied w.past ≡ true) (sym d.done.world)
-    (turned_tied from.is_up old.transaction.value old.world d.step (named_elsewhere old.world d.name d.step d.named) k_tied)
+    (turned_tied from.is_up (number_of old.transaction) old.world d.step (named_elsewhere old.world d.name d.step d.named) k_tied)
 
 pub stepped_tied : {D : Type 0} (faults : D → ℕ) (k m : ℕ) (old : TxState) (from : LogState D) (new : TxState) (to : LogState D) → Stepped faults k m old from new to → StaysTied old new
 stepped_tied faults k zero old from new to s d = subst (λ (x : TxState). tied x.world.past ≡ true) (sym s.0) d

@@ -1,12 +1,13 @@
 -- What a step of the local side leaves, once its block was written: the world is the one after the step, which holds; and the step was done.
 use Rattle.std.proofs.Common.{◌≡◌, ℕ, Bool, true, false, ◌&&◌, not, List, [], Option, Some, None, is_some, refl, ap, sym, subst, ◌∙◌, if◌then◌else◌}
 use Rattle.dtx_values.specs.Outgoing.{Outgoing, blank, written as put_out}
+use Rattle.dtx_values.specs.TxIds.{number_of}
+use Rattle.dtx_values.specs.declared.tx_id.TxId.{TxId}
 use Rattle.dtx_values.specs.declared.entry.Entry.{Entry}
 use Rattle.dtx_values.specs.declared.entry.Entry.TheVariants.{Cut, Down as Ended, Got, Restarted, Sent, Stopped}
 use Rattle.dtx_values.specs.declared.note.Note.{Note}
 use Rattle.dtx_values.specs.declared.note.Reply.{Reply}
 use Rattle.dtx_values.specs.declared.number.EnlNo.{EnlNo}
-use Rattle.dtx_values.specs.declared.number.TxNo.{TxNo}
 use Rattle.dtx_model.specs.Words.{each, has, onto, past_of}
 use Rattle.dtx_model.specs.Log.{CommitRecord}
 use Rattle.dtx_model.specs.declared.waiting.EnteredCall.{EnteredCall}
@@ -66,10 +67,10 @@ pub block_sendable : (t : ℕ) (w : World) (m : Step) (h xs : List Entry) → Ma
 block_sendable t w m h xs may past block = ap (λ (g : List Entry). are_sendable (onto g xs)) past ∙ ap (λ ys. are_sendable (onto w.past ys)) block ∙ may.sendable
 
 -- whether the coordinator is stopped
-pub stopped_is : {t : TxNo} {w : World} {g : Known} {k : CoreKept} {h : List Entry} → Kept t w g k → h ≡ w.past → k.state.stopped ≡ is_stopped h
+pub stopped_is : {t : TxId} {w : World} {g : Known} {k : CoreKept} {h : List Entry} → Kept t w g k → h ≡ w.past → k.state.stopped ≡ is_stopped h
 stopped_is {t} {w} {g} {k} kept past = ap (λ (x : Coordinated). x.stopped) (core_is t w g k kept) ∙ stopped_same w.past ∙ ap is_stopped (sym past)
 
-pub begin_runs : (t : TxNo) (w : World) (m : Step) (g : Known) (k : CoreKept) (xs : List Entry) → Kept t w g k → MayWrite t.value w m → xs ≡ block_at t.value w m → has is_begin_sent xs ≡ true → k.state.stopped ≡ false
+pub begin_runs : (t : TxId) (w : World) (m : Step) (g : Known) (k : CoreKept) (xs : List Entry) → Kept t w g k → MayWrite (number_of t) w m → xs ≡ block_at (number_of t) w m → has is_begin_sent xs ≡ true → k.state.stopped ≡ false
 begin_runs t w m g k xs kept may block b = ap (λ (x : Coordinated). x.stopped) (core_is t w g k kept) ∙ may.runs (ap (has is_begin_sent) (sym block) ∙ b)
 
 -- the world that was written is the one after the step
@@ -79,16 +80,16 @@ world_written t w m up begins calls past n same sends block wrote =
     (λ i. record { calls = same i; past = wrote i }) ∙ (λ i. record { calls = entered m w.calls; past = stop_if (sends i && not up) (block i) }) ∙ turned_past t w m up
 
 -- it holds
-pub written_kept : (t : TxNo) (w : World) (m : Step) (up begins : Bool) (g : Known) (k j : CoreKept) (calls : List EnteredCall) (past n : List Entry) → Kept t (after t.value w m) g k
-    → (begins ≡ true → k.state.stopped ≡ false) → calls ≡ entered m w.calls → begins ≡ sends_begin t.value w m → past ≡ onto w.past (block_at t.value w m)
+pub written_kept : (t : TxId) (w : World) (m : Step) (up begins : Bool) (g : Known) (k j : CoreKept) (calls : List EnteredCall) (past n : List Entry) → Kept t (after (number_of t) w m) g k
+    → (begins ≡ true → k.state.stopped ≡ false) → calls ≡ entered m w.calls → begins ≡ sends_begin (number_of t) w m → past ≡ onto w.past (block_at (number_of t) w m)
     → n ≡ stop_if (begins && not up) past → j ≡ stopped_if (begins && not up) k → Kept t (record { calls = calls; past = n }) g j
 written_kept t w m up begins g k j calls past n kept runs same sends block wrote far =
-    subst (λ (x : World). Kept t x g j) (sym (world_written t.value w m up begins calls past n same sends block wrote))
+    subst (λ (x : World). Kept t x g j) (sym (world_written (number_of t) w m up begins calls past n same sends block wrote))
     (turned_kept t w m up g k j kept (λ b. runs (sends ∙ b)) (far ∙ ap (λ b. stopped_if (b && not up) k) sends))
 
 -- the step was done
-pub does_step : (m : Step) (t : TxNo) (w v : World) (ours : Option CommitRecord) (unsure : Bool) (life now : ℕ) (up : Bool) (log_life : ℕ) (begins : Bool)
-    → is_apart m ≡ true → v ≡ turned up t.value w m → begins ≡ sends_begin t.value w m → now ≡ (if begins then log_life else life)
+pub does_step : (m : Step) (t : TxId) (w v : World) (ours : Option CommitRecord) (unsure : Bool) (life now : ℕ) (up : Bool) (log_life : ℕ) (begins : Bool)
+    → is_apart m ≡ true → v ≡ turned up (number_of t) w m → begins ≡ sends_begin (number_of t) w m → now ≡ (if begins then log_life else life)
     → DoesAt up log_life m (record { transaction = t; world = w; ours = ours; unsure = unsure; life = life }) (record { transaction = t; world = v; ours = ours; unsure = unsure; life = now })
 does_step m t w v ours unsure life now up log_life begins apart same sends lives =
     let old : TxState = record { transaction = t; world = w; ours = ours; unsure = unsure; life = life } in
@@ -96,19 +97,19 @@ does_step m t w v ours unsure life now up log_life begins apart same sends lives
     record { transaction = refl; world = same; life = lives ∙ ap (λ b. if b then log_life else life) sends; kept = apart_kept m old new apart (refl, refl) }
 
 -- A step of the local side is ready to be written after h, which is its past with what came: its half took it, and with these entries its block is whole.
-pub record Ready (t : TxNo) (w : World) (m : Step) (g : Known) (k : CoreKept) (h xs : List Entry) : Type 0 where
-  pub came : MayCome (IsIn (entered m w.calls)) t.value w m
-  pub kept : Kept t (after t.value w m) g k
-  pub past : onto h xs ≡ onto w.past (block_at t.value w m)
+pub record Ready (t : TxId) (w : World) (m : Step) (g : Known) (k : CoreKept) (h xs : List Entry) : Type 0 where
+  pub came : MayCome (IsIn (entered m w.calls)) (number_of t) w m
+  pub kept : Kept t (after (number_of t) w m) g k
+  pub past : onto h xs ≡ onto w.past (block_at (number_of t) w m)
   pub written : each is_written xs ≡ true
   pub sendable : are_sendable (onto h xs) ≡ true
   pub stopped : k.state.stopped ≡ is_stopped h
-  pub sends : has is_begin_sent xs ≡ sends_begin t.value w m
+  pub sends : has is_begin_sent xs ≡ sends_begin (number_of t) w m
   pub runs : has is_begin_sent xs ≡ true → k.state.stopped ≡ false
 
 -- a step to which nothing came
-pub ready : (t : TxNo) (w : World) (m : Step) (h g : Known) (k : CoreKept) (p xs : List Entry) → Kept t w h k → p ≡ w.past → MayCome (IsIn (entered m w.calls)) t.value w m → AreMadeOnce (IsIn (entered m w.calls))
-    → Kept t (after t.value w m) g k → xs ≡ block_at t.value w m → each is_near (block_at t.value w m) ≡ true → Ready t w m g k p xs
+pub ready : (t : TxId) (w : World) (m : Step) (h g : Known) (k : CoreKept) (p xs : List Entry) → Kept t w h k → p ≡ w.past → MayCome (IsIn (entered m w.calls)) (number_of t) w m → AreMadeOnce (IsIn (entered m w.calls))
+    → Kept t (after (number_of t) w m) g k → xs ≡ block_at (number_of t) w m → each is_near (block_at (number_of t) w m) ≡ true → Ready t w m g k p xs
 ready t w m h g k p xs before same come once kept block near =
     let may = may_write t w m before.ran come once in
     let past = ap (λ (q : List Entry). onto q xs) same ∙ ap (onto w.past) block in
@@ -116,7 +117,7 @@ ready t w m h g k p xs before same come once kept block near =
       came = come;
       kept = kept;
       past = past;
-      written = near_written xs (block_at t.value w m) block near;
+      written = near_written xs (block_at (number_of t) w m) block near;
       sendable = ap are_sendable past ∙ may.sendable;
       stopped = stopped_is before same;
       sends = ap (has is_begin_sent) block;
@@ -124,17 +125,17 @@ ready t w m h g k p xs before same come once kept block near =
     }
 
 -- a step that sends no BEGIN was written: the world is the one after it, which holds
-pub silent_kept : (t : TxNo) (w : World) (m : Step) {g : Known} {k : CoreKept} {ks : List EnteredCall} {n : List Entry} → Kept t (after t.value w m) g k → false ≡ sends_begin t.value w m → ks ≡ entered m w.calls
-    → n ≡ onto w.past (block_at t.value w m) → Kept t (record { calls = ks; past = n }) g k
+pub silent_kept : (t : TxId) (w : World) (m : Step) {g : Known} {k : CoreKept} {ks : List EnteredCall} {n : List Entry} → Kept t (after (number_of t) w m) g k → false ≡ sends_begin (number_of t) w m → ks ≡ entered m w.calls
+    → n ≡ onto w.past (block_at (number_of t) w m) → Kept t (record { calls = ks; past = n }) g k
 silent_kept t w m {g} {k} {ks} {n} kept silent calls past =
-    written_kept t w m true false g k k ks (onto w.past (block_at t.value w m)) n kept (λ b. absurd cc) calls silent refl past refl
+    written_kept t w m true false g k k ks (onto w.past (block_at (number_of t) w m)) n kept (λ b. absurd cc) calls silent refl past refl
 
 -- the note to which a reply is due
 due_note : (o : Option Note) (r : Reply) → is_some o ≡ true → fits_due r o ≡ true → (n : Note) × (o ≡ Some n) × (fits r n ≡ true)
 due_note (Some n) r s f = (n, refl, f)
 due_note None r s f = absurd (cc)
 
-pub reply_ready : (t : TxNo) (w : World) (h g : Known) (k : CoreKept) (e : EnlNo) (r : Reply) (o n : Outgoing) (p xs : List Entry) → Kept t w h k → p ≡ w.past → is_some (due_of h.half.seen e.value) ≡ true
+pub reply_ready : (t : TxId) (w : World) (h g : Known) (k : CoreKept) (e : EnlNo) (r : Reply) (o n : Outgoing) (p xs : List Entry) → Kept t w h k → p ≡ w.past → is_some (due_of h.half.seen e.value) ≡ true
     → fits_due r (due_of h.half.seen e.value) ≡ true → g ≡ known_after [] h (reply_entries h.half e r) → xs ≡ n.entries → n ≡ put_out o (reply_entries h.half e r) → o ≡ blank → Ready t w (Replies e r) g k p xs
 unfolding block_at
 reply_ready t w h g k e r o n p xs kept same some fit local value wrote clear =
@@ -143,7 +144,7 @@ reply_ready t w h g k e r o n p xs kept same some fit local value wrote clear =
     ready t w (Replies e r) h g k p xs kept same (due.0, ap (λ (x : Half). due_of x.seen e.value) (sym (half_is t w h k kept)) ∙ due.1, due.2) kept.once (reply_kept t w h g k e r due.0 kept due.1 due.2 local) block
     (near_reply (half w) e r).proof
 
-pub act_ready : (t : TxNo) (w : World) (h g : Known) (k : CoreKept) (o n : Outgoing) (p xs : List Entry) → Kept t w h k → p ≡ w.past → not (is_empty (act_entries h.half)) ≡ true → g ≡ known_after [] h (act_entries h.half)
+pub act_ready : (t : TxId) (w : World) (h g : Known) (k : CoreKept) (o n : Outgoing) (p xs : List Entry) → Kept t w h k → p ≡ w.past → not (is_empty (act_entries h.half)) ≡ true → g ≡ known_after [] h (act_entries h.half)
     → xs ≡ n.entries → n ≡ put_out o (act_entries h.half) → o ≡ blank → Ready t w Acts g k p xs
 unfolding block_at
 act_ready t w h g k o n p xs kept same some local value wrote clear =

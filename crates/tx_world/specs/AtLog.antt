@@ -1,6 +1,7 @@
 -- What a transaction keeps of the log, as its users see it, and what fits it.
 use Rattle.std.specs.Prelude.{ℕ, ◌≡◌, List}
 use Rattle.dtx_model.specs.Log.{CommitRecord}
+use Rattle.dtx_values.specs.TxIds.{number_of}
 use Rattle.dtx_model.specs.Promotes.{identifier_of}
 use Rattle.coordinator_log.specs.Slots.{open_records}
 use Rattle.coordinator_log.specs.State.{LogState}
@@ -8,7 +9,7 @@ pub use Rattle.world_parts.specs.AtLog.{Acts, Answered, AreFit, AreLogs, AtMostO
 use Rattle.tx_world.specs.State.{TxState}
 
 abbrev pub id_of : TxState → ℕ
-id_of x = identifier_of x.transaction.value
+id_of x = identifier_of (number_of x.transaction)
 
 abbrev pub Fits : TxState → List CommitRecord → Type 0
 Fits x rs = IsFit (id_of x) x.ours x.unsure rs

@@ -1,6 +1,7 @@
 -- Calls that a world does with the steps before them, a call that needs no log, and the status of a transaction.
 use Rattle.std.specs.Prelude.{ℕ, ◌≡◌, ◌≤◌, ◌<◌, ◌&&◌, not, Bool, true, false, Option, Some, None}
 use Rattle.dtx_values.specs.declared.call.Call.{Call}
+use Rattle.dtx_values.specs.TxIds.{number_of}
 use Rattle.dtx_values.specs.declared.call.Call.TheVariants.{Durable, Marshal, Await, Do}
 use Rattle.dtx_values.specs.declared.entry.Answer.{Answer}
 use Rattle.dtx_values.specs.declared.entry.Answer.TheVariants.{OutcomeIs, StillActive}
@@ -53,8 +54,8 @@ place_of _ = 1
 -- This step was done, whatever the log was: it sent no BEGIN.
 pub record DoesAlone (m : Step) (old new : TxState) : Type 0 where
   pub transaction : new.transaction ≡ old.transaction
-  pub world : new.world ≡ after old.transaction.value old.world m
-  pub silent : sends_begin old.transaction.value old.world m ≡ false
+  pub world : new.world ≡ after (number_of old.transaction) old.world m
+  pub silent : sends_begin (number_of old.transaction) old.world m ≡ false
   pub life : new.life ≡ old.life
   pub kept : IsKeptAfter old new m
 
@@ -84,4 +85,4 @@ pub record DoesCall {D : Type 0} (faults : D → ℕ) (line : ℕ) (actor : Acto
   pub before : TxState
   pub prepared : Prepares faults c steps old from before to
   pub entered : Does faults (Calls line actor c steps) before to new to
-  pub answered : answer ≡ answer_at old.transaction.value before.world c steps
+  pub answered : answer ≡ answer_at (number_of old.transaction) before.world c steps

@@ -2,7 +2,7 @@
 use Rattle.std.specs.Prelude.{ℕ, ◌==◌, ◌&&◌, not, nat_le, Bool, true, false, Option, if◌then◌else◌}
 use Rattle.dtx_values.specs.declared.call.Call.{Call}
 use Rattle.dtx_values.specs.declared.call.Call.TheVariants.{Lose, Gone, Reenlist, Recovered}
-use Rattle.dtx_values.specs.declared.number.TxNo.{TxNo}
+use Rattle.dtx_values.specs.declared.tx_id.TxId.{TxId}
 use Rattle.dtx_model.specs.Words.{has}
 use Rattle.dtx_model.specs.Log.{CommitRecord}
 use Rattle.dtx_model.specs.World.{World, core}
@@ -14,7 +14,7 @@ pub use Rattle.world_parts.specs.Names.{is_maker, is_name}
 -- stopped, as long as it wasn't freed and no restart found none; whether the log was stopped under an append or a free of it, and wasn't opened again since;
 -- and the life of the log that its coordinator lives in.
 pub record TxState : Type 0 where
-  pub transaction : TxNo
+  pub transaction : TxId
   pub world : World
   pub ours : Option CommitRecord
   pub unsure : Bool

@@ -1,6 +1,7 @@
 -- The k-th pending step of a transaction, and steps that come one after the other.
 use Rattle.std.specs.Prelude.{ℕ, zero, suc, ◌≡◌, Bool, true, false, [], Option, Some, None}
 use Rattle.dtx_values.specs.declared.note.Note.{Note}
+use Rattle.dtx_values.specs.TxIds.{number_of}
 use Rattle.dtx_values.specs.declared.note.Note.TheVariants.{Promote}
 use Rattle.dtx_values.specs.declared.number.EnlNo.{EnlNo}
 use Rattle.dtx_model.specs.Words.{kth}
@@ -43,21 +44,21 @@ IsAnswered faults old from to m = to ≡ from
 
 -- what is kept of the log after a step: the coordinator's act makes it anew, by what the log answered, and no other step changes the record, or how sure it is
 abbrev pub IsKeptAfter : TxState → TxState → Step → Type 0
-IsKeptAfter old new (Coordinates a) = kept_of new ≡ kept_after old.transaction.value (core old.world) a (kept_of old)
+IsKeptAfter old new (Coordinates a) = kept_of new ≡ kept_after (number_of old.transaction) (core old.world) a (kept_of old)
 IsKeptAfter old new m = (new.ours ≡ old.ours) × (new.unsure ≡ old.unsure)
 
 -- This step was done, where this says whether the log is up, and in which life.
 pub record DoesAt (up : Bool) (log_life : ℕ) (m : Step) (old new : TxState) : Type 0 where
   pub transaction : new.transaction ≡ old.transaction
-  pub world : new.world ≡ turned up old.transaction.value old.world m
-  pub life : new.life ≡ life_after log_life old.transaction.value old.world m old.life
+  pub world : new.world ≡ turned up (number_of old.transaction) old.world m
+  pub life : new.life ≡ life_after log_life (number_of old.transaction) old.world m old.life
   pub kept : IsKeptAfter old new m
 
 -- this step was done, while the log went from one state to the other
 pub record Does {D : Type 0} (faults : D → ℕ) (m : Step) (old : TxState) (from : LogState D) (new : TxState) (to : LogState D) : Type 0 where
   pub transaction : new.transaction ≡ old.transaction
-  pub world : new.world ≡ turned from.is_up old.transaction.value old.world m
-  pub life : new.life ≡ life_after from.life old.transaction.value old.world m old.life
+  pub world : new.world ≡ turned from.is_up (number_of old.transaction) old.world m
+  pub life : new.life ≡ life_after from.life (number_of old.transaction) old.world m old.life
   pub answered : IsAnswered faults old from to m
   pub kept : IsKeptAfter old new m
 

@@ -1,6 +1,7 @@
 //! The whole of one transaction.
 ghost use Rattle.std.specs.Prelude.{ℕ, ◌≡◌, ◌≤◌, ◌<◌, ◌+◌, ◌∷◌, ◌↔◌, ◌⊎◌, [], List, Option, Some, None, Ok, Err, IfOk, OnOk, OnErr, IfErr, IsOk, IsErrOf, IsTrue, true, false, length, is_some, if◌then◌else◌};
 ghost use Rattle.dtx_values.specs.declared.call.Call.{Call};
+ghost use Rattle.dtx_values.specs.TxIds.{number_of};
 ghost use Rattle.dtx_values.specs.declared.entry.Answer.{Answer};
 ghost use Rattle.dtx_values.specs.declared.record.Differs.{Differs};
 ghost use Rattle.dtx_model.specs.Tied.{tied};
@@ -8,7 +9,6 @@ ghost use Rattle.dtx_model.specs.Words.{kth, past_of};
 ghost use Rattle.dtx_model.specs.Log.{first_of, record_of};
 ghost use Rattle.std.specs.Option.{option_map};
 ghost use Rattle.dtx_values.specs.declared.record.LogRecord.{LogRecord};
-ghost use Rattle.dtx_model.specs.Promotes.{identifier_of};
 ghost use Rattle.dtx_model.specs.Replies.{due_of};
 ghost use Rattle.dtx_model.specs.World.{answer_at, half, core};
 ghost use Rattle.dtx_model.specs.Steps.{Step, Calls, Replies, Stops, Restarts, after, pending};
@@ -26,7 +26,7 @@ use crate::refusal::WorldError;
 use coordinator_core::Core;
 use coordinator_log::Log;
 use dtx_model::EnteredCall;
-use dtx_values::{ActorNo, Answer, Call, EnlNo, Note, Outcome, Reply, TxNo};
+use dtx_values::{ActorNo, Answer, Call, EnlNo, Note, Outcome, Reply, TxId};
 use entry_lists::Entries;
 use local_half::{LocalHalf, Right};
 use outside::Disk;
@@ -77,7 +77,7 @@ mod turns;
 /// fits a log with no record of its number, and each call here keeps that, for itself and for every transaction of another number.
 #[derive(Drop)]
 pub struct TxWorld {
-    transaction: TxNo,
+    transaction: TxId,
     half: LocalHalf,
     core: Core,
     history: History,
@@ -104,20 +104,13 @@ impl Model for TxWorld {
     ghost invariant = { λ w. Whole w.transaction (record { calls = past_of w.calls.items; past = w.history.past }) w.half w.core w.at_log };
 }
 
-/// The identifier of a transaction at the coordinator: the node 1 in the upper 64 bits, and the transaction's number in the lower.
-fn identifier(t: TxNo) -> u128
-    ensures { result ≡ identifier_of t.value }
-{
-    (1 << 64) + u128::from(t.get())
-}
-
 impl TxWorld {
     /// The world of this transaction, which has no call yet.
     ///
     /// # Errors
     ///
     /// [`WorldError::Memory`] where memory ran out.
-    pub fn new(alloc: Global, t: TxNo) -> Result<TxWorld, WorldError>
+    pub fn new(alloc: Global, t: TxId) -> Result<TxWorld, WorldError>
         ensures blank { IfOk result (λ w. w ≡ record { transaction = t; world = record { calls = []; past = [] }; ours = None; unsure = false; life = 0 }) }
         ensures fits { IfOk result (λ w. Fits w []) }
         ensures named { IfOk result NamesPrepared }
@@ -136,7 +129,7 @@ impl TxWorld {
     /// same clone; while its coordinator isn't stopped, it keeps a record exactly where one was logged and not freed; and what it keeps of the log is what its
     /// history says, where each restart of that found what may be found. It does nothing when it runs; a caller's proof asks for it.
     pub fn is_own_run(&self)
-        ensures run { IsOwnRun self.now.transaction.value self.now.world }
+        ensures run { IsOwnRun (number_of self.now.transaction) self.now.world }
         ensures once { AreMadeOnce (IsIn self.now.world.calls) }
         ensures ours { IsOurs (id_of self.now) (core self.now.world) (record { ours = self.now.ours; unsure = self.now.unsure; life = self.now.life }) }
         ensures tried { tied self.now.world.past ≡ true → IsTried self.now.world.past (record { ours = self.now.ours; unsure = self.now.unsure; life = self.now.life }) }
@@ -156,7 +149,7 @@ impl TxWorld {
         ensures { result ≡ (if (half self.now.world).seen.promoted then id_of self.now else 0) }
     {
         if self.half.is_promoted() {
-            identifier(self.transaction)
+            self.transaction.identifier()
         } else {
             0
         }

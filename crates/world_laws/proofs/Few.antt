@@ -1,6 +1,6 @@
 -- In each world that steps make the coordinator has room for the message that comes next: it has at most 16 desks, 34 known connections, and 16 that came back and wait. The
 -- disk may find what it likes.
-use Rattle.std.proofs.Common.{◌≡◌, ◌≤◌, ℕ, List, ◌∷◌, refl, sym, subst}
+use Rattle.std.proofs.Common.{◌≡◌, ◌≤◌, ◌<◌, ℕ, List, ◌∷◌, refl, sym, subst}
 use Rattle.dtx_values.specs.declared.call.Call.{Call}
 use Rattle.dtx_values.specs.declared.entry.Entry.TheVariants.{Got}
 use Rattle.dtx_values.specs.declared.message.Conn.{Conn}
@@ -21,12 +21,12 @@ use Rattle.world_laws.proofs.Sendable.{id_valid, ran_ends}
 use Rattle.world_laws.proofs.SendingEnds.{one_ends}
 
 -- what the coordinator knows fits
-pub runs_fit : (G : ℕ → ActorNo → Call → Type 0) (t : ℕ) (ms : List Step) (w : World) → 1 ≤ t → t ≤ 256 → AreMadeOnce G → Ran G t ms w → IsFew (core w)
+pub runs_fit : (G : ℕ → ActorNo → Call → Type 0) (t : ℕ) (ms : List Step) (w : World) → 1 ≤ t → t < 281474976710656 → AreMadeOnce G → Ran G t ms w → IsFew (core w)
 runs_fit G t ms w low high once r =
     let v = id_valid t low high in coordinate_few w.calls w.past (wire_run G t ms w r) (ran_ends G t ms w v once r).opened (ran_roomy G t ms w v once r)
 
 -- and it fits with the message that comes next
-pub runs_few : (G : ℕ → ActorNo → Call → Type 0) (t : ℕ) (ms : List Step) (w : World) (c : Conn) (m : Message) (rest : List Message) → 1 ≤ t → t ≤ 256 → AreMadeOnce G → Ran G t ms w → in_transit c Up w.past ≡ m ∷ rest
+pub runs_few : (G : ℕ → ActorNo → Call → Type 0) (t : ℕ) (ms : List Step) (w : World) (c : Conn) (m : Message) (rest : List Message) → 1 ≤ t → t < 281474976710656 → AreMadeOnce G → Ran G t ms w → in_transit c Up w.past ≡ m ∷ rest
     → IsFew (follow (core w) (Got c Up m))
 unfolding coordinate
 runs_few G t ms w c m rest low high once r next =

@@ -1,5 +1,5 @@
 -- Where the right to commit stands: the local side sees it, it is in one place, and each entry moves it as it should.
-use Rattle.std.proofs.Common.{◌≡◌, ◌≤◌, ℕ, suc, ◌==◌, Bool, true, false, ◌&&◌, ◌||◌, List, [], ◌∷◌, map, filter, is_some, refl, ◌∙◌, ap, sym, subst, arith}
+use Rattle.std.proofs.Common.{◌≡◌, ◌≤◌, ◌<◌, ℕ, suc, ◌==◌, Bool, true, false, ◌&&◌, ◌||◌, List, [], ◌∷◌, map, filter, is_some, refl, ◌∙◌, ap, sym, subst, arith}
 use Rattle.std.specs.Prelude.{not, if◌then◌else◌}
 use Rattle.std.proofs.lemmas.Bool.{false_from_ne_true, or_left}
 use Rattle.dtx_values.specs.declared.call.Call.{Call}
@@ -12,7 +12,6 @@ use Rattle.dtx_values.specs.declared.message.Dir.TheVariants.{Down, Up}
 use Rattle.dtx_values.specs.declared.message.Message.{Message}
 use Rattle.dtx_values.specs.declared.message.Message.TheVariants.{BeginAbort, BeginBegin, BeginCommit}
 use Rattle.dtx_values.specs.declared.number.ActorNo.{ActorNo}
-use Rattle.dtx_values.specs.declared.number.TxNo.{TxNo}
 use Rattle.dtx_values.specs.Ends.{end_order, is_end_of, is_in, note_end, note_got, note_sent, same_connection, tag_of, with_opened, with_tag}
 use Rattle.dtx_values.specs.Lines.{has_line, is_opening}
 use Rattle.dtx_values.specs.Table.{how_many}
@@ -241,8 +240,8 @@ placed_by h s o =
     let sent : has is_seen (ends_of h) ≡ has is_commit_sent h = same_test (has is_seen (ends_of h)) (has is_commit_sent h) (seen_sent h s) (sent_seen h s o) in
     rw (decision_seen h, any_hand_seen h, sent, way_seen h) refl
 
-pub right_placed : (G : ℕ → ActorNo → Call → Type 0) (t : TxNo) (ms : List Step) (w : World) → AreMadeOnce G → Ran G t.value ms w → right_seen (observe w.past) ≡ right_of w.past
-right_placed G t ms w once r = let e = ran_ends G t.value ms w (id_valid t.value t.in_range.0 t.in_range.1) once r in placed_by w.past e.sendable e.opened.on_begin.single
+pub right_placed : (G : ℕ → ActorNo → Call → Type 0) (t : ℕ) (ms : List Step) (w : World) → 1 ≤ t → t < 281474976710656 → AreMadeOnce G → Ran G t ms w → right_seen (observe w.past) ≡ right_of w.past
+right_placed G t ms w low high once r = let e = ran_ends G t ms w (id_valid t low high) once r in placed_by w.past e.sendable e.opened.on_begin.single
 
 -- By the table: who was handed the commit promotes nothing, and COMMIT is sent where it is promoted.
 unpromoting : (h : List Entry) → Keeps h → has is_any_hand h ≡ true → has is_promoting h ≡ false

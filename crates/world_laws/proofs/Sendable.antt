@@ -143,7 +143,7 @@ halves : (w t : ℕ) → t < w → ((w + t) / w ≡ 1) × ((w + t) % w ≡ t)
 halves w t k = let e : w + t ≡ 1 * w + t = omega arith in (ap (λ n. n / w) e ∙ div-mul-add 1 w t k, ap (λ n. n % w) e ∙ mod-mul-add 1 w t k)
 
 -- the identifier of a transaction is valid
-pub id_valid : (t : ℕ) → 1 ≤ t → t ≤ 256 → is_id (identifier_of t) ≡ true
+pub id_valid : (t : ℕ) → 1 ≤ t → t < 281474976710656 → is_id (identifier_of t) ≡ true
 id_valid t low high =
     let parts = halves 18446744073709551616 t (omega arith) in
     by ((18446744073709551616 + t) / 18446744073709551616) ((18446744073709551616 + t) % 18446744073709551616) parts.0 parts.1
@@ -154,5 +154,5 @@ id_valid t low high =
         (subst (λ n. nat_le 1 n ≡ true) (sym e) (grind (arith, nat_tests)))
 
 -- each message of a run might be sent where it was
-pub runs_sendable : (G : ℕ → ActorNo → Call → Type 0) (t : ℕ) (ms : List Step) (w : World) → 1 ≤ t → t ≤ 256 → AreMadeOnce G → Ran G t ms w → are_sendable w.past ≡ true
+pub runs_sendable : (G : ℕ → ActorNo → Call → Type 0) (t : ℕ) (ms : List Step) (w : World) → 1 ≤ t → t < 281474976710656 → AreMadeOnce G → Ran G t ms w → are_sendable w.past ≡ true
 runs_sendable G t ms w low high once r = (ran_ends G t ms w (id_valid t low high) once r).sendable

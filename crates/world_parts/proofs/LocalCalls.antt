@@ -1,6 +1,7 @@
 -- What a call that the local side answers alone writes, and what it leaves of the local side.
 use Rattle.std.proofs.Common.{◌≡◌, ◌≢◌, ◌∙◌, ℕ, Bool, true, false, List, [], ◌∷◌, Option, Some, None, refl, ap, sym, find}
 use Rattle.dtx_values.specs.declared.call.Call.{Call}
+use Rattle.dtx_values.specs.TxIds.{number_of}
 use Rattle.dtx_values.specs.declared.call.Call.TheVariants.{Durable, Promotable, Await, Do, Gone, Reenlist}
 use Rattle.dtx_values.specs.declared.entry.Answer.{Answer}
 use Rattle.dtx_values.specs.declared.entry.Answer.TheVariants.{Did, Fine, True, Wait}
@@ -17,7 +18,7 @@ use Rattle.dtx_model.specs.Facts.{call_entries, facts_if, has_facts}
 use Rattle.dtx_model.specs.Half.{Half, heeds, heeds_all, is_gone, sees, stands}
 use Rattle.dtx_model.specs.declared.waiting.EnteredCall.{EnteredCall}
 use Rattle.dtx_model.specs.Waiting.{managed_by}
-use Rattle.dtx_model.specs.World.{half, gone_unlinked, reenlist_facts}
+use Rattle.dtx_model.specs.World.{gone_unlinked, reenlist_facts}
 use Rattle.dtx_model.specs.Steps.{Calls, entered}
 use Rattle.dtx_model.proofs.Heeding.{heeds_all_same}
 use Rattle.dtx_model.proofs.Quiet.{Quiet, q_cons, q_gone_decides}
@@ -109,10 +110,10 @@ told_unmanaged (Durable t e r s) o = absurd cc
 told_unmanaged (Promotable t e r v x p) o = absurd cc
 told_unmanaged _ o = refl
 
-pub told_known : (h : Known) (n : ℕ) (a : ActorNo) (c : Call) (m : ℕ) → is_told c ≡ true → h ≡ known_after (entered (Calls n a c m) []) h (local_call h.transaction.value h.half n a c m)
+pub told_known : (h : Known) (n : ℕ) (a : ActorNo) (c : Call) (m : ℕ) → is_told c ≡ true → h ≡ known_after (entered (Calls n a c m) []) h (local_call (number_of h.transaction) h.half n a c m)
 told_known h n a c m k =
-    called_alone h n a c (half_answer h.transaction.value h.half c m) (told_unmanaged c k) (told_wait h.transaction.value h.half c m k)
-    ∙ ap (known_after (entered (Calls n a c m) []) h) (told_block h.transaction.value h.half n a c m k)
+    called_alone h n a c (half_answer (number_of h.transaction) h.half c m) (told_unmanaged c k) (told_wait (number_of h.transaction) h.half c m k)
+    ∙ ap (known_after (entered (Calls n a c m) []) h) (told_block (number_of h.transaction) h.half n a c m k)
 
 -- a `gone` is done where it is answered ok, and never waits
 gone_done : (limit : Option ℕ) (stands lost : Bool) (x : Answer) → x ≡ if_begun limit (gone_answer stands lost) → x ≢ Fine → has_facts x ≡ false
@@ -143,19 +144,19 @@ gone_refused t h n a e x k d =
 gone_quiet : (h : Half) (e : EnlNo) → Quiet (gone_unlinked h e)
 gone_quiet h e = q_cons (LostEntry e) refl (q_gone_decides (sees h (LostEntry e)) e)
 
-pub gone_known : (h : Known) (n : ℕ) (a : ActorNo) (e : EnlNo) (x : Answer) → x ≡ half_answer h.transaction.value h.half (Gone e) 0 → x ≡ Fine
-    → known_after [] h (gone_unlinked h.half e) ≡ known_after (entered (Calls n a (Gone e) 0) []) h (local_call h.transaction.value h.half n a (Gone e) 0)
+pub gone_known : (h : Known) (n : ℕ) (a : ActorNo) (e : EnlNo) (x : Answer) → x ≡ half_answer (number_of h.transaction) h.half (Gone e) 0 → x ≡ Fine
+    → known_after [] h (gone_unlinked h.half e) ≡ known_after (entered (Calls n a (Gone e) 0) []) h (local_call (number_of h.transaction) h.half n a (Gone e) 0)
 unfolding heeds_all
 gone_known h n a e x k f =
     let mine : List EnteredCall = record { line = n; actor = a; call = Gone e } ∷ [] in
     ap (λ (g : Half). record { transaction = h.transaction; half = g }) (sym (heeds_all_same mine h.half (gone_unlinked h.half e) (gone_quiet h.half e)))
-    ∙ ap (λ (g : Half). record { transaction = h.transaction; half = heeds_all mine g (gone_unlinked h.half e) }) (sym (call_heeded h.half n a (Gone e) x refl (gone_wait h.transaction.value h.half e x k)))
-    ∙ ap (known_after mine h) (gone_fine h.transaction.value h.half n a e x k f)
+    ∙ ap (λ (g : Half). record { transaction = h.transaction; half = heeds_all mine g (gone_unlinked h.half e) }) (sym (call_heeded h.half n a (Gone e) x refl (gone_wait (number_of h.transaction) h.half e x k)))
+    ∙ ap (known_after mine h) (gone_fine (number_of h.transaction) h.half n a e x k f)
 
-pub not_gone_known : (h : Known) (n : ℕ) (a : ActorNo) (e : EnlNo) (x : Answer) → x ≡ half_answer h.transaction.value h.half (Gone e) 0 → x ≢ Fine
-    → h ≡ known_after (entered (Calls n a (Gone e) 0) []) h (local_call h.transaction.value h.half n a (Gone e) 0)
+pub not_gone_known : (h : Known) (n : ℕ) (a : ActorNo) (e : EnlNo) (x : Answer) → x ≡ half_answer (number_of h.transaction) h.half (Gone e) 0 → x ≢ Fine
+    → h ≡ known_after (entered (Calls n a (Gone e) 0) []) h (local_call (number_of h.transaction) h.half n a (Gone e) 0)
 not_gone_known h n a e x k d =
-    called_alone h n a (Gone e) x refl (gone_wait h.transaction.value h.half e x k) ∙ ap (known_after (entered (Calls n a (Gone e) 0) []) h) (gone_refused h.transaction.value h.half n a e x k d)
+    called_alone h n a (Gone e) x refl (gone_wait (number_of h.transaction) h.half e x k) ∙ ap (known_after (entered (Calls n a (Gone e) 0) []) h) (gone_refused (number_of h.transaction) h.half n a e x k d)
 
 -- the half itself answers what is no do, no await and no gone
 pub answers_itself : (c : Call) → is_local c ≡ true → ((t : TxNo) → c ≡ Await t → ⊥) → ((t : TxNo) (k n : ℕ) → c ≡ Do t k n → ⊥) → ((e : EnlNo) → c ≡ Gone e → ⊥) → is_its_own c ≡ true
@@ -171,11 +172,11 @@ quiet_return t (Some b) = record { proof = refl }
 
 -- what the local side knows after it
 pub return_known : (h : Known) (n : ℕ) (a : ActorNo) (e : EnlNo) (m : ℕ)
-    → known_after [] h (reenlist_facts h.transaction.value (find (is_branch e.value) h.half.seen.branches)) ≡ known_after (entered (Calls n a (Reenlist e) m) []) h (return_block h.transaction.value h.half n a e)
+    → known_after [] h (reenlist_facts (number_of h.transaction) (find (is_branch e.value) h.half.seen.branches)) ≡ known_after (entered (Calls n a (Reenlist e) m) []) h (return_block (number_of h.transaction) h.half n a e)
 unfolding heeds_all
 return_known h n a e m =
     let mine : List EnteredCall = record { line = n; actor = a; call = Reenlist e } ∷ [] in
     let o = find (is_branch e.value) h.half.seen.branches in
-    let es = reenlist_facts h.transaction.value o in
-    ap (λ (g : Half). record { transaction = h.transaction; half = g }) (sym (heeds_all_same mine h.half es (quiet_return h.transaction.value o)))
+    let es = reenlist_facts (number_of h.transaction) o in
+    ap (λ (g : Half). record { transaction = h.transaction; half = g }) (sym (heeds_all_same mine h.half es (quiet_return (number_of h.transaction) o)))
     ∙ ap (λ (g : Half). record { transaction = h.transaction; half = heeds_all mine g es }) (sym (call_heeded h.half n a (Reenlist e) Fine refl refl))

@@ -1,12 +1,11 @@
 -- The record that the coordinator's act keeps names who said PREPARED.
-use Rattle.std.proofs.Common.{◌≡◌, ◌∙◌, ℕ, true, false, List, ◌∷◌, map, filter, Option, Some, None, is_some, ap, sym}
-use Rattle.dtx_values.specs.RecoveryInfo.{pair_of}
+use Rattle.std.proofs.Common.{◌≡◌, ◌∙◌, ℕ, true, false, List, ◌∷◌, Option, Some, None, is_some, ap, sym}
 use Rattle.dtx_values.specs.declared.entry.Entry.TheVariants.{Logged, Stopped}
 use Rattle.dtx_values.specs.declared.message.Message.TheVariants.{ReenlistCommitted}
 use Rattle.dtx_model.specs.declared.desk.Desk.{Desk}
 use Rattle.dtx_model.specs.Log.{CommitRecord}
 use Rattle.dtx_model.specs.Promotes.{identifier_of}
-use Rattle.dtx_model.specs.Coordinated.{Coordinated, commit_sends, follow, follow_all, is_prepared}
+use Rattle.dtx_model.specs.Coordinated.{Coordinated, commit_sends, follow, follow_all}
 use Rattle.coordinator_core.specs.Acting.{record_for}
 use Rattle.coordinator_core.proofs.Loops.{pairs_of}
 use Rattle.coordinator_core.proofs.Following.{after_commit, after_waiting}

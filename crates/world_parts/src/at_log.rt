@@ -2,6 +2,7 @@
 ghost use Rattle.std.specs.Prelude.{ℕ, ◌≡◌, ◌⊎◌, ◌↔◌, ◌||◌, ◌∷◌, [], Option, Some, None, IsOk, IfErr, IsTrue, true, false, is_some};
 ghost use Rattle.std.specs.Option.{option_map};
 ghost use Rattle.dtx_values.specs.Outgoing.{written};
+ghost use Rattle.dtx_values.specs.TxIds.{number_of};
 ghost use Rattle.dtx_values.specs.declared.entry.Entry.TheVariants.{Freed, Restarted, Stopped};
 ghost use Rattle.dtx_values.specs.declared.record.Differs.{Differs};
 ghost use Rattle.dtx_values.specs.declared.record.LogRecord.{LogRecord};
@@ -17,7 +18,7 @@ ghost use Rattle.world_parts.specs.Leaves.{IsLater, LeavesKept};
 
 use coordinator_core::{Core, CoreAct};
 use coordinator_log::{Log, LogRefusal};
-use dtx_values::{Differs, Entry, LogRecord, Outbox, TxNo};
+use dtx_values::{Differs, Entry, LogRecord, Outbox, TxId};
 use outside::Disk;
 use std::marker::Model;
 
@@ -113,16 +114,16 @@ impl AtLog {
         out: &mut Outbox,
     )
         requires votes { may_log core.old.state ≡ true }
-        requires own { kept.id ≡ identifier_of core.old.transaction.value }
-        requires written { record_of kept ≡ record_for core.old.transaction.value core.old.state }
-        requires ours { IsOurs (identifier_of core.old.transaction.value) core.old.state self.old }
-        requires fits { IsTrue D.honest → IsTrue log.old.is_up → IsFit (identifier_of core.old.transaction.value) self.old.ours self.old.unsure (open_records log.old.slots) }
+        requires own { kept.id ≡ identifier_of (number_of core.old.transaction) }
+        requires written { record_of kept ≡ record_for (number_of core.old.transaction) core.old.state }
+        requires ours { IsOurs (identifier_of (number_of core.old.transaction)) core.old.state self.old }
+        requires fits { IsTrue D.honest → IsTrue log.old.is_up → IsFit (identifier_of (number_of core.old.transaction)) self.old.ours self.old.unsure (open_records log.old.slots) }
         requires room { HasRoomFor 41 out.old }
         ensures transaction { core.new.transaction ≡ core.old.transaction }
-        ensures acts { Acts D.faults core.old.transaction.value core.old.state self.old out.old log.old core.new.state self.new out.new log.new }
-        ensures leaves { LeavesKept D.honest D.image core.old.transaction.value core.old.state self.old log.old core.new.state self.new log.new }
+        ensures acts { Acts D.faults (number_of core.old.transaction) core.old.state self.old out.old log.old core.new.state self.new out.new log.new }
+        ensures leaves { LeavesKept D.honest D.image (number_of core.old.transaction) core.old.state self.old log.old core.new.state self.new log.new }
         ensures later { IsLater D.faults log.old log.new }
-        ensures found { IsTrue D.obeys → IsLeftAsWished D.faults D.seen core.old.state (identifier_of core.old.transaction.value) log.old log.new }
+        ensures found { IsTrue D.obeys → IsLeftAsWished D.faults D.seen core.old.state (identifier_of (number_of core.old.transaction)) log.old log.new }
     {
         match log.append(self.life, &kept) {
             Ok(_) => {
@@ -168,15 +169,15 @@ impl AtLog {
     fn free<D: Disk>(&mut self, id: u128, core: &mut Core, log: &mut Log<D>, out: &mut Outbox)
         requires votes { may_log core.old.state ≡ false }
         requires finished { may_free core.old.state ≡ true }
-        requires own { id ≡ identifier_of core.old.transaction.value }
-        requires ours { IsOurs (identifier_of core.old.transaction.value) core.old.state self.old }
-        requires fits { IsTrue D.honest → IsTrue log.old.is_up → IsFit (identifier_of core.old.transaction.value) self.old.ours self.old.unsure (open_records log.old.slots) }
+        requires own { id ≡ identifier_of (number_of core.old.transaction) }
+        requires ours { IsOurs (identifier_of (number_of core.old.transaction)) core.old.state self.old }
+        requires fits { IsTrue D.honest → IsTrue log.old.is_up → IsFit (identifier_of (number_of core.old.transaction)) self.old.ours self.old.unsure (open_records log.old.slots) }
         requires room { HasRoomFor 41 out.old }
         ensures transaction { core.new.transaction ≡ core.old.transaction }
-        ensures acts { Acts D.faults core.old.transaction.value core.old.state self.old out.old log.old core.new.state self.new out.new log.new }
-        ensures leaves { LeavesKept D.honest D.image core.old.transaction.value core.old.state self.old log.old core.new.state self.new log.new }
+        ensures acts { Acts D.faults (number_of core.old.transaction) core.old.state self.old out.old log.old core.new.state self.new out.new log.new }
+        ensures leaves { LeavesKept D.honest D.image (number_of core.old.transaction) core.old.state self.old log.old core.new.state self.new log.new }
         ensures later { IsLater D.faults log.old log.new }
-        ensures found { IsTrue D.obeys → IsLeftAsWished D.faults D.seen core.old.state (identifier_of core.old.transaction.value) log.old log.new }
+        ensures found { IsTrue D.obeys → IsLeftAsWished D.faults D.seen core.old.state (identifier_of (number_of core.old.transaction)) log.old log.new }
     {
         match log.free(self.life, id) {
             Ok(()) => self.freed(core, out),
@@ -200,14 +201,14 @@ impl AtLog {
     /// Does the coordinator's act at the log: the append of its record, or its free.
     pub fn act<D: Disk>(&mut self, core: &mut Core, log: &mut Log<D>, out: &mut Outbox)
         requires pending { (may_log core.old.state || may_free core.old.state) ≡ true }
-        requires ours { IsOurs (identifier_of core.old.transaction.value) core.old.state self.old }
-        requires fits { IsTrue D.honest → IsTrue log.old.is_up → IsFit (identifier_of core.old.transaction.value) self.old.ours self.old.unsure (open_records log.old.slots) }
+        requires ours { IsOurs (identifier_of (number_of core.old.transaction)) core.old.state self.old }
+        requires fits { IsTrue D.honest → IsTrue log.old.is_up → IsFit (identifier_of (number_of core.old.transaction)) self.old.ours self.old.unsure (open_records log.old.slots) }
         requires room { HasRoomFor 41 out.old }
         ensures transaction { core.new.transaction ≡ core.old.transaction }
-        ensures acts { Acts D.faults core.old.transaction.value core.old.state self.old out.old log.old core.new.state self.new out.new log.new }
-        ensures leaves { LeavesKept D.honest D.image core.old.transaction.value core.old.state self.old log.old core.new.state self.new log.new }
+        ensures acts { Acts D.faults (number_of core.old.transaction) core.old.state self.old out.old log.old core.new.state self.new out.new log.new }
+        ensures leaves { LeavesKept D.honest D.image (number_of core.old.transaction) core.old.state self.old log.old core.new.state self.new log.new }
         ensures later { IsLater D.faults log.old log.new }
-        ensures found { IsTrue D.obeys → IsLeftAsWished D.faults D.seen core.old.state (identifier_of core.old.transaction.value) log.old log.new }
+        ensures found { IsTrue D.obeys → IsLeftAsWished D.faults D.seen core.old.state (identifier_of (number_of core.old.transaction)) log.old log.new }
     {
         match core.act() {
             Some(CoreAct::WriteRecord(record)) => self.append(record, core, log, out),
@@ -219,13 +220,13 @@ impl AtLog {
     /// The log was opened again: the coordinator is told whether it has its record.
     pub fn restarted<D: Disk>(&mut self, core: &mut Core, log: &Log<D>, id: u128)
         requires stopped { core.old.state.stopped ≡ true }
-        requires own { id ≡ identifier_of core.old.transaction.value }
-        requires fits { IsTrue D.honest → IsTrue log.now.is_up → IsFit (identifier_of core.old.transaction.value) self.old.ours self.old.unsure (open_records log.now.slots) }
+        requires own { id ≡ identifier_of (number_of core.old.transaction) }
+        requires fits { IsTrue D.honest → IsTrue log.now.is_up → IsFit (identifier_of (number_of core.old.transaction)) self.old.ours self.old.unsure (open_records log.now.slots) }
         ensures transaction { core.new.transaction ≡ core.old.transaction }
         ensures state { core.new.state ≡ follow core.old.state (Restarted (is_some (first_of id (open_records log.now.slots)))) }
         ensures kept { self.new ≡ record { ours = first_of id (open_records log.now.slots); unsure = false; life = log.now.life } }
-        ensures ours { IsOurs (identifier_of core.old.transaction.value) core.new.state self.new }
-        ensures fit { IsTrue D.honest → IsTrue log.now.is_up → IsFit (identifier_of core.old.transaction.value) self.new.ours self.new.unsure (open_records log.now.slots) }
+        ensures ours { IsOurs (identifier_of (number_of core.old.transaction)) core.new.state self.new }
+        ensures fit { IsTrue D.honest → IsTrue log.now.is_up → IsFit (identifier_of (number_of core.old.transaction)) self.new.ours self.new.unsure (open_records log.now.slots) }
     {
         let found = log.lookup(id);
         core.restarted(found);
@@ -234,20 +235,19 @@ impl AtLog {
         self.life = log.life();
     }
 
-    /// Whether what is kept of the record of transaction t ties with what the log has of it. A log that is stopped says nothing.
-    pub fn ties<D: Disk>(&self, t: TxNo, id: u128, log: &Log<D>) -> Result<(), Differs>
-        requires own { id ≡ identifier_of t.value }
-        ensures tie { IsOk result ↔ (IsTrue log.now.is_up → Tie self.now.ours self.now.unsure (first_of id (open_records log.now.slots))) }
-        ensures differs { IfErr result (λ d. (o : Option LogRecord) × (f : Option LogRecord) × (d ≡ Differs.Log t o f)
-            × (option_map record_of o ≡ self.now.ours) × (option_map record_of f ≡ first_of id (open_records log.now.slots))) }
+    /// Whether what is kept of the record of this transaction ties with what the log has of it. A log that is stopped says nothing.
+    pub fn ties<D: Disk>(&self, x: TxId, log: &Log<D>) -> Result<(), Differs>
+        ensures tie { IsOk result ↔ (IsTrue log.now.is_up → Tie self.now.ours self.now.unsure (first_of (identifier_of (number_of x)) (open_records log.now.slots))) }
+        ensures differs { IfErr result (λ d. (o : Option LogRecord) × (f : Option LogRecord) × (d ≡ Differs.Log x.t o f)
+            × (option_map record_of o ≡ self.now.ours) × (option_map record_of f ≡ first_of (identifier_of (number_of x)) (open_records log.now.slots))) }
     {
         if !log.is_up() {
             return Ok(());
         }
-        let found = log.lookup(id);
+        let found = log.lookup(x.identifier());
         if tie(self.ours.as_ref(), self.unsure, found) {
             return Ok(());
         }
-        Err(Differs::Log(t, self.ours, found.copied()))
+        Err(Differs::Log(x.t(), self.ours, found.copied()))
     }
 }

@@ -1,6 +1,7 @@
 //! What the two sides do with what comes on a connection.
 ghost use Rattle.std.specs.Prelude.{◌≡◌, ◌++◌, []};
 ghost use Rattle.dtx_values.specs.Outgoing.{written};
+ghost use Rattle.dtx_values.specs.TxIds.{number_of};
 ghost use Rattle.dtx_values.specs.declared.entry.Entry.TheVariants.{Got};
 ghost use Rattle.dtx_values.specs.declared.message.Dir.TheVariants.{Up, Down};
 ghost use Rattle.dtx_values.specs.declared.message.Message.{Message};
@@ -22,8 +23,8 @@ fn hear_up(core: &mut Core, c: Conn, came: &Delivered, out: &mut Outbox)
     requires few { (m : Message) → came.now ≡ Delivered.Msg m → IsFew (follow core.old.state (Got c Up m)) }
     requires room { HasRoomThere out.old }
     ensures transaction { core.new.transaction ≡ core.old.transaction }
-    ensures state { core.new.state ≡ follow_all core.old.state (noted c Up came.now ++ rest_up (identifier_of core.old.transaction.value) core.old.state c came.now) }
-    ensures out { out.new ≡ written out.old (rest_up (identifier_of core.old.transaction.value) core.old.state c came.now) }
+    ensures state { core.new.state ≡ follow_all core.old.state (noted c Up came.now ++ rest_up (identifier_of (number_of core.old.transaction)) core.old.state c came.now) }
+    ensures out { out.new ≡ written out.old (rest_up (identifier_of (number_of core.old.transaction)) core.old.state c came.now) }
 {
     match came {
         Delivered::Msg(m) => {
@@ -38,8 +39,8 @@ fn hear_up(core: &mut Core, c: Conn, came: &Delivered, out: &mut Outbox)
 #[tactic(auto, unfolding(dtx_model::specs::Half::heeds_all))]
 fn hear_down(half: &mut LocalHalf, c: Conn, came: &Delivered, out: &mut Outbox)
     requires { HasRoomBelow out.old }
-    ensures state { half.new ≡ after [] half.old (noted c Down came.now ++ rest_down half.old.transaction.value half.old.half c came.now) }
-    ensures out { out.new ≡ written out.old (rest_down half.old.transaction.value half.old.half c came.now) }
+    ensures state { half.new ≡ after [] half.old (noted c Down came.now ++ rest_down (number_of half.old.transaction) half.old.half c came.now) }
+    ensures out { out.new ≡ written out.old (rest_down (number_of half.old.transaction) half.old.half c came.now) }
 {
     match came {
         Delivered::Msg(m) => {
@@ -63,10 +64,10 @@ pub fn hear(
     requires room { HasRoomThere out.old }
     requires room_below { HasRoomBelow out.old }
     ensures up { d ≡ Up → (half.new ≡ half.old) × (core.new.transaction ≡ core.old.transaction)
-        × (core.new.state ≡ follow_all core.old.state (noted c Up came.now ++ rest_up (identifier_of core.old.transaction.value) core.old.state c came.now))
-        × (out.new ≡ written out.old (rest_up (identifier_of core.old.transaction.value) core.old.state c came.now)) }
-    ensures down { d ≡ Down → (core.new ≡ core.old) × (half.new ≡ after [] half.old (noted c Down came.now ++ rest_down half.old.transaction.value half.old.half c came.now))
-        × (out.new ≡ written out.old (rest_down half.old.transaction.value half.old.half c came.now)) }
+        × (core.new.state ≡ follow_all core.old.state (noted c Up came.now ++ rest_up (identifier_of (number_of core.old.transaction)) core.old.state c came.now))
+        × (out.new ≡ written out.old (rest_up (identifier_of (number_of core.old.transaction)) core.old.state c came.now)) }
+    ensures down { d ≡ Down → (core.new ≡ core.old) × (half.new ≡ after [] half.old (noted c Down came.now ++ rest_down (number_of half.old.transaction) half.old.half c came.now))
+        × (out.new ≡ written out.old (rest_down (number_of half.old.transaction) half.old.half c came.now)) }
 {
     match d {
         Dir::Up => hear_up(core, c, came, out),

@@ -1,6 +1,7 @@
 //! What the local side does with a call that it answers alone.
 ghost use Rattle.std.specs.Prelude.{ℕ, ◌≡◌, ◌&&◌, [], true};
 ghost use Rattle.dtx_values.specs.declared.call.Call.TheVariants.{Gone, Reenlist};
+ghost use Rattle.dtx_values.specs.TxIds.{number_of};
 ghost use Rattle.dtx_values.specs.Outgoing.{written};
 ghost use Rattle.dtx_model.specs.Answers.{await_answer};
 ghost use Rattle.dtx_model.specs.Observed.{is_branch};
@@ -31,9 +32,9 @@ fn answer_gone(
     out: &mut Outbox,
 ) -> Answer
     requires { IsRoom 41 20 out.old }
-    ensures answer { result ≡ half_answer half.old.transaction.value half.old.half (Gone e) 0 }
-    ensures state { half.new ≡ after (entered (Calls line actor (Gone e) 0) []) half.old (local_call half.old.transaction.value half.old.half line actor (Gone e) 0) }
-    ensures out { out.new ≡ written out.old (local_call half.old.transaction.value half.old.half line actor (Gone e) 0) }
+    ensures answer { result ≡ half_answer (number_of half.old.transaction) half.old.half (Gone e) 0 }
+    ensures state { half.new ≡ after (entered (Calls line actor (Gone e) 0) []) half.old (local_call (number_of half.old.transaction) half.old.half line actor (Gone e) 0) }
+    ensures out { out.new ≡ written out.old (local_call (number_of half.old.transaction) half.old.half line actor (Gone e) 0) }
 {
     let answer = half.if_begun(half.gone_answer(e));
     out.put(Entry::Called(line, actor, answer));
@@ -47,8 +48,8 @@ fn answer_gone(
 pub fn write_return(half: &mut LocalHalf, actor: ActorNo, line: u32, e: EnlNo, out: &mut Outbox)
     requires accepted { has (λ b. is_branch e.value b && b.enlisted) half.old.half.seen.branches ≡ true }
     requires room { IsRoom 41 20 out.old }
-    ensures state { (m : ℕ) → half.new ≡ after (entered (Calls line actor (Reenlist e) m) []) half.old (return_block half.old.transaction.value half.old.half line actor e) }
-    ensures out { out.new ≡ written out.old (return_block half.old.transaction.value half.old.half line actor e) }
+    ensures state { (m : ℕ) → half.new ≡ after (entered (Calls line actor (Reenlist e) m) []) half.old (return_block (number_of half.old.transaction) half.old.half line actor e) }
+    ensures out { out.new ≡ written out.old (return_block (number_of half.old.transaction) half.old.half line actor e) }
 {
     out.put(Entry::Called(line, actor, Answer::Fine));
     half.reenlist(e, out);
@@ -66,9 +67,9 @@ pub fn answer_call(
     requires near { is_local c.now ≡ true }
     requires new { is_free half.old.half line c.now ≡ true }
     requires room { IsRoom 41 20 out.old }
-    ensures answer { result ≡ half_answer half.old.transaction.value half.old.half c.now done }
-    ensures state { half.new ≡ after (entered (Calls line actor c.now done) []) half.old (local_call half.old.transaction.value half.old.half line actor c.now done) }
-    ensures out { out.new ≡ written out.old (local_call half.old.transaction.value half.old.half line actor c.now done) }
+    ensures answer { result ≡ half_answer (number_of half.old.transaction) half.old.half c.now done }
+    ensures state { half.new ≡ after (entered (Calls line actor c.now done) []) half.old (local_call (number_of half.old.transaction) half.old.half line actor c.now done) }
+    ensures out { out.new ≡ written out.old (local_call (number_of half.old.transaction) half.old.half line actor c.now done) }
 {
     let answer = match *c {
         Call::Do(_, _, _) => half.if_begun(Answer::Did(done)),

@@ -1,5 +1,6 @@
 //! Calls, steps and replies of a world without a log.
 ghost use Rattle.dtx_model.specs.Caused.{MayAnswer};
+ghost use Rattle.dtx_values.specs.TxIds.{number_of};
 
 use crate::worlds::{client, shows, transaction, world};
 use dtx_values::{Answer, Call, EnlNo, EnlistOption, Note, Outbox, Reply, Timeout, Vote};
@@ -9,7 +10,7 @@ use tx_world::TxWorld;
 
 /// Does a call of client 1, and says what it answered.
 fn call(rt: &impl Abort, world: &mut TxWorld, out: &mut Outbox, line: u32, c: &Call) -> Answer
-    requires answers { MayAnswer world.old.transaction.value world.old.world c.now 0 }
+    requires answers { MayAnswer (number_of world.old.transaction) world.old.world c.now 0 }
 {
     let actor = client(rt, world, line, c);
     if !TxWorld::is_alone(c) {

@@ -1,6 +1,7 @@
 //! The whole of one transaction that is promoted, as text.
 ghost use Rattle.std.specs.Prelude.{◌≡◌, ◌<◌, [], true, IfOk, IsTrue};
 ghost use Rattle.dtx_model.specs.Caused.{MayAnswer};
+ghost use Rattle.dtx_values.specs.TxIds.{number_of};
 ghost use Rattle.tx_world.specs.State.{may_enter};
 ghost use Rattle.dtx_model.specs.Steps.{pending};
 ghost use Rattle.coordinator_log.specs.Slots.{open_records};
@@ -9,7 +10,7 @@ ghost use Rattle.tx_world.specs.AtLog.{Fits};
 use coordinator_log::{LOG_BYTES, Log};
 use dtx_values::{
     ActorNo, Answer, Call, Conn, EnlNo, EnlistOption, Entry, Note, Outbox, Outcome, Place, Reply,
-    RmNo, Status, Support, Timeout, TxNo, Vote,
+    RmNo, Status, Support, Timeout, TxId, TxNo, Vote,
 };
 use entry_lists::{PlacedEntries, Trace};
 use outside::{Image, MemDisk};
@@ -55,7 +56,7 @@ pub(crate) fn client(rt: &impl Abort, world: &TxWorld, line: u32, c: &Call) -> A
 
 /// Enters a call of client 1, and says what it answered.
 fn enter(rt: &impl Abort, run: &mut Run, line: u32, c: &Call) -> Answer
-    requires answers { MayAnswer run.old.world.transaction.value run.old.world.world c.now 0 }
+    requires answers { MayAnswer (number_of run.old.world.transaction) run.old.world.world c.now 0 }
     requires fits { IsTrue run.old.log.is_up → Fits run.old.world (open_records run.old.log.slots) }
     ensures fits { IsTrue run.new.log.is_up → Fits run.new.world (open_records run.new.log.slots) }
 {
@@ -94,7 +95,7 @@ fn settle(rt: &impl Abort, run: &mut Run)
 pub(crate) fn world(rt: &impl Abort, alloc: Global) -> TxWorld
     ensures { Fits result [] }
 {
-    match TxWorld::new(alloc, transaction(rt)) {
+    match TxWorld::new(alloc, TxId::first(transaction(rt))) {
         Ok(world) => world,
         Err(error) => panic!(rt; "{error}"),
     }

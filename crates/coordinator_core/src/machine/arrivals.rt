@@ -1,6 +1,7 @@
 //! What the coordinator does on a message, and on an end.
 ghost use Rattle.std.specs.Prelude.{◌≡◌, ◌<◌, ◌∷◌, false, length};
 ghost use Rattle.dtx_values.specs.Lines.{has_line};
+ghost use Rattle.dtx_values.specs.TxIds.{number_of};
 ghost use Rattle.dtx_values.specs.Outgoing.{written};
 ghost use Rattle.dtx_values.specs.declared.entry.Entry.TheVariants.{Down as End, Got};
 ghost use Rattle.dtx_values.specs.declared.limits.TheConstants.{CONNECTIONS, DURABLES};
@@ -165,8 +166,8 @@ impl Core {
         requires room { HasRoom out.old }
         ensures fits { result ≡ has_line c Up m }
         ensures transaction { self.new.transaction ≡ self.old.transaction }
-        ensures state { self.new.state ≡ follow_all self.old.state (Got c Up m ∷ core_got (identifier_of self.old.transaction.value) self.old.state c m) }
-        ensures out { out.new ≡ written out.old (core_got (identifier_of self.old.transaction.value) self.old.state c m) }
+        ensures state { self.new.state ≡ follow_all self.old.state (Got c Up m ∷ core_got (identifier_of (number_of self.old.transaction)) self.old.state c m) }
+        ensures out { out.new ≡ written out.old (core_got (identifier_of (number_of self.old.transaction)) self.old.state c m) }
     {
         match (c, m) {
             (Conn::Begin, Message::BeginBegin) => self.begin_came(self.identifier(), out),

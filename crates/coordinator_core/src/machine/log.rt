@@ -2,6 +2,7 @@
 ghost use Rattle.std.specs.Prelude.{ℕ, ◌≡◌, ◌<◌, ◌≤◌, ◌+◌, [], ◌∷◌, ◌++◌, ◌&&◌, not, Some, None, false, true, if◌then◌else◌, is_some, take};
 ghost use Rattle.std.specs.Option.{ForSome};
 ghost use Rattle.dtx_values.specs.Outgoing.{written};
+ghost use Rattle.dtx_values.specs.TxIds.{number_of};
 ghost use Rattle.dtx_values.specs.declared.entry.Entry.TheVariants.{Freed, LogFull, Logged, Recovered, Restarted, Stopped};
 ghost use Rattle.dtx_values.specs.declared.record.LogRecord.{LogRecord};
 ghost use Rattle.dtx_model.specs.Coordinated.{abort_sends, commit_sends, follow, follow_all, is_prepared, may_free, may_log};
@@ -34,7 +35,7 @@ fn add_if_prepared(kept: &mut LogRecord, d: &Desk)
 impl Core {
     /// The record of the commit: the transaction's identifier, and each enlistment that said PREPARED.
     fn record(&self) -> LogRecord
-        ensures { record_of result ≡ record_for self.now.transaction.value self.now.state }
+        ensures { record_of result ≡ record_for (number_of self.now.transaction) self.now.state }
     {
         let mut record = LogRecord::new(self.identifier());
         for d in self.desks() {
@@ -46,8 +47,8 @@ impl Core {
     /// The act at the log; `None` exactly where there is none. The record of the commit is to be appended where all votes stand, and it
     /// is to be freed where each that said PREPARED is finished.
     pub fn act(&self) -> Option<CoreAct>
-        ensures appends { appended_by result ≡ (if may_log self.now.state then Some (record_for self.now.transaction.value self.now.state) else None) }
-        ensures frees { freed_by result ≡ (if not (may_log self.now.state) && may_free self.now.state then Some (identifier_of self.now.transaction.value) else None) }
+        ensures appends { appended_by result ≡ (if may_log self.now.state then Some (record_for (number_of self.now.transaction) self.now.state) else None) }
+        ensures frees { freed_by result ≡ (if not (may_log self.now.state) && may_free self.now.state then Some (identifier_of (number_of self.now.transaction)) else None) }
         // the causes: a record is appended on all votes alone, and freed once all heard the commit
         ensures voted { (r : LogRecord) → result ≡ Some (CoreAct.WriteRecord r) → IsVoted self.now.state }
         ensures heard { (id : ℕ) → result ≡ Some (CoreAct.FreeIt id) → IsHeard self.now.state }
@@ -110,7 +111,7 @@ impl Core {
     /// what was found only the identifier is asked.
     pub fn restarted(&mut self, found: Option<&LogRecord>)
         requires stopped { self.old.state.stopped ≡ true }
-        requires own { ForSome found (λ r. r.now.id ≡ identifier_of self.old.transaction.value) }
+        requires own { ForSome found (λ r. r.now.id ≡ identifier_of (number_of self.old.transaction)) }
         ensures transaction { self.new.transaction ≡ self.old.transaction }
         ensures state { self.new.state ≡ follow self.old.state (Restarted (is_some found.entry)) }
     {

@@ -1,6 +1,7 @@
 //! The local act: the first that applies.
 ghost use Rattle.std.specs.Prelude.{◌≡◌, ◌&&◌, [], ◌∷◌, IfSome, false, find, if◌then◌else◌, is_some, not, true};
 ghost use Rattle.dtx_values.specs.Outgoing.{written};
+ghost use Rattle.dtx_values.specs.TxIds.{number_of};
 ghost use Rattle.dtx_values.specs.Owners.{owner_of};
 ghost use Rattle.dtx_values.specs.Waves.{is_over, next_ask};
 ghost use Rattle.dtx_values.specs.declared.entry.Entry.TheVariants.{LocalYes, Sealed};
@@ -277,7 +278,7 @@ impl LocalHalf {
         ensures state { self.new ≡ after [] self.old (act_entries self.old.half) }
         ensures out { out.new ≡ written out.old (act_entries self.old.half) }
         ensures unchanged { result ≡ false → self.new ≡ self.old }
-        ensures runs { (w : World) → Follows self.old.transaction.value w self.old.half → result ≡ true → Follows self.old.transaction.value (world_after self.old.transaction.value w Acts) self.new.half }
+        ensures runs { (w : World) → Follows (number_of self.old.transaction) w self.old.half → result ≡ true → Follows (number_of self.old.transaction) (world_after (number_of self.old.transaction) w Acts) self.new.half }
     {
         match self.next_act() {
             Some(a) => {

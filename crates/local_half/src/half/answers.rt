@@ -1,6 +1,7 @@
 //! What each call is answered: the first answer whose condition holds.
 ghost use Rattle.std.specs.Prelude.{◌≡◌, length, true};
 ghost use Rattle.dtx_model.specs.Answers.{clone_answer, complete_answer, durable_answer, gone_answer, has_promotion, if_begun, is_crowded, is_full, is_full_of_durables, local_answer, marshal_answer, promotable_answer, status_answer, unless_late, unless_over, volatile_answer};
+ghost use Rattle.dtx_values.specs.TxIds.{number_of};
 ghost use Rattle.dtx_model.specs.Half.{is_gone, stands};
 ghost use Rattle.half_parts.specs.Half.{is_its_own};
 
@@ -95,7 +96,7 @@ impl LocalHalf {
 
     /// What a marshal call is answered, once it is begun and while nothing is decided.
     fn marshal_answer(&self) -> Answer
-        ensures { result ≡ marshal_answer self.now.transaction.value self.now.half }
+        ensures { result ≡ marshal_answer (number_of self.now.transaction) self.now.half }
     {
         if self.handover.is_over() {
             return Answer::Id(self.identifier());
@@ -190,7 +191,7 @@ impl LocalHalf {
     #[tactic(auto, unfolding(dtx_model::specs::Answers::local_answer))]
     pub(super) fn answer(&self, c: &Call) -> Answer
         requires { is_its_own c.now ≡ true }
-        ensures { result ≡ local_answer self.now.transaction.value self.now.half c.now 0 }
+        ensures { result ≡ local_answer (number_of self.now.transaction) self.now.half c.now 0 }
     {
         match *c {
             Call::Volatile(_, _, _, _) => self.unless_over(self.volatile_answer()),

@@ -1,6 +1,7 @@
 //! What the local side does at a message of the coordinator, and at the end of a connection.
 ghost use Rattle.std.specs.Prelude.{◌≡◌, [], ◌∷◌, ◌++◌, false, true, find, is_some};
 ghost use Rattle.dtx_model.specs.Waiting.{is_place_of};
+ghost use Rattle.dtx_values.specs.TxIds.{number_of};
 ghost use Rattle.dtx_values.specs.Lines.{has_line};
 ghost use Rattle.dtx_values.specs.Outgoing.{written};
 ghost use Rattle.dtx_values.specs.declared.entry.Entry.TheVariants.{Got, Down as Ended};
@@ -22,8 +23,8 @@ impl LocalHalf {
     /// After BEGUN: VOTER is sent, or an abort where the transaction was decided meanwhile.
     fn begun(&mut self, id: u128, out: &mut Outbox)
         requires { IsRoom 1 1 out.old }
-        ensures state { self.new ≡ after [] self.old (begun self.old.transaction.value self.old.half) }
-        ensures out { out.new ≡ written out.old (begun self.old.transaction.value self.old.half) }
+        ensures state { self.new ≡ after [] self.old (begun (number_of self.old.transaction) self.old.half) }
+        ensures out { out.new ≡ written out.old (begun (number_of self.old.transaction) self.old.half) }
     {
         if self.decided.is_some() {
             self.send_up(Conn::Begin, Message::BeginAbort, out);
@@ -42,8 +43,8 @@ impl LocalHalf {
     fn enlist_owner(&mut self, e: EnlNo, out: &mut Outbox)
         requires undecided { is_some self.old.half.seen.decided ≡ false }
         requires room { IsRoom 1 1 out.old }
-        ensures state { self.new ≡ after [] self.old (by_manager (enlist_sent self.old.transaction.value) self.old.half.managers e) }
-        ensures out { out.new ≡ written out.old (by_manager (enlist_sent self.old.transaction.value) self.old.half.managers e) }
+        ensures state { self.new ≡ after [] self.old (by_manager (enlist_sent (number_of self.old.transaction)) self.old.half.managers e) }
+        ensures out { out.new ≡ written out.old (by_manager (enlist_sent (number_of self.old.transaction)) self.old.half.managers e) }
     {
         if let Some((owner, manager)) = self.manager {
             if e == owner {
@@ -55,8 +56,8 @@ impl LocalHalf {
     /// After CREATED: the ENLIST of the enlistment that stood at the start is sent; with none the handover is over.
     fn created(&mut self, out: &mut Outbox)
         requires { HasRoom out.old }
-        ensures state { self.new ≡ after [] self.old (created self.old.transaction.value self.old.half) }
-        ensures out { out.new ≡ written out.old (created self.old.transaction.value self.old.half) }
+        ensures state { self.new ≡ after [] self.old (created (number_of self.old.transaction) self.old.half) }
+        ensures out { out.new ≡ written out.old (created (number_of self.old.transaction) self.old.half) }
     {
         if self.decided.is_some() {
             return;
@@ -83,8 +84,8 @@ impl LocalHalf {
     /// After ENLISTED: the handover is over, or a call has its place.
     fn enlisted(&mut self, e: EnlNo, out: &mut Outbox)
         requires { HasRoom out.old }
-        ensures state { self.new ≡ after [] self.old (enlisted_at self.old.transaction.value self.old.half e) }
-        ensures out { out.new ≡ written out.old (enlisted_at self.old.transaction.value self.old.half e) }
+        ensures state { self.new ≡ after [] self.old (enlisted_at (number_of self.old.transaction) self.old.half e) }
+        ensures out { out.new ≡ written out.old (enlisted_at (number_of self.old.transaction) self.old.half e) }
     {
         if self.decided.is_some() {
             return;
@@ -179,8 +180,8 @@ impl LocalHalf {
     /// Does what the news of a connection call for.
     fn take_news(&mut self, c: Conn, news: &ProxyNews, out: &mut Outbox)
         requires { HasRoom out.old }
-        ensures state { self.new ≡ after [] self.old (told_by self.old.transaction.value self.old.half c news.now) }
-        ensures out { out.new ≡ written out.old (told_by self.old.transaction.value self.old.half c news.now) }
+        ensures state { self.new ≡ after [] self.old (told_by (number_of self.old.transaction) self.old.half c news.now) }
+        ensures out { out.new ≡ written out.old (told_by (number_of self.old.transaction) self.old.half c news.now) }
     {
         match *news {
             ProxyNews::Begun(id) => self.begun(id, out),
@@ -206,8 +207,8 @@ impl LocalHalf {
     pub fn got(&mut self, c: Conn, m: Message, out: &mut Outbox) -> bool
         requires room { HasRoom out.old }
         ensures fits { result ≡ has_line c Down m }
-        ensures state { self.new ≡ after [] self.old (Got c Down m ∷ local_got self.old.transaction.value self.old.half c m) }
-        ensures out { out.new ≡ written out.old (local_got self.old.transaction.value self.old.half c m) }
+        ensures state { self.new ≡ after [] self.old (Got c Down m ∷ local_got (number_of self.old.transaction) self.old.half c m) }
+        ensures out { out.new ≡ written out.old (local_got (number_of self.old.transaction) self.old.half c m) }
     {
         let news = self.hear(c, m);
         self.take_news(c, &news, out);

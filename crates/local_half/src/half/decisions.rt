@@ -1,6 +1,7 @@
 //! What a decision writes, and what the end of a handover writes: the calls that wait are answered.
 ghost use Rattle.std.specs.Prelude.{◌≡◌, ◌<◌, [], IfSome, false, true, is_some, length};
 ghost use Rattle.dtx_values.specs.declared.limits.TheConstants.{CALLS};
+ghost use Rattle.dtx_values.specs.TxIds.{number_of};
 ghost use Rattle.std.specs.List.{flat_map};
 ghost use Rattle.dtx_values.specs.Outgoing.{written};
 ghost use Rattle.dtx_values.specs.Table.{how_many};
@@ -116,8 +117,8 @@ impl LocalHalf {
         requires undecided { is_some self.old.half.seen.decided ≡ false }
         requires held { is_held self.old.half.seen.table self.old.half.waits e.value ≡ true }
         requires room { IsRoom 1 1 out.old }
-        ensures state { self.new ≡ after [] self.old (enlist_sent self.old.transaction.value e rm) }
-        ensures out { out.new ≡ written out.old (enlist_sent self.old.transaction.value e rm) }
+        ensures state { self.new ≡ after [] self.old (enlist_sent (number_of self.old.transaction) e rm) }
+        ensures out { out.new ≡ written out.old (enlist_sent (number_of self.old.transaction) e rm) }
     {
         let info = Info {
             id: self.identifier(),
@@ -134,8 +135,8 @@ impl LocalHalf {
     pub(super) fn give_all(&mut self, out: &mut Outbox)
         requires undecided { is_some self.old.half.seen.decided ≡ false }
         requires room { IsRoom (length self.old.half.waits) (how_many is_place self.old.half.waits) out.old }
-        ensures state { self.new ≡ after [] self.old (flat_map (given self.old.transaction.value) self.old.half.waits) }
-        ensures out { out.new ≡ written out.old (flat_map (given self.old.transaction.value) self.old.half.waits) }
+        ensures state { self.new ≡ after [] self.old (flat_map (given (number_of self.old.transaction)) self.old.half.waits) }
+        ensures out { out.new ≡ written out.old (flat_map (given (number_of self.old.transaction)) self.old.half.waits) }
     {
         let mut i = 0;
         while let Some((n, wanted)) = self.waiting_at(i) {

@@ -1,6 +1,7 @@
 //! What the calls, and the loss and the return of an enlistment, write.
 ghost use Rattle.std.specs.Prelude.{ℕ, ◌≡◌, ◌&&◌, [], ◌∷◌, false, find, if◌then◌else◌, is_some, true};
 ghost use Rattle.dtx_values.specs.Class.{is_volatile};
+ghost use Rattle.dtx_values.specs.TxIds.{number_of};
 ghost use Rattle.dtx_values.specs.Clones.{is_open_rollback};
 ghost use Rattle.dtx_values.specs.Outgoing.{written};
 ghost use Rattle.dtx_values.specs.declared.call.Call.TheVariants.{Gone};
@@ -112,8 +113,8 @@ impl LocalHalf {
         requires undecided { is_some self.old.half.seen.decided ≡ false }
         requires awaited { is_place_awaited self.old.half.waits c.now ≡ true }
         requires room { IsRoom 1 1 out.old }
-        ensures state { self.new ≡ after [] self.old (place_sent self.old.transaction.value self.old.half c.now) }
-        ensures out { out.new ≡ written out.old (place_sent self.old.transaction.value self.old.half c.now) }
+        ensures state { self.new ≡ after [] self.old (place_sent (number_of self.old.transaction) self.old.half c.now) }
+        ensures out { out.new ≡ written out.old (place_sent (number_of self.old.transaction) self.old.half c.now) }
     {
         if !self.handover.is_over() {
             return;
@@ -137,11 +138,11 @@ impl LocalHalf {
     /// Writes the facts of a call that waits, and keeps that it does.
     fn facts_of_waiting(&mut self, line: u32, c: &Call, out: &mut Outbox)
         requires own { is_its_own c.now ≡ true }
-        requires waits { local_answer self.old.transaction.value self.old.half c.now 0 ≡ Wait }
+        requires waits { local_answer (number_of self.old.transaction) self.old.half c.now 0 ≡ Wait }
         requires new { is_free self.old.half line c.now ≡ true }
         requires room { IsRoom 2 1 out.old }
-        ensures state { self.new ≡ after [] (with_waiter line c.now self.old) (local_facts self.old.transaction.value self.old.half c.now Wait) }
-        ensures out { out.new ≡ written out.old (local_facts self.old.transaction.value self.old.half c.now Wait) }
+        ensures state { self.new ≡ after [] (with_waiter line c.now self.old) (local_facts (number_of self.old.transaction) self.old.half c.now Wait) }
+        ensures out { out.new ≡ written out.old (local_facts (number_of self.old.transaction) self.old.half c.now Wait) }
     {
         if self.has_promotion() {
             self.wait(line, c);
@@ -160,12 +161,12 @@ impl LocalHalf {
     /// Writes the facts of a call that was done.
     fn facts(&mut self, c: &Call, out: &mut Outbox)
         requires own { is_its_own c.now ≡ true }
-        requires done { is_done (local_answer self.old.transaction.value self.old.half c.now 0) ≡ true }
+        requires done { is_done (local_answer (number_of self.old.transaction) self.old.half c.now 0) ≡ true }
         requires new { is_new self.old.half.seen c.now ≡ true }
         requires unawaited { is_made_by_waiting self.old.half.waits c.now ≡ false }
         requires room { IsRoom 39 1 out.old }
-        ensures state { self.new ≡ after [] (with_call c.now self.old) (local_facts self.old.transaction.value self.old.half c.now Fine) }
-        ensures out { out.new ≡ written out.old (local_facts self.old.transaction.value self.old.half c.now Fine) }
+        ensures state { self.new ≡ after [] (with_call c.now self.old) (local_facts (number_of self.old.transaction) self.old.half c.now Fine) }
+        ensures out { out.new ≡ written out.old (local_facts (number_of self.old.transaction) self.old.half c.now Fine) }
     {
         // A proof sees here what holds of the calls that wait.
         let _ = &self.waits;
@@ -201,11 +202,11 @@ impl LocalHalf {
         requires own { is_its_own c.now ≡ true }
         requires new { is_free self.old.half line c.now ≡ true }
         requires room { HasRoom out.old }
-        ensures answer { result ≡ local_answer self.old.transaction.value self.old.half c.now 0 }
-        ensures state { self.new ≡ after (entered (Calls line actor c.now 0) []) self.old (call_entries self.old.transaction.value self.old.half line actor c.now) }
-        ensures out { out.new ≡ written out.old (call_entries self.old.transaction.value self.old.half line actor c.now) }
-        ensures runs { (w : World) → Follows self.old.transaction.value w self.old.half → has (is_call line) w.past ≡ false
-            → Follows self.old.transaction.value (world_after self.old.transaction.value w (Calls line actor c.now 0)) self.new.half }
+        ensures answer { result ≡ local_answer (number_of self.old.transaction) self.old.half c.now 0 }
+        ensures state { self.new ≡ after (entered (Calls line actor c.now 0) []) self.old (call_entries (number_of self.old.transaction) self.old.half line actor c.now) }
+        ensures out { out.new ≡ written out.old (call_entries (number_of self.old.transaction) self.old.half line actor c.now) }
+        ensures runs { (w : World) → Follows (number_of self.old.transaction) w self.old.half → has (is_call line) w.past ≡ false
+            → Follows (number_of self.old.transaction) (world_after (number_of self.old.transaction) w (Calls line actor c.now 0)) self.new.half }
     {
         let answer = self.answer(c);
         put_out(Entry::Called(line, actor, answer), out);
@@ -243,9 +244,9 @@ impl LocalHalf {
         requires room { HasRoom out.old }
         ensures state { self.new ≡ after [] self.old (loss linked self.old.half e) }
         ensures out { out.new ≡ written out.old (loss linked self.old.half e) }
-        ensures runs { (w : World) (n : ℕ) (a : ActorNo) → Follows self.old.transaction.value w self.old.half → has (is_call n) w.past ≡ false
+        ensures runs { (w : World) (n : ℕ) (a : ActorNo) → Follows (number_of self.old.transaction) w self.old.half → has (is_call n) w.past ≡ false
             → linked ≡ false → open_ones w e ≡ []
-            → Follows self.old.transaction.value (world_after self.old.transaction.value w (Calls n a (Gone e) 0)) self.new.half }
+            → Follows (number_of self.old.transaction) (world_after (number_of self.old.transaction) w (Calls n a (Gone e) 0)) self.new.half }
     {
         // A proof sees here that the transaction was begun, since the enlistment stands.
         let _ = &self.limit;
@@ -260,8 +261,8 @@ impl LocalHalf {
     pub fn reenlist(&mut self, e: EnlNo, out: &mut Outbox)
         requires accepted { has (λ b. is_branch e.value b && b.enlisted) self.old.half.seen.branches ≡ true }
         requires room { HasRoom out.old }
-        ensures state { self.new ≡ after [] self.old (reenlist_facts self.old.transaction.value (find (is_branch e.value) self.old.half.seen.branches)) }
-        ensures out { out.new ≡ written out.old (reenlist_facts self.old.transaction.value (find (is_branch e.value) self.old.half.seen.branches)) }
+        ensures state { self.new ≡ after [] self.old (reenlist_facts (number_of self.old.transaction) (find (is_branch e.value) self.old.half.seen.branches)) }
+        ensures out { out.new ≡ written out.old (reenlist_facts (number_of self.old.transaction) (find (is_branch e.value) self.old.half.seen.branches)) }
     {
         if let Some(b) = branch_of(&self.branches, e) {
             let info = Info {

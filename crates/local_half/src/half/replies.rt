@@ -1,6 +1,7 @@
 //! The replies that are due, and what a reply writes.
 ghost use Rattle.std.specs.Prelude.{◌≡◌, [], ◌∷◌, None, Some, false, find, is_some, map, true};
 ghost use Rattle.dtx_values.specs.Outgoing.{written};
+ghost use Rattle.dtx_values.specs.TxIds.{number_of};
 ghost use Rattle.dtx_values.specs.Table.{rises_above, was_asked};
 ghost use Rattle.dtx_values.specs.declared.entry.Entry.TheVariants.{Acked};
 ghost use Rattle.dtx_values.specs.declared.note.Reply.TheVariants.{Vote as VoteReply};
@@ -351,7 +352,7 @@ impl LocalHalf {
         ensures out { result ≡ true → out.new ≡ written out.old (reply_entries self.old.half e r) }
         ensures unchanged { result ≡ false → self.new ≡ self.old }
         ensures unwritten { result ≡ false → out.new ≡ out.old }
-        ensures runs { (w : World) → Follows self.old.transaction.value w self.old.half → result ≡ true → Follows self.old.transaction.value (world_after self.old.transaction.value w (Replies e r)) self.new.half }
+        ensures runs { (w : World) → Follows (number_of self.old.transaction) w self.old.half → result ≡ true → Follows (number_of self.old.transaction) (world_after (number_of self.old.transaction) w (Replies e r)) self.new.half }
     {
         match self.due_of(e) {
             Some(note) => {

@@ -158,7 +158,7 @@ fn follows(at_log: &[Entry], h: &Entries) -> bool
 
 /// Whether the states are those of the script's transactions, by number.
 fn are_by_number<N: Run>(s: &[Line], states: &[CellState<N>]) -> bool
-    ensures { IsTrue result ↔ (map (λ c. c.tx.transaction.value) states.now ≡ transactions_of s.now) }
+    ensures { IsTrue result ↔ (map (λ c. c.tx.transaction.t.value) states.now ≡ transactions_of s.now) }
 {
     let made = Made::of(s);
     let mut rest = states;
@@ -208,7 +208,7 @@ pub(super) fn test_all<D: Disk, N: Run>(
     states: &[CellState<N>],
     log: &LogState<D, N>,
 ) -> Result<(), RunStop>
-    ensures named { OnOk result (map (λ c. c.tx.transaction.value) states.now ≡ transactions_of s.now) }
+    ensures named { OnOk result (map (λ c. c.tx.transaction.t.value) states.now ≡ transactions_of s.now) }
     ensures tied { OnOk result (All (λ c. TiesWith c.tx log.now.log) states.now) }
     ensures followed { OnOk result (each (λ c. follows log.now.past c.tx.world.past) states.now ≡ true) }
     ensures first { OnOk result (each (λ c. are_first (par_line s.now) c.tx.world.past) states.now ≡ true) }

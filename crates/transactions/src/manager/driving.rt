@@ -16,15 +16,15 @@ ghost use Rattle.transactions.specs.Events.{note_in};
 ghost use Rattle.transactions.specs.Hearing.{HearsNote, Writes, given_of};
 ghost use Rattle.transactions.specs.Slots.{AreSame, KeepsRest, KeepsTime, live_at};
 ghost use Rattle.transactions.specs.State.{LiveState, past};
-ghost use Rattle.transactions.specs.Telling.{IsTold, Waiting, told};
+ghost use Rattle.transactions.specs.Telling.{IsTold, Waiting, aborted_by, is_full, told};
 ghost use Rattle.transactions.specs.Waiting.{AllAsked};
 
-use super::TransactionManager;
+use super::{TransactionManager, index};
 use crate::error::{CommitError, TxError};
 use crate::event::Event;
 use crate::handle::{CommittableTransaction, Enlistment};
 use crate::resource::ResourceManager;
-use dtx_values::{Answer, Call, EnlNo, Outcome, Reply, TxNo};
+use dtx_values::{Answer, Call, EnlNo, Outcome, Reply, TxId};
 use outside::{Clock, Disk};
 
 /// The objects hear what an event says to an enlistment; its reply.
@@ -41,6 +41,7 @@ pub(super) fn commit_error(e: TxError) -> CommitError
     ensures refused { (a : Answer) → result ≡ CommitError.Refused a → e ≡ TxError.Refused a }
     ensures waits { result ≡ CommitError.Waits → e ≡ TxError.Waits }
     ensures told { (result ≢ CommitError.Aborted) × (result ≢ CommitError.InDoubt) }
+    ensures full { result ≡ CommitError.LogFull → e ≡ TxError.LogFull }
 {
     CommitError::from(e)
 }
@@ -63,10 +64,10 @@ impl<D: Disk + Drop, C: Clock + Drop> TransactionManager<D, C> {
         ensures rest { KeepsRest self.old self.new }
         ensures cause { IfErr result (λ x. (x ≡ TxError.Memory) ⊎ ((x ≡ TxError.Refused NoSuch) × (live_at e.transaction self.old.lives ≡ None))) }
     {
-        let Some(live) = self.lives.get_mut(e.transaction.index()) else {
+        let Some(live) = self.lives.get_mut(index(e.transaction)) else {
             return Err(TxError::Refused(Answer::NoSuch));
         };
-        if !live.is_used() {
+        if !live.is_live(e.transaction) {
             return Err(TxError::Refused(Answer::NoSuch));
         }
         let replied = live.reply(&self.log, &mut self.out, e.number, r);
@@ -75,7 +76,7 @@ impl<D: Disk + Drop, C: Clock + Drop> TransactionManager<D, C> {
     }
 
     /// What was heard of a transaction is within its history. It does nothing when it runs.
-    fn is_within(&self, t: TxNo)
+    fn is_within(&self, t: TxId)
         ensures { (x : LiveState) → live_at t self.now.lives ≡ Some x → x.heard ≤ length (past x) }
     {
         if let Some(live) = self.live(t) {
@@ -84,7 +85,7 @@ impl<D: Disk + Drop, C: Clock + Drop> TransactionManager<D, C> {
     }
 
     /// A transaction that isn't decided waits for something. It does nothing when it runs.
-    fn is_waiting(&self, t: TxNo)
+    fn is_waiting(&self, t: TxId)
         ensures { (x : LiveState) → live_at t self.now.lives ≡ Some x → told x ≡ None → has is_commit (past x) ≡ true → AllAsked x.tx.world → Waiting x }
     {
         if let Some(live) = self.live(t) {
@@ -93,7 +94,7 @@ impl<D: Disk + Drop, C: Clock + Drop> TransactionManager<D, C> {
     }
 
     /// Does what is pending in a transaction: the objects hear what its history says to their enlistments, and their replies are given.
-    pub(super) fn drive<O: ResourceManager>(&mut self, t: TxNo, o: &mut O) -> Result<(), TxError>
+    pub(super) fn drive<O: ResourceManager>(&mut self, t: TxId, o: &mut O) -> Result<(), TxError>
         ensures heard { HeardAt O.gives [] t self.old.lives self.new.lives o.old o.new }
         ensures nobody { live_at t self.old.lives ≡ None → (live_at t self.new.lives ≡ None) × (o.new ≡ o.old) }
         ensures all { OnOk result ((z : LiveState) → live_at t self.new.lives ≡ Some z → (z.heard ≡ length (past z)) × AllAsked z.tx.world) }
@@ -128,12 +129,12 @@ impl<D: Disk + Drop, C: Clock + Drop> TransactionManager<D, C> {
     ///
     /// As of [`TransactionManager::commit`], where the call wasn't done.
     pub fn begin_commit(&mut self, tx: &CommittableTransaction) -> Result<(), TxError>
-        ensures entered { Enters D.faults self.old.log tx.now.number (CommitCall tx.now.number) self.old.lives self.new.lives result }
+        ensures entered { Enters D.faults self.old.log tx.now.number (CommitCall tx.now.number.t) self.old.lives self.new.lives result }
         ensures others { AreSame tx.now.number self.old.lives self.new.lives }
         ensures rest { KeepsRest self.old self.new }
     {
         let t = tx.number;
-        self.enter(t, &Call::Commit(t))
+        self.enter(t, &Call::Commit(t.t()))
     }
 
     /// Asks for the rollback of a transaction, for a program that asks what comes next.
@@ -142,19 +143,20 @@ impl<D: Disk + Drop, C: Clock + Drop> TransactionManager<D, C> {
     ///
     /// As of [`TransactionManager::rollback`].
     pub fn begin_rollback(&mut self, tx: &CommittableTransaction) -> Result<(), TxError>
-        ensures entered { Enters D.faults self.old.log tx.now.number (RollbackCall tx.now.number) self.old.lives self.new.lives result }
+        ensures entered { Enters D.faults self.old.log tx.now.number (RollbackCall tx.now.number.t) self.old.lives self.new.lives result }
         ensures others { AreSame tx.now.number self.old.lives self.new.lives }
         ensures rest { KeepsRest self.old self.new }
     {
         let t = tx.number;
-        self.enter(t, &Call::Rollback(t))
+        self.enter(t, &Call::Rollback(t.t()))
     }
 
     /// Commits a transaction, and does what is pending and no more. (`Commit` of System.Transactions.)
     ///
     /// # Errors
     ///
-    /// - [`CommitError::Aborted`], [`CommitError::InDoubt`] exactly where the client was told so.
+    /// - [`CommitError::LogFull`] exactly where the client was told that it aborted, and the log was full when the commit was to be recorded.
+    /// - [`CommitError::Aborted`], [`CommitError::InDoubt`] exactly where else the client was told so.
     /// - [`CommitError::Waits`] where it isn't decided yet: a blocking clone is open, or an object put off its reply. `reply`, `complete` and `pump` go on.
     /// - [`CommitError::Refused`] where the transaction refused the call, or is none of this manager's.
     /// - [`CommitError::Many`], [`CommitError::Memory`] as in [`TxError`].
@@ -165,7 +167,7 @@ impl<D: Disk + Drop, C: Clock + Drop> TransactionManager<D, C> {
     ) -> Result<(), CommitError>
         ensures told { IsTold result (live_at tx.now.number self.new.lives) }
         ensures heard { HeardAt O.gives [] tx.now.number self.old.lives self.new.lives o.old o.new }
-        ensures refused { (a : Answer) → result ≡ Err (CommitError.Refused a) → ((a ≡ NoSuch) × (live_at tx.now.number self.old.lives ≡ None)) ⊎ IsRefused D.faults self.old.log tx.now.number (CommitCall tx.now.number) a self.old.lives self.new.lives }
+        ensures refused { (a : Answer) → result ≡ Err (CommitError.Refused a) → ((a ≡ NoSuch) × (live_at tx.now.number self.old.lives ≡ None)) ⊎ IsRefused D.faults self.old.log tx.now.number (CommitCall tx.now.number.t) a self.old.lives self.new.lives }
         ensures others { AreSame tx.now.number self.old.lives self.new.lives }
         ensures time { KeepsTime self.old self.new }
     {
@@ -180,16 +182,27 @@ impl<D: Disk + Drop, C: Clock + Drop> TransactionManager<D, C> {
         self.is_waiting(t);
         match self.told(tx) {
             Some(Outcome::Committed) => Ok(()),
-            Some(Outcome::Aborted) => Err(CommitError::Aborted),
+            Some(Outcome::Aborted) => Err(self.aborted(t)),
             Some(Outcome::InDoubt) => Err(CommitError::InDoubt),
             None => Err(CommitError::Waits),
+        }
+    }
+
+    /// Why a transaction aborted whose commit was asked for.
+    fn aborted(&self, t: TxId) -> CommitError
+        ensures aborted { (x : LiveState) → live_at t self.now.lives ≡ Some x → result ≡ aborted_by (has is_full (past x)) }
+        ensures only { (result ≡ CommitError.Aborted) ⊎ (result ≡ CommitError.LogFull) }
+    {
+        match self.live(t) {
+            Some(live) if live.is_log_full() => CommitError::LogFull,
+            _ => CommitError::Aborted,
         }
     }
 
     /// Enters a call that makes nothing, and does what is pending.
     pub(super) fn go<O: ResourceManager>(
         &mut self,
-        t: TxNo,
+        t: TxId,
         c: &Call,
         o: &mut O,
     ) -> Result<(), TxError>
@@ -217,14 +230,14 @@ impl<D: Disk + Drop, C: Clock + Drop> TransactionManager<D, C> {
         tx: &CommittableTransaction,
         o: &mut O,
     ) -> Result<(), TxError>
-        ensures goes { OnOk result (Goes D.faults self.old.log O.gives tx.now.number (RollbackCall tx.now.number) self.old.lives self.new.lives o.old o.new) }
+        ensures goes { OnOk result (Goes D.faults self.old.log O.gives tx.now.number (RollbackCall tx.now.number.t) self.old.lives self.new.lives o.old o.new) }
         ensures heard { HeardAt O.gives [] tx.now.number self.old.lives self.new.lives o.old o.new }
-        ensures refused { (a : Answer) → result ≡ Err (TxError.Refused a) → ((a ≡ NoSuch) × (live_at tx.now.number self.old.lives ≡ None)) ⊎ IsRefused D.faults self.old.log tx.now.number (RollbackCall tx.now.number) a self.old.lives self.new.lives }
+        ensures refused { (a : Answer) → result ≡ Err (TxError.Refused a) → ((a ≡ NoSuch) × (live_at tx.now.number self.old.lives ≡ None)) ⊎ IsRefused D.faults self.old.log tx.now.number (RollbackCall tx.now.number.t) a self.old.lives self.new.lives }
         ensures others { AreSame tx.now.number self.old.lives self.new.lives }
         ensures time { KeepsTime self.old self.new }
     {
         let t = tx.number;
-        self.go(t, &Call::Rollback(t), o)
+        self.go(t, &Call::Rollback(t.t()), o)
     }
 
     /// The reply that an object put off; false exactly where none is due, or it doesn't fit.

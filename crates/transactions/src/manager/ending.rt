@@ -1,43 +1,38 @@
 //! The end of a transaction, and the time.
 ghost use Rattle.std.specs.Prelude.{ℕ, ◌≡◌, ◌⊎◌, ◌-◌, Option, Some, None, Ok, Err, IfOk, IfErr, OnOk, OnErr, true, false, max, not, length, slice_get};
-ghost use Rattle.transactions.specs.Ending.{IsLeft, IsOver, after_end, is_known};
-ghost use Rattle.transactions.specs.Slots.{AreSame, KeepsRest, KeepsTime, is_unused, live_at};
+ghost use Rattle.transactions.specs.Ending.{IsLeft, IsOver};
+ghost use Rattle.transactions.specs.Slots.{AreSame, KeepsRest, KeepsTime, is_vacant, live_at};
 ghost use Rattle.transactions.specs.State.{LiveState};
 ghost use Rattle.transactions.specs.Turning.{PassedAt, Stopped, StoppedAfter, TickFails, Turned, TurnedUpTo};
-ghost use Rattle.transactions.specs.declared.usage.Usage.TheVariants.{Left};
+ghost use Rattle.transactions.specs.declared.usage.Usage.TheVariants.{Free, Left};
 
-use super::TransactionManager;
+use super::{TransactionManager, index};
 use crate::error::TxError;
 use crate::handle::CommittableTransaction;
 use crate::resource::ResourceManager;
 use crate::usage::Usage;
-use dtx_values::TxNo;
+use dtx_values::{TxId, TxNo};
 use outside::{Clock, Disk};
 
 impl<D: Disk + Drop, C: Clock + Drop> TransactionManager<D, C> {
-    /// Takes the transaction of this number off. The number may be used again where the transaction never came to the log.
-    pub(super) fn take_off(&mut self, t: TxNo)
+    /// Takes this transaction off. Another may take its place, with a number of its own.
+    pub(super) fn take_off(&mut self, t: TxId)
         ensures gone { live_at t self.new.lives ≡ None }
-        ensures kept { (x : LiveState) → live_at t self.old.lives ≡ Some x → slice_get self.new.lives (t.value - 1) ≡ Some (record x { usage = after_end x }) }
+        ensures kept { (x : LiveState) → live_at t self.old.lives ≡ Some x → slice_get self.new.lives (t.t.value - 1) ≡ Some (record x { usage = Free }) }
         ensures others { AreSame t self.old.lives self.new.lives }
         ensures rest { KeepsRest self.old self.new }
     {
-        let Some(live) = self.lives.get_mut(t.index()) else {
+        let Some(live) = self.lives.get_mut(index(t)) else {
             return;
         };
-        if !live.is_used() {
+        if !live.is_live(t) {
             return;
         }
-        let usage = if live.is_known() {
-            Usage::Spent
-        } else {
-            Usage::Free
-        };
-        live.set_usage(usage);
+        live.set_usage(Usage::Free);
     }
 
     /// Whether nothing of a transaction is left to do.
-    fn is_over(&self, t: TxNo) -> bool
+    fn is_over(&self, t: TxId) -> bool
         ensures over { result ≡ true → (x : LiveState) × (live_at t self.now.lives ≡ Some x) × IsOver x }
         ensures not { result ≡ false → (x : LiveState) → live_at t self.now.lives ≡ Some x → IsOver x → ⊥ }
     {
@@ -52,7 +47,7 @@ impl<D: Disk + Drop, C: Clock + Drop> TransactionManager<D, C> {
     pub fn end(&mut self, tx: CommittableTransaction) -> Result<(), CommittableTransaction>
         ensures over { OnOk result ((x : LiveState) × (live_at tx.number self.old.lives ≡ Some x) × IsOver x) }
         ensures gone { OnOk result (live_at tx.number self.new.lives ≡ None) }
-        ensures reused { OnOk result ((x : LiveState) → live_at tx.number self.old.lives ≡ Some x → is_unused (slice_get self.new.lives (tx.number.value - 1)) ≡ not (is_known x)) }
+        ensures vacant { OnOk result (is_vacant (slice_get self.new.lives (tx.number.t.value - 1)) ≡ true) }
         ensures refused { IfErr result (λ u. (u ≡ tx) × (self.new ≡ self.old)) }
         ensures cause { OnErr result ((x : LiveState) → live_at tx.number self.old.lives ≡ Some x → IsOver x → ⊥) }
         ensures others { AreSame tx.number self.old.lives self.new.lives }
@@ -77,15 +72,15 @@ impl<D: Disk + Drop, C: Clock + Drop> TransactionManager<D, C> {
     }
 
     /// Nobody holds a transaction any more: it is taken off once it is over.
-    pub(super) fn leave(&mut self, t: TxNo)
+    pub(super) fn leave(&mut self, t: TxId)
         ensures left { (x : LiveState) → live_at t self.old.lives ≡ Some x → IsLeft t x self.new.lives }
         ensures others { AreSame t self.old.lives self.new.lives }
         ensures rest { KeepsRest self.old self.new }
     {
-        let Some(live) = self.lives.get_mut(t.index()) else {
+        let Some(live) = self.lives.get_mut(index(t)) else {
             return;
         };
-        if !live.is_used() {
+        if !live.is_live(t) {
             return;
         }
         live.set_usage(Usage::Left);
@@ -93,7 +88,7 @@ impl<D: Disk + Drop, C: Clock + Drop> TransactionManager<D, C> {
     }
 
     /// Takes a transaction off that nobody holds any more, where it is over.
-    fn sweep(&mut self, t: TxNo)
+    fn sweep(&mut self, t: TxId)
         ensures swept { (x : LiveState) → live_at t self.old.lives ≡ Some x → (live_at t self.new.lives ≡ Some x) ⊎ ((live_at t self.new.lives ≡ None) × IsOver x × (x.usage ≡ Left)) }
         ensures others { AreSame t self.old.lives self.new.lives }
         ensures rest { KeepsRest self.old self.new }
@@ -110,17 +105,17 @@ impl<D: Disk + Drop, C: Clock + Drop> TransactionManager<D, C> {
     }
 
     /// Time goes on in this transaction to the greatest reading of the clock.
-    fn pass(&mut self, t: TxNo) -> Result<(), TxError>
+    fn pass(&mut self, t: TxId) -> Result<(), TxError>
         ensures passed { OnOk result (PassedAt D.faults self.old.log self.old.reading t self.old.lives self.new.lives) }
         ensures failed { OnErr result (live_at t self.new.lives ≡ live_at t self.old.lives) }
         ensures cause { IfErr result (TickFails t self.old.lives) }
         ensures others { AreSame t self.old.lives self.new.lives }
         ensures rest { KeepsRest self.old self.new }
     {
-        let Some(live) = self.lives.get_mut(t.index()) else {
+        let Some(live) = self.lives.get_mut(index(t)) else {
             return Ok(());
         };
-        if !live.is_used() {
+        if !live.is_live(t) {
             return Ok(());
         }
         let passed = live.pass(&self.log, &mut self.out, self.actor, self.reading);
@@ -129,7 +124,7 @@ impl<D: Disk + Drop, C: Clock + Drop> TransactionManager<D, C> {
     }
 
     /// Lets the time of a transaction go on, and does what is pending there.
-    fn turn<O: ResourceManager>(&mut self, t: TxNo, o: &mut O) -> Result<(), TxError>
+    fn turn<O: ResourceManager>(&mut self, t: TxId, o: &mut O) -> Result<(), TxError>
         ensures turned { OnOk result (Turned D.faults O.gives t self.old self.new o.old o.new) }
         ensures stopped { OnErr result (Stopped D.faults O.gives t self.old self.new o.old o.new) }
         ensures cause { IfErr result (TickFails t self.old.lives) }
@@ -166,9 +161,10 @@ impl<D: Disk + Drop, C: Clock + Drop> TransactionManager<D, C> {
             let Ok(number) = u32::try_from(i + 1) else {
                 return Ok(());
             };
-            let Some(t) = TxNo::new(number) else {
+            let Some(place) = TxNo::new(number) else {
                 return Ok(());
             };
+            let t = self.at_place(place);
             if let Err(e) = self.turn(t, o) {
                 return Err(e);
             }

@@ -13,26 +13,26 @@ ghost use Rattle.transactions.specs.Slots.{AreSame, KeepsRest, KeepsTime, live_a
 ghost use Rattle.transactions.specs.State.{LiveState, past};
 ghost use Rattle.transactions.specs.declared.kind.Kind.TheVariants.{Durable, Promotable, Volatile};
 
-use super::{TransactionManager, done};
+use super::{TransactionManager, done, index};
 use crate::error::TxError;
 use crate::handle::{CommittableTransaction, DependentTransaction, Enlistment, Phases};
 use crate::kind::Kind;
 use crate::resource::ResourceManager;
-use dtx_values::{Answer, Call, CloneKind, CloneNo, EnlNo, EnlistOption, RmNo, TxNo};
+use dtx_values::{Answer, Call, CloneKind, CloneNo, EnlNo, EnlistOption, RmNo, TxId};
 use outside::{Clock, Disk};
 
 impl<D: Disk + Drop, C: Clock + Drop> TransactionManager<D, C> {
     /// Enters the call that enlists something in a transaction under the next number; it gives that, the line and the answer.
-    fn enlist(&mut self, t: TxNo, k: Kind) -> Result<(EnlNo, u32, Answer), TxError>
+    fn enlist(&mut self, t: TxId, k: Kind) -> Result<(EnlNo, u32, Answer), TxError>
         ensures enlisted { IfOk result (λ x. EnlistsAt D.faults self.old.log t k x.0 x.1 x.2 self.old.lives self.new.lives) }
         ensures failed { OnErr result ((x : LiveState) → live_at t self.old.lives ≡ Some x → (y : LiveState) × (live_at t self.new.lives ≡ Some y) × (y ≡ record x { enlisted = y.enlisted })) }
         ensures others { AreSame t self.old.lives self.new.lives }
         ensures rest { KeepsRest self.old self.new }
     {
-        let Some(live) = self.lives.get_mut(t.index()) else {
+        let Some(live) = self.lives.get_mut(index(t)) else {
             return Err(TxError::Refused(Answer::NoSuch));
         };
-        if !live.is_used() {
+        if !live.is_live(t) {
             return Err(TxError::Refused(Answer::NoSuch));
         }
         let enlisted = live.enlist(&self.log, &mut self.out, self.actor, k);
@@ -72,7 +72,7 @@ impl<D: Disk + Drop, C: Clock + Drop> TransactionManager<D, C> {
     /// Does what is pending in a transaction, and gives the answer of the call of this line: that one, or where it had to wait the one that came.
     fn wait<O: ResourceManager>(
         &mut self,
-        t: TxNo,
+        t: TxId,
         line: u32,
         first: Answer,
         o: &mut O,
@@ -94,7 +94,7 @@ impl<D: Disk + Drop, C: Clock + Drop> TransactionManager<D, C> {
     }
 
     /// The answer of the call of this line, which had to wait.
-    fn answered(&self, t: TxNo, line: u32) -> Result<Answer, TxError>
+    fn answered(&self, t: TxId, line: u32) -> Result<Answer, TxError>
         ensures found { IfOk result (λ a. (z : LiveState) × (live_at t self.now.lives ≡ Some z) × Has (Answered line a) (past z)) }
         ensures none { result ≡ Err TxError.Waits → (z : LiveState) → live_at t self.now.lives ≡ Some z → has (is_answer_to line) (past z) ≡ false }
     {
@@ -193,13 +193,13 @@ impl<D: Disk + Drop, C: Clock + Drop> TransactionManager<D, C> {
         tx: &CommittableTransaction,
         o: &mut O,
     ) -> Result<u128, TxError>
-        ensures identified { IfOk result (λ id. (mid : List LiveState) × (line : ℕ) × (first : Answer) × CallsAt D.faults self.old.log tx.now.number (Marshal tx.now.number) line first self.old.lives mid
+        ensures identified { IfOk result (λ id. (mid : List LiveState) × (line : ℕ) × (first : Answer) × CallsAt D.faults self.old.log tx.now.number (Marshal tx.now.number.t) line first self.old.lives mid
             × HeardAt O.gives [] tx.now.number mid self.new.lives o.old o.new × IsAnswered tx.now.number line first (Id id) self.new.lives) }
         ensures others { AreSame tx.now.number self.old.lives self.new.lives }
         ensures time { KeepsTime self.old self.new }
     {
         let t = tx.number;
-        let (line, first) = match self.call(t, &Call::Marshal(t)) {
+        let (line, first) = match self.call(t, &Call::Marshal(t.t())) {
             Ok(called) => called,
             Err(e) => return Err(e),
         };
@@ -238,15 +238,15 @@ impl<D: Disk + Drop, C: Clock + Drop> TransactionManager<D, C> {
     }
 
     /// Enters the call that makes a clone of a transaction under the next number; it gives that and the answer.
-    fn clone_in(&mut self, t: TxNo, k: CloneKind) -> Result<(CloneNo, Answer), TxError>
+    fn clone_in(&mut self, t: TxId, k: CloneKind) -> Result<(CloneNo, Answer), TxError>
         ensures cloned { IfOk result (λ x. ClonesAt D.faults self.old.log t k x.0 x.1 self.old.lives self.new.lives) }
         ensures others { AreSame t self.old.lives self.new.lives }
         ensures rest { KeepsRest self.old self.new }
     {
-        let Some(live) = self.lives.get_mut(t.index()) else {
+        let Some(live) = self.lives.get_mut(index(t)) else {
             return Err(TxError::Refused(Answer::NoSuch));
         };
-        if !live.is_used() {
+        if !live.is_live(t) {
             return Err(TxError::Refused(Answer::NoSuch));
         }
         let cloned = live.clone_next(&self.log, &mut self.out, self.actor, k);

@@ -1,41 +1,32 @@
 //! Scopes.
-ghost use Rattle.std.specs.Prelude.{◌≡◌, ◌≢◌, ◌⊎◌, ◌==◌, [], Option, Some, None, Ok, Err, IfOk, IfErr, OnOk, OnErr, true, false, is_some};
+ghost use Rattle.std.specs.Prelude.{◌≡◌, ◌≢◌, ◌≤◌, ◌⊎◌, ◌==◌, [], Option, Some, None, Ok, Err, IfOk, IfErr, OnOk, OnErr, true, false, is_some};
 ghost use Rattle.dtx_values.specs.declared.entry.Answer.{Answer};
 ghost use Rattle.dtx_values.specs.declared.entry.Answer.TheVariants.{Ended};
-ghost use Rattle.dtx_values.specs.declared.number.TxNo.{TxNo};
+ghost use Rattle.dtx_values.specs.declared.tx_id.TxId.{TxId};
 ghost use Rattle.dtx_values.specs.declared.words.Outcome.TheVariants.{Aborted};
 ghost use Rattle.dtx_values.specs.Entered.{transaction_in};
 ghost use Rattle.dtx_model.specs.Contexts.{asked_by};
-ghost use Rattle.dtx_model.specs.Scopes.{ambient, beneath, close_answer, closing, is_scope, rolled_back};
+ghost use Rattle.dtx_model.specs.Scopes.{beneath, close_answer, closing, is_scope, rolled_back};
 ghost use Rattle.dtx_model.specs.Words.{has};
 ghost use Rattle.scope_context.specs.Refusals.{enter_refusal};
 ghost use Rattle.transactions.specs.Doing.{HeardAt};
-ghost use Rattle.transactions.specs.Scoping.{AreSameBut, BeginsWhere, Fails, Finishes, IsOpened, IsRolledBack, MayNotOpen, Settles, SettlesBefore, WorksIn, ended_by, is_top, made_in, number_of};
+ghost use Rattle.transactions.specs.Numbering.{MayNotBegin, NumbersLog};
+ghost use Rattle.transactions.specs.Scoping.{AreSameBut, BeginsWhere, Fails, Finishes, IsOpened, IsRolledBack, MayNotOpen, Settles, SettlesBefore, WorksIn, ended_by, held_by, is_top, made_in, number_in};
 ghost use Rattle.transactions.specs.Slots.{AreSame, KeepsRest, KeepsTime, live_at};
 ghost use Rattle.transactions.specs.Telling.{IsTold};
 
 use super::TransactionManager;
 use super::driving::commit_error;
-use crate::ambient::{Ambient, isolation};
+use crate::ambient::{Ambient, isolation, place_of};
 use crate::error::{CommitError, ScopeError, TxError, answer_of};
 use crate::handle::{CommittableTransaction, TransactionScope};
 use crate::resource::ResourceManager;
 use crate::work::Work;
 use dtx_values::{
-    Answer, Call, Closed, Entered, IsoWord, Outcome, ScopeNo, ScopeOption, Timeout, TxNo,
+    Answer, Call, Closed, Entered, IsoWord, Outcome, ScopeNo, ScopeOption, Timeout, TxId,
 };
 use outside::{Clock, Disk};
 use scope_context::ScopeRefusal;
-
-/// The transaction that a scope made or joined, for its holder.
-fn holding(x: Entered) -> Option<CommittableTransaction>
-    ensures { number_of result ≡ transaction_in x }
-{
-    match x.transaction() {
-        Some(number) => Some(CommittableTransaction { number }),
-        None => None,
-    }
-}
 
 /// What a rollback says of a scope that isn't complete: the transaction aborted, where it was done, and where it had aborted already.
 fn abandoned(r: Result<(), TxError>) -> Result<(), CommitError>
@@ -62,13 +53,15 @@ fn incomplete(r: ScopeRefusal, disposed: Result<(), CommitError>) -> Result<(), 
 
 impl<D: Disk + Drop, C: Clock + Drop> TransactionManager<D, C> {
     /// Begins the transaction of a scope that makes one.
-    fn make(&mut self, is_made: bool, t: Timeout) -> Result<Option<TxNo>, TxError>
+    fn make(&mut self, is_made: bool, t: Timeout) -> Result<Option<TxId>, TxError>
         ensures made { IfOk result (λ m. is_some m ≡ is_made) }
-        ensures begun { IfOk result (λ m. BeginsWhere D.faults self.old.log t self.old.reading m self.old.lives self.new.lives) }
+        ensures begun { IfOk result (λ m. BeginsWhere D.faults t m self.old self.new) }
         ensures others { IfOk result (λ m. AreSameBut m self.old.lives self.new.lives) }
-        ensures refused { OnErr result (AreSameBut None self.old.lives self.new.lives) }
-        ensures rest { KeepsRest self.old self.new }
-        ensures cause { IfErr result (λ e. (e ≡ TxError.Memory) ⊎ (e ≡ TxError.Many)) }
+        ensures refused { OnErr result (self.new.lives ≡ self.old.lives) }
+        ensures log { NumbersLog D.honest D.image D.faults self.old.log self.new.log }
+        ensures rises { self.old.last ≤ self.new.last }
+        ensures time { KeepsTime self.old self.new }
+        ensures cause { IfErr result (MayNotBegin D.faults self.old.log self.new.log self.old.lives) }
     {
         if !is_made {
             return Ok(None);
@@ -80,8 +73,8 @@ impl<D: Disk + Drop, C: Clock + Drop> TransactionManager<D, C> {
     }
 
     /// Takes off the transaction of a scope that wasn't opened.
-    fn unmake(&mut self, made: Option<TxNo>)
-        ensures gone { (t : TxNo) → made ≡ Some t → live_at t self.new.lives ≡ None }
+    fn unmake(&mut self, made: Option<TxId>)
+        ensures gone { (t : TxId) → made ≡ Some t → live_at t self.new.lives ≡ None }
         ensures others { AreSameBut made self.old.lives self.new.lives }
         ensures rest { KeepsRest self.old self.new }
     {
@@ -96,22 +89,24 @@ impl<D: Disk + Drop, C: Clock + Drop> TransactionManager<D, C> {
     /// # Errors
     ///
     /// - [`ScopeError::Refused`] where 64 scopes are open, or the isolation isn't that of the ambient transaction.
-    /// - [`ScopeError::Begin`] where its transaction can't be begun.
-    pub fn open(
+    /// - [`ScopeError::Begin`] where its transaction can't be begun, as of [`TransactionManager::begin`].
+    pub fn open_scope(
         &mut self,
         a: &mut Ambient,
         k: ScopeOption,
         t: Timeout,
         i: IsoWord,
     ) -> Result<TransactionScope, ScopeError>
-        ensures opened { IfOk result (λ s. IsOpened k (asked_by i) s a.old.scopes a.new.scopes) }
-        ensures begun { IfOk result (λ s. BeginsWhere D.faults self.old.log t self.old.reading (made_in s) self.old.lives self.new.lives) }
+        ensures opened { IfOk result (λ s. IsOpened k (asked_by i) s self.new.lives a.old.scopes a.new.scopes) }
+        ensures begun { IfOk result (λ s. BeginsWhere D.faults t (made_in s) self.old self.new) }
         ensures others { IfOk result (λ s. AreSameBut (made_in s) self.old.lives self.new.lives) }
         ensures allowed { OnOk result (enter_refusal k (asked_by i) a.old.scopes ≡ None) }
         ensures kept { OnErr result (a.new ≡ a.old) }
         ensures refused { OnErr result (AreSameBut None self.old.lives self.new.lives) }
-        ensures cause { IfErr result (MayNotOpen k (asked_by i) a.old.scopes) }
-        ensures rest { KeepsRest self.old self.new }
+        ensures cause { IfErr result (MayNotOpen D.faults k (asked_by i) a.old.scopes self.old self.new) }
+        ensures log { NumbersLog D.honest D.image D.faults self.old.log self.new.log }
+        ensures rises { self.old.last ≤ self.new.last }
+        ensures time { KeepsTime self.old self.new }
     {
         let is_made = a.makes(k);
         let scope = match a.give() {
@@ -125,10 +120,10 @@ impl<D: Disk + Drop, C: Clock + Drop> TransactionManager<D, C> {
                 return Err(ScopeError::Begin(e));
             }
         };
-        match a.context.enter(scope, k, made, isolation(i)) {
+        match a.context.enter(scope, k, place_of(made), isolation(i)) {
             Ok(entered) => Ok(TransactionScope {
                 scope,
-                transaction: holding(entered),
+                transaction: self.holding(made, entered),
                 is_made,
             }),
             Err(e) => {
@@ -139,29 +134,45 @@ impl<D: Disk + Drop, C: Clock + Drop> TransactionManager<D, C> {
         }
     }
 
+    /// The transaction of a scope, for its holder: the one that it made, or that goes on at the place of the one that it joined.
+    fn holding(&self, made: Option<TxId>, x: Entered) -> Option<CommittableTransaction>
+        ensures { number_in result ≡ held_by made self.now.lives (transaction_in x) }
+    {
+        if let Some(number) = made {
+            return Some(CommittableTransaction { number });
+        }
+        match x.transaction() {
+            Some(place) => Some(CommittableTransaction {
+                number: self.at_place(place),
+            }),
+            None => None,
+        }
+    }
+
     /// Rolls back the transaction of a scope that isn't complete.
-    fn abandon<O: ResourceManager>(&mut self, t: TxNo, o: &mut O) -> Result<(), CommitError>
+    fn abandon<O: ResourceManager>(&mut self, t: TxId, o: &mut O) -> Result<(), CommitError>
         ensures rolled { IsRolledBack D.faults self.old.log O.gives t result self.old.lives self.new.lives o.old o.new }
         ensures heard { HeardAt O.gives [] t self.old.lives self.new.lives o.old o.new }
         ensures others { AreSame t self.old.lives self.new.lives }
         ensures time { KeepsTime self.old self.new }
     {
-        let done = self.go(t, &Call::Rollback(t), o);
+        let done = self.go(t, &Call::Rollback(t.t()), o);
         abandoned(done)
     }
 
     /// Rolls back the transactions of the scopes that a wrongly nested dispose closed.
     fn abandon_all<O: ResourceManager>(&mut self, a: &Ambient, o: &mut O)
-        ensures others { (u : TxNo) → has (λ t. u.value == t.value) a.now.rolled ≡ false → live_at u self.new.lives ≡ live_at u self.old.lives }
+        ensures others { (u : TxId) → has (λ t. u.t.value == t.value) a.now.rolled ≡ false → live_at u self.new.lives ≡ live_at u self.old.lives }
         ensures time { KeepsTime self.old self.new }
     {
-        for t in a.context.rolled() {
-            let _ = self.abandon(*t, o);
+        for place in a.context.rolled() {
+            let rolled = self.at_place(*place);
+            let _ = self.abandon(rolled, o);
         }
     }
 
     /// Commits the transaction of a scope that is complete.
-    fn conclude<O: ResourceManager>(&mut self, t: TxNo, o: &mut O) -> Result<(), CommitError>
+    fn conclude<O: ResourceManager>(&mut self, t: TxId, o: &mut O) -> Result<(), CommitError>
         ensures told { IsTold result (live_at t self.new.lives) }
         ensures heard { HeardAt O.gives [] t self.old.lives self.new.lives o.old o.new }
         ensures others { AreSame t self.old.lives self.new.lives }
@@ -176,14 +187,20 @@ impl<D: Disk + Drop, C: Clock + Drop> TransactionManager<D, C> {
     /// What closing a scope does to its transaction.
     fn settle<O: ResourceManager>(&mut self, x: Closed, o: &mut O) -> Result<(), CommitError>
         ensures settled { Settles D.faults self.old.log O.gives x result self.old.lives self.new.lives o.old o.new }
-        ensures others { AreSameBut (ended_by x) self.old.lives self.new.lives }
+        ensures others { AreSameBut (ended_by x self.old.lives) self.old.lives self.new.lives }
         ensures idle { x ≡ Closed.Nothing → self.new ≡ self.old }
         ensures time { KeepsTime self.old self.new }
     {
         match x {
             Closed::Nothing => Ok(()),
-            Closed::Commit(t) => self.conclude(t, o),
-            Closed::Rollback(t) => self.abandon(t, o),
+            Closed::Commit(place) => {
+                let committed = self.at_place(place);
+                self.conclude(committed, o)
+            }
+            Closed::Rollback(place) => {
+                let t = self.at_place(place);
+                self.abandon(t, o)
+            }
         }
     }
 
@@ -195,11 +212,11 @@ impl<D: Disk + Drop, C: Clock + Drop> TransactionManager<D, C> {
         o: &mut O,
     ) -> Result<(), CommitError>
         ensures settled { is_top s.value a.old.scopes ≡ true → Settles D.faults self.old.log O.gives (closing a.old.scopes) result self.old.lives self.new.lives o.old o.new }
-        ensures others { is_top s.value a.old.scopes ≡ true → AreSameBut (ended_by (closing a.old.scopes)) self.old.lives self.new.lives }
+        ensures others { is_top s.value a.old.scopes ≡ true → AreSameBut (ended_by (closing a.old.scopes) self.old.lives) self.old.lives self.new.lives }
         ensures idle { is_top s.value a.old.scopes ≡ true → closing a.old.scopes ≡ Closed.Nothing → self.new ≡ self.old }
         ensures innermost { OnOk result (is_top s.value a.old.scopes ≡ true) }
         ensures wrong { is_top s.value a.old.scopes ≡ false → result ≡ Err (CommitError.Refused (close_answer s.value a.old.scopes)) }
-        ensures nested { is_top s.value a.old.scopes ≡ false → (u : TxNo) → has (λ t. u.value == t.value) (rolled_back s.value a.old.scopes) ≡ false → live_at u self.new.lives ≡ live_at u self.old.lives }
+        ensures nested { is_top s.value a.old.scopes ≡ false → (u : TxId) → has (λ t. u.t.value == t.value) (rolled_back s.value a.old.scopes) ≡ false → live_at u self.new.lives ≡ live_at u self.old.lives }
         ensures beneath { has (is_scope s.value) a.old.scopes ≡ true → a.new.scopes ≡ beneath s.value a.old.scopes }
         ensures unopened { has (is_scope s.value) a.old.scopes ≡ false → (a.new ≡ a.old) × (self.new ≡ self.old) × (o.new ≡ o.old) }
         ensures time { KeepsTime self.old self.new }
@@ -248,11 +265,11 @@ impl<D: Disk + Drop, C: Clock + Drop> TransactionManager<D, C> {
         o: &mut O,
     ) -> Result<(), CommitError>
         ensures settled { is_top s.scope.value a.old.scopes ≡ true → SettlesBefore D.faults self.old.log O.gives s (closing a.old.scopes) result self.old.lives self.new.lives o.old o.new }
-        ensures others { is_top s.scope.value a.old.scopes ≡ true → (u : TxNo) → ambient a.old.scopes ≢ Some u → made_in s ≢ Some u → live_at u self.new.lives ≡ live_at u self.old.lives }
+        ensures others { is_top s.scope.value a.old.scopes ≡ true → (u : TxId) → ended_by (closing a.old.scopes) self.old.lives ≢ Some u → made_in s ≢ Some u → live_at u self.new.lives ≡ live_at u self.old.lives }
         ensures idle { is_top s.scope.value a.old.scopes ≡ true → closing a.old.scopes ≡ Closed.Nothing → KeepsRest self.old self.new }
         ensures innermost { OnOk result (is_top s.scope.value a.old.scopes ≡ true) }
         ensures wrong { is_top s.scope.value a.old.scopes ≡ false → result ≡ Err (CommitError.Refused (close_answer s.scope.value a.old.scopes)) }
-        ensures nested { is_top s.scope.value a.old.scopes ≡ false → (u : TxNo) → has (λ t. u.value == t.value) (rolled_back s.scope.value a.old.scopes) ≡ false → made_in s ≢ Some u → live_at u self.new.lives ≡ live_at u self.old.lives }
+        ensures nested { is_top s.scope.value a.old.scopes ≡ false → (u : TxId) → has (λ t. u.t.value == t.value) (rolled_back s.scope.value a.old.scopes) ≡ false → made_in s ≢ Some u → live_at u self.new.lives ≡ live_at u self.old.lives }
         ensures beneath { has (is_scope s.scope.value) a.old.scopes ≡ true → a.new.scopes ≡ beneath s.scope.value a.old.scopes }
         ensures unopened { has (is_scope s.scope.value) a.old.scopes ≡ false → (a.new ≡ a.old) × KeepsRest self.old self.new × (o.new ≡ o.old) }
         ensures time { KeepsTime self.old self.new }
@@ -315,7 +332,7 @@ impl<D: Disk + Drop, C: Clock + Drop> TransactionManager<D, C> {
     ///
     /// # Errors
     ///
-    /// That of the work; else as of [`TransactionManager::open`] and [`TransactionManager::finish`].
+    /// That of the work; else as of [`TransactionManager::open_scope`] and [`TransactionManager::finish`].
     pub fn in_scope<T, O, W>(
         &mut self,
         a: &mut Ambient,
@@ -331,7 +348,7 @@ impl<D: Disk + Drop, C: Clock + Drop> TransactionManager<D, C> {
         W: Work<D, C, O, T>,
         ensures { IfOk result (λ x. WorksIn D.faults O.gives (W.does w) k t (asked_by i) x self.old self.new a.old a.new o.old o.new) }
     {
-        let s = match self.open(a, k, t, i) {
+        let s = match self.open_scope(a, k, t, i) {
             Ok(s) => s,
             Err(e) => return Err(CommitError::from(e)),
         };

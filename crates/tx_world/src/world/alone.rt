@@ -1,6 +1,7 @@
 //! Calls, steps and replies that need no log, for a caller that doesn't hold it.
 ghost use Rattle.std.specs.Prelude.{◌≡◌, ◌<◌, ◌&&◌, not, List, Ok, None, IfOk, OnOk, OnErr, true, false, is_some};
 ghost use Rattle.dtx_model.specs.Caused.{MayAnswer};
+ghost use Rattle.dtx_values.specs.TxIds.{number_of};
 ghost use Rattle.dtx_model.specs.Log.{CommitRecord};
 ghost use Rattle.dtx_model.specs.Replies.{due_of};
 ghost use Rattle.dtx_model.specs.Steps.{Calls, Replies, pending};
@@ -53,8 +54,8 @@ impl TxWorld {
     ) -> Result<Answer, WorldError>
         requires enters { may_enter self.old.world line c.now ≡ true }
         requires alone { is_alone c.now ≡ true }
-        requires answers { MayAnswer self.old.transaction.value self.old.world c.now 0 }
-        ensures answer { IfOk result (λ a. a ≡ answer_at self.old.transaction.value self.old.world c.now 0) }
+        requires answers { MayAnswer (number_of self.old.transaction) self.old.world c.now 0 }
+        ensures answer { IfOk result (λ a. a ≡ answer_at (number_of self.old.transaction) self.old.world c.now 0) }
         ensures done { OnOk result (DoesAlone (Calls line actor c.now 0) self.old self.new) }
         ensures fits { (rs : List CommitRecord) → Fits self.old rs → Fits self.new rs }
         ensures tied { tied self.old.world.past ≡ true → tied self.new.world.past ≡ true }

@@ -2,6 +2,7 @@
 ghost use Rattle.std.specs.Prelude.{ℕ, ◌≡◌, ◌&&◌, ◌||◌, ◌∷◌, ◌↔◌, ◌⊎◌, not, nat_le, Option, Ok, IfOk, OnOk, OnErr, IfErr, IsOk, IsTrue, true, false, is_some};
 ghost use Rattle.std.specs.Option.{option_map};
 ghost use Rattle.dtx_values.specs.declared.record.Differs.{Differs};
+ghost use Rattle.dtx_values.specs.TxIds.{number_of};
 ghost use Rattle.dtx_values.specs.declared.record.LogRecord.{LogRecord};
 ghost use Rattle.dtx_model.specs.Coordinated.{may_free, may_log};
 ghost use Rattle.dtx_model.specs.Log.{first_of, record_of};
@@ -17,7 +18,7 @@ ghost use Rattle.tx_world.specs.Leaves.{Leaves};
 ghost use Rattle.world_parts.specs.Found.{IsLeftAsWished};
 ghost use Rattle.tx_world.specs.Prepared.{NamesPrepared};
 
-use super::{TxWorld, identifier};
+use super::TxWorld;
 use crate::refusal::WorldError;
 use coordinator_log::Log;
 use dtx_values::{Differs, Outbox};
@@ -78,7 +79,7 @@ impl TxWorld {
         requires fits { IsTrue D.honest → Fits self.old (open_records log.now.slots) }
         ensures transaction { self.new.transaction ≡ self.old.transaction }
         ensures reached { OnOk result (is_reached_by log.now.life self.old ≡ true
-            → (self.new.world ≡ after self.old.transaction.value self.old.world (Restarts (is_some (first_of (id_of self.old) (open_records log.now.slots)))))
+            → (self.new.world ≡ after (number_of self.old.transaction) self.old.world (Restarts (is_some (first_of (id_of self.old) (open_records log.now.slots)))))
             × (self.new.ours ≡ first_of (id_of self.old) (open_records log.now.slots)) × (self.new.unsure ≡ false) × (self.new.life ≡ log.now.life)) }
         ensures unreached { is_reached_by log.now.life self.old ≡ false → self.new ≡ self.old }
         ensures kept { IsTrue D.honest → Fits self.new (open_records log.now.slots) }
@@ -96,7 +97,7 @@ impl TxWorld {
         let runs = !self.core.is_stopped();
         stop_if(&mut self.history, &mut self.core, runs);
         self.at_log
-            .restarted(&mut self.core, log, identifier(self.transaction));
+            .restarted(&mut self.core, log, self.transaction.identifier());
         self.history.restart(self.at_log.has_record());
         Ok(())
     }
@@ -108,10 +109,9 @@ impl TxWorld {
     /// [`Differs::Log`] exactly where the log is up and the two don't tie.
     pub fn ties<D: Disk>(&self, log: &Log<D>) -> Result<(), Differs>
         ensures tie { IsOk result ↔ (IsTrue log.now.is_up → Tie self.now.ours self.now.unsure (first_of (id_of self.now) (open_records log.now.slots))) }
-        ensures differs { IfErr result (λ d. (o : Option LogRecord) × (f : Option LogRecord) × (d ≡ Differs.Log self.now.transaction o f)
+        ensures differs { IfErr result (λ d. (o : Option LogRecord) × (f : Option LogRecord) × (d ≡ Differs.Log self.now.transaction.t o f)
             × (option_map record_of o ≡ self.now.ours) × (option_map record_of f ≡ first_of (id_of self.now) (open_records log.now.slots))) }
     {
-        self.at_log
-            .ties(self.transaction, identifier(self.transaction), log)
+        self.at_log.ties(self.transaction, log)
     }
 }

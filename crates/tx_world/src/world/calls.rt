@@ -1,6 +1,7 @@
 //! The calls that a world is given.
 ghost use Rattle.std.specs.Prelude.{◌≡◌, ◌&&◌, not, List, IfOk, OnOk, OnErr, true, false};
 ghost use Rattle.dtx_values.specs.declared.entry.Answer.TheVariants.{Fine};
+ghost use Rattle.dtx_values.specs.TxIds.{number_of};
 ghost use Rattle.dtx_model.specs.Facts.{has_facts};
 ghost use Rattle.dtx_model.specs.Log.{CommitRecord};
 ghost use Rattle.dtx_model.specs.Tied.{tied};
@@ -55,8 +56,8 @@ impl TxWorld {
         done: u16,
     ) -> Result<Answer, WorldError>
         requires enters { may_enter self.old.world line c.now ≡ true }
-        requires answers { MayAnswer self.old.transaction.value self.old.world c.now done }
-        ensures answer { IfOk result (λ a. a ≡ answer_at self.old.transaction.value self.old.world c.now done) }
+        requires answers { MayAnswer (number_of self.old.transaction) self.old.world c.now done }
+        ensures answer { IfOk result (λ a. a ≡ answer_at (number_of self.old.transaction) self.old.world c.now done) }
         ensures done { OnOk result (Does D.faults (Calls line actor c.now done) self.old log.now self.new log.now) }
         ensures fits { (rs : List CommitRecord) → Fits self.old rs → Fits self.new rs }
         ensures tied { tied self.old.world.past ≡ true → tied self.new.world.past ≡ true }
@@ -81,8 +82,8 @@ impl TxWorld {
         done: u16,
     ) -> Result<Answer, WorldError>
         requires enters { may_enter self.old.world line c.now ≡ true }
-        requires answers { MayAnswer self.old.transaction.value self.old.world c.now done }
-        ensures answer { IfOk result (λ a. a ≡ answer_at self.old.transaction.value self.old.world c.now done) }
+        requires answers { MayAnswer (number_of self.old.transaction) self.old.world c.now done }
+        ensures answer { IfOk result (λ a. a ≡ answer_at (number_of self.old.transaction) self.old.world c.now done) }
         ensures done { OnOk result (DoesAt up life (Calls line actor c.now done) self.old self.new) }
         ensures memory { OnErr result (self.new ≡ self.old) }
     {
@@ -111,7 +112,7 @@ impl TxWorld {
     /// What a call is answered that the local side doesn't answer alone, for which so many steps were done.
     fn answer_far(&self, c: &Call, done: u16) -> Answer
         requires far { is_near self.now.world c.now ≡ false }
-        ensures { result ≡ answer_at self.now.transaction.value self.now.world c.now done }
+        ensures { result ≡ answer_at (number_of self.now.transaction) self.now.world c.now done }
     {
         match *c {
             Call::Await(_) => self.half.if_begun(await_answer(self.half.told_client())),
@@ -136,7 +137,7 @@ impl TxWorld {
         requires enters { may_enter self.old.world line c.now ≡ true }
         requires kind { is_linking c.now ≡ true }
         requires far { is_near self.old.world c.now ≡ false }
-        requires fine { answer_at self.old.transaction.value self.old.world c.now done ≡ Fine }
+        requires fine { answer_at (number_of self.old.transaction) self.old.world c.now done ≡ Fine }
         ensures done { OnOk result (DoesAlone (Calls line actor c.now done) self.old self.new) }
         ensures memory { OnErr result (self.new ≡ self.old) }
     {
@@ -159,8 +160,8 @@ impl TxWorld {
         answer: Answer,
     ) -> Result<(), WorldError>
         requires enters { may_enter self.old.world line c.now ≡ true }
-        requires answers { MayAnswer self.old.transaction.value self.old.world c.now done }
-        requires answer { answer ≡ answer_at self.old.transaction.value self.old.world c.now done }
+        requires answers { MayAnswer (number_of self.old.transaction) self.old.world c.now done }
+        requires answer { answer ≡ answer_at (number_of self.old.transaction) self.old.world c.now done }
         requires alone { has_facts answer ≡ false }
         ensures done { OnOk result (DoesAlone (Calls line actor c.now done) self.old self.new) }
         ensures memory { OnErr result (self.new ≡ self.old) }

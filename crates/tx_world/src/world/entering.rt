@@ -1,6 +1,7 @@
 //! The calls.
 ghost use Rattle.std.specs.Prelude.{ℕ, ◌≡◌, ◌<◌, ◌||◌, not, vec_capacity, vec_len, IfOk, OnOk, OnErr, true};
 ghost use Rattle.dtx_values.specs.declared.call.Call.TheVariants.{Lose, Recovered};
+ghost use Rattle.dtx_values.specs.TxIds.{number_of};
 ghost use Rattle.dtx_values.specs.declared.entry.Answer.TheVariants.{Fine};
 ghost use Rattle.dtx_model.specs.Caused.{MayAnswer};
 ghost use Rattle.dtx_model.specs.Steps.{Calls};
@@ -63,8 +64,8 @@ impl TxWorld {
         requires near { is_local c.now ≡ true }
         requires unlinked { is_unlinked self.old.world c.now ≡ true }
         requires enters { may_enter self.old.world line c.now ≡ true }
-        requires answers { MayAnswer self.old.transaction.value self.old.world c.now done }
-        ensures answer { IfOk result (λ a. a ≡ answer_at self.old.transaction.value self.old.world c.now done) }
+        requires answers { MayAnswer (number_of self.old.transaction) self.old.world c.now done }
+        ensures answer { IfOk result (λ a. a ≡ answer_at (number_of self.old.transaction) self.old.world c.now done) }
         ensures done { OnOk result (DoesAt up life (Calls line actor c.now done) self.old self.new) }
         ensures memory { OnErr result (self.new ≡ self.old) }
     {
@@ -85,7 +86,7 @@ impl TxWorld {
 
     /// What a `lose` is answered.
     pub(super) fn answer_lose(&self, u: TxNo, c: Conn, up: u16, down: u16) -> Answer
-        ensures { (m : ℕ) → result ≡ answer_at self.now.transaction.value self.now.world (Lose u c up down) m }
+        ensures { (m : ℕ) → result ≡ answer_at (number_of self.now.transaction) self.now.world (Lose u c up down) m }
     {
         let is_open = self.history.is_open(c);
         self.half.if_begun(if is_open {
@@ -106,7 +107,7 @@ impl TxWorld {
         down: u16,
     ) -> Result<(), WorldError>
         requires enters { may_enter self.old.world line (Lose u c up down) ≡ true }
-        requires fine { answer_at self.old.transaction.value self.old.world (Lose u c up down) 0 ≡ Fine }
+        requires fine { answer_at (number_of self.old.transaction) self.old.world (Lose u c up down) 0 ≡ Fine }
         ensures done { (m : ℕ) → OnOk result (DoesAlone (Calls line actor (Lose u c up down) m) self.old self.new) }
         ensures memory { OnErr result (self.new ≡ self.old) }
     {
@@ -123,7 +124,7 @@ impl TxWorld {
 
     /// What a `recovered` is answered.
     pub(super) fn answer_recovered(&self, u: TxNo, r: RmNo) -> Answer
-        ensures { (m : ℕ) → result ≡ answer_at self.now.transaction.value self.now.world (Recovered u r) m }
+        ensures { (m : ℕ) → result ≡ answer_at (number_of self.now.transaction) self.now.world (Recovered u r) m }
     {
         self.half
             .if_begun(recovery_answer(&self.half, &self.core, &self.history, r))
@@ -138,7 +139,7 @@ impl TxWorld {
         r: RmNo,
     ) -> Result<(), WorldError>
         requires enters { may_enter self.old.world line (Recovered u r) ≡ true }
-        requires fine { answer_at self.old.transaction.value self.old.world (Recovered u r) 0 ≡ Fine }
+        requires fine { answer_at (number_of self.old.transaction) self.old.world (Recovered u r) 0 ≡ Fine }
         ensures done { (m : ℕ) → OnOk result (DoesAlone (Calls line actor (Recovered u r) m) self.old self.new) }
         ensures memory { OnErr result (self.new ≡ self.old) }
     {

@@ -1,6 +1,7 @@
 //! The losses of enlistments.
 ghost use Rattle.std.specs.Prelude.{ℕ, ◌≡◌, ◌&&◌, ◌||◌, not, OnOk, OnErr, true, false};
 ghost use Rattle.dtx_values.specs.declared.call.Call.TheVariants.{Gone};
+ghost use Rattle.dtx_values.specs.TxIds.{number_of};
 ghost use Rattle.dtx_values.specs.declared.entry.Answer.TheVariants.{Fine};
 ghost use Rattle.dtx_values.specs.Class.{is_promotable};
 ghost use Rattle.dtx_values.specs.Row.{is_of};
@@ -53,7 +54,7 @@ impl TxWorld {
 
     /// What a `gone` is answered.
     pub(super) fn answer_gone(&self, e: EnlNo) -> Answer
-        ensures { (m : ℕ) → result ≡ answer_at self.now.transaction.value self.now.world (Gone e) m }
+        ensures { (m : ℕ) → result ≡ answer_at (number_of self.now.transaction) self.now.world (Gone e) m }
     {
         self.half.if_begun(self.half.gone_answer(e))
     }
@@ -68,7 +69,7 @@ impl TxWorld {
         e: EnlNo,
     ) -> Result<(), WorldError>
         requires enters { may_enter self.old.world line (Gone e) ≡ true }
-        requires fine { answer_at self.old.transaction.value self.old.world (Gone e) 0 ≡ Fine }
+        requires fine { answer_at (number_of self.old.transaction) self.old.world (Gone e) 0 ≡ Fine }
         requires linked { is_empty (open_ones self.old.world e) ≡ false }
         ensures done { (m : ℕ) → OnOk result (DoesAlone (Calls line actor (Gone e) m) self.old self.new) }
         ensures memory { OnErr result (self.new ≡ self.old) }

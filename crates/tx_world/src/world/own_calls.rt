@@ -1,6 +1,7 @@
 //! Calls with the steps before them, calls whose steps the caller made, and the status.
 ghost use Rattle.std.specs.Prelude.{ℕ, ◌≡◌, ◌∷◌, List, IfOk, OnOk, OnErr, IsTrue, true, is_some};
 ghost use Rattle.dtx_values.specs.declared.call.Call.TheVariants.{Status as StatusCall};
+ghost use Rattle.dtx_values.specs.TxIds.{number_of};
 ghost use Rattle.dtx_values.specs.declared.entry.Answer.TheVariants.{Did};
 ghost use Rattle.dtx_values.specs.declared.entry.Entry.TheVariants.{Called};
 ghost use Rattle.dtx_values.specs.declared.number.TxNo.{TxNo};
@@ -40,7 +41,7 @@ impl TxWorld {
     /// The status of the transaction: active while nothing is decided, also before it is begun. Once it is begun, a `status` is answered so.
     pub fn status(&self) -> Status
         ensures decided { result ≡ status_of (half self.now.world).seen.decided }
-        ensures answer { (t : TxNo) (m : ℕ) → answer_at self.now.transaction.value self.now.world (StatusCall t) m ≡ if_begun (half self.now.world).seen.limit (said result) }
+        ensures answer { (t : TxNo) (m : ℕ) → answer_at (number_of self.now.transaction) self.now.world (StatusCall t) m ≡ if_begun (half self.now.world).seen.limit (said result) }
     {
         status_of(self.half.decided())
     }
@@ -54,7 +55,7 @@ impl TxWorld {
     pub fn did(&mut self, actor: ActorNo, line: u32, c: &Call, m: u16) -> Result<(), WorldError>
         requires enters { may_enter self.old.world line c.now ≡ true }
         requires kind { is_do c.now ≡ true }
-        requires answers { MayAnswer self.old.transaction.value self.old.world c.now m }
+        requires answers { MayAnswer (number_of self.old.transaction) self.old.world c.now m }
         ensures done { OnOk result (DoesAlone (Calls line actor c.now m) self.old self.new) }
         ensures wrote { is_some (half self.old.world).seen.limit ≡ true → OnOk result (self.new.world.past ≡ Called line actor (Did m) ∷ self.old.world.past) }
         ensures fits { (rs : List CommitRecord) → Fits self.old rs → Fits self.new rs }

@@ -1,6 +1,7 @@
 //! What a stop of the log makes of a transaction.
 ghost use Rattle.std.specs.Prelude.{◌≡◌, ◌&&◌, not, nat_le, OnOk, OnErr, true, if◌then◌else◌};
 ghost use Rattle.dtx_model.specs.Steps.{Stops, after};
+ghost use Rattle.dtx_values.specs.TxIds.{number_of};
 ghost use Rattle.dtx_model.specs.Tied.{tied};
 ghost use Rattle.tx_world.specs.State.{is_hit_by};
 ghost use Rattle.tx_world.specs.Prepared.{NamesPrepared};
@@ -36,7 +37,7 @@ impl TxWorld {
     /// [`WorldError::Memory`] where memory ran out, and then nothing was done.
     pub fn coordinator_stopped(&mut self, life: u64) -> Result<(), WorldError>
         ensures transaction { self.new.transaction ≡ self.old.transaction }
-        ensures world { OnOk result (self.new.world ≡ (if is_hit_by life self.old then after self.old.transaction.value self.old.world Stops else self.old.world)) }
+        ensures world { OnOk result (self.new.world ≡ (if is_hit_by life self.old then after (number_of self.old.transaction) self.old.world Stops else self.old.world)) }
         ensures kept { (self.new.ours ≡ self.old.ours) × (self.new.unsure ≡ self.old.unsure) × (self.new.life ≡ self.old.life) }
         ensures tied { tied self.old.world.past ≡ true → tied self.new.world.past ≡ true }
         ensures named { NamesPrepared self.old → NamesPrepared self.new }

@@ -1,6 +1,6 @@
 use Rattle.std.proofs.Common.{arith}
 use Rattle.std.proofs.lemmas.Bool.Decides.{nat_tests}
-use Rattle.dtx_model.proofs.SameNumbers.{same_scope}
+use Rattle.dtx_values.proofs.SameNumbers.{same_scope}
 use Rattle.line_words.proofs.Values.{made}
 use Rattle.line_words.proofs.names.scope_of.Goals as goal
 

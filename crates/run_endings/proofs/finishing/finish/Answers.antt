@@ -23,11 +23,11 @@ returns-clause-finished g c =
     let tested = c.test_all.ensures in
     let first : OnOk c.test_all.result ((each (λ (x : Cell). are_first (par_line s) x.tx.world.past) states ≡ true) × (are_first (par_line s) log.past ≡ true)) =
     both_ok (each (λ (x : Cell). are_first (par_line s) x.tx.world.past) states ≡ true) (are_first (par_line s) log.past ≡ true) c.test_all.result tested.first tested.first_at_log in
-    all_ok {P = (map (λ (x : Cell). x.tx.transaction.value) states ≡ transactions_of s) × All (λ (x : Cell). TiesWith x.tx log.log) states} {Q = each (λ (x : Cell). follows log.past x.tx.world.past) states ≡ true}
+    all_ok {P = (map (λ (x : Cell). x.tx.transaction.t.value) states ≡ transactions_of s) × All (λ (x : Cell). TiesWith x.tx log.log) states} {Q = each (λ (x : Cell). follows log.past x.tx.world.past) states ≡ true}
     {R = (each (λ (x : Cell). are_first (par_line s) x.tx.world.past) states ≡ true) × (are_first (par_line s) log.past ≡ true)}
     {S = AreFinished g.N.Run.script states log} c.test_all.result
     (λ known followed first. record {
-      named = subst (λ (l : List Line). map (λ (x : Cell). x.tx.transaction.value) states ≡ transactions_of l) c.requires.named known.0;
+      named = subst (λ (l : List Line). map (λ (x : Cell). x.tx.transaction.t.value) states ≡ transactions_of l) c.requires.named known.0;
       entered = still_entered c.enter_all.new.states states settled.calls entered.entered;
       entered_at_log = ap are_entered settled.log_rows ∙ entered.at_log;
       settled = settled.settled;
@@ -36,4 +36,4 @@ returns-clause-finished g c =
       first = subst (λ (l : List Line). each (λ (x : Cell). are_first (par_line l) x.tx.world.past) states ≡ true) c.requires.named first.0;
       first_at_log = subst (λ (l : List Line). are_first (par_line l) log.past ≡ true) c.requires.named first.1;
     })
-    (both_ok (map (λ (x : Cell). x.tx.transaction.value) states ≡ transactions_of s) (All (λ (x : Cell). TiesWith x.tx log.log) states) c.test_all.result tested.named tested.tied) tested.followed first
+    (both_ok (map (λ (x : Cell). x.tx.transaction.t.value) states ≡ transactions_of s) (All (λ (x : Cell). TiesWith x.tx log.log) states) c.test_all.result tested.named tested.tied) tested.followed first

@@ -1,4 +1,4 @@
-use Rattle.script_runner.proofs.Refusals.{bad_answer, bad_never, do_answer, do_never, good_answer}
+use Rattle.script_runner.proofs.Refusals.{bad_answer, bad_never, do_answer, do_never, good_answer, refuses_unlisted}
 use Rattle.script_runner.proofs.program.run_in.Goals as goal
 
 pub returns-in-Err-clause-bad_refused : goal.returns-in-Err-clause-bad_refused
@@ -6,6 +6,9 @@ returns-in-Err-clause-bad_refused g c n cause b told bad = bad_answer c.reads_ex
 
 pub returns-in-Err-clause-do_refused : goal.returns-in-Err-clause-do_refused
 returns-in-Err-clause-do_refused g c n on b told at = do_answer c.reads_exactly.ensures.either c.reads_exactly.ensures.one c.args.way _ c.in-Err.exit c.in-Err.ensures.refused n b told at
+
+pub returns-in-Err-clause-unlisted : goal.returns-in-Err-clause-unlisted
+returns-in-Err-clause-unlisted g c p e = refuses_unlisted c.args.way _ c.in-Err.exit c.in-Err.ensures.refused p e
 
 pub returns-in-Err-clause-done : goal.returns-in-Err-clause-done
 returns-in-Err-clause-done g c good read_calm disk_calm sink_calm =

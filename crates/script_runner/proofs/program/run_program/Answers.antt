@@ -2,11 +2,11 @@ use Rattle.std.proofs.Common.{◌≡◌, ◌∙◌, ℕ, inl, inr, map, refl, su
 use Rattle.std.specs.String.{string_bytes}
 use Rattle.program_words.specs.Commands.{Asks}
 use Rattle.script_maker.specs.Gen.{gen}
-use Rattle.program_io.specs.declared.exit.Exit.TheVariants.{NotThreadable, Usage}
-use Rattle.program_words.specs.declared.command.Command.TheVariants.{Replay, Make, Demo, Threads}
+use Rattle.program_io.specs.declared.exit.Exit.TheVariants.{NotALog, NotThreadable, Usage}
+use Rattle.program_words.specs.declared.command.Command.TheVariants.{Replay, Make, Demo, Threads, Log}
 use Rattle.program_words.specs.declared.command.Form.{Form}
 use Rattle.script_runner.proofs.Programs.{demo_same, form_same, made_same, threads_same}
-use Rattle.script_runner.proofs.Refusals.{good_replay, good_threads, made_bad, made_do, made_done, no_replay, no_run, no_threads, not_judged, not_on_threads, sure_bad, sure_do, sure_done}
+use Rattle.script_runner.proofs.Refusals.{good_replay, good_threads, list_bad, list_do, made_bad, made_do, made_done, made_unlisted, no_input, no_replay, no_run, no_threads, not_judged, not_on_threads, sure_bad, sure_do, sure_done, sure_unlisted}
 use Rattle.script_runner.proofs.program.run_program.Goals as goal
 
 pub returns-in-Some-Replay-clause-headline : goal.returns-in-Some-Replay-clause-headline
@@ -186,6 +186,60 @@ pub returns-in-Some-Demo-clause-given_up_whole : goal.returns-in-Some-Demo-claus
 returns-in-Some-Demo-clause-given_up_whole g c asks =
     absurd ((no_replay _ (Demo c.in-Some-Demo.n) (λ f e. cc) (λ x given. c.in-Some-Demo.ensures.one x _ given c.in-Some-Demo.ensures.some ∙ c.in-Some-Demo.field-0-is)) asks)
 
+pub returns-in-Some-Make-clause-no_log : goal.returns-in-Some-Make-clause-no_log
+returns-in-Some-Make-clause-no_log g c p e = absurd (made_unlisted c.make_in.result c.make_in.ensures.answers p e)
+
+pub returns-in-Some-Make-clause-unlisted : goal.returns-in-Some-Make-clause-unlisted
+returns-in-Some-Make-clause-unlisted g c p e = absurd (made_unlisted c.make_in.result c.make_in.ensures.answers p e)
+
+pub returns-in-Some-Demo-clause-no_log : goal.returns-in-Some-Demo-clause-no_log
+returns-in-Some-Demo-clause-no_log g c p e = absurd (sure_unlisted c.demo_in.result.0 c.demo_in.ensures.answers p e)
+
+pub returns-in-Some-Demo-clause-unlisted : goal.returns-in-Some-Demo-clause-unlisted
+returns-in-Some-Demo-clause-unlisted g c p e = absurd (sure_unlisted c.demo_in.result.0 c.demo_in.ensures.answers p e)
+
+pub returns-in-Some-Log-clause-no_log : goal.returns-in-Some-Log-clause-no_log
+returns-in-Some-Log-clause-no_log g c p e =
+    (subst (λ d. Asks (map string_bytes c.args.words.now) d) c.in-Some-Log.field-0-is c.in-Some-Log.ensures.some, λ h. c.list_in.ensures.no_log h p e)
+
+pub returns-in-Some-Log-clause-no_log_refused : goal.returns-in-Some-Log-clause-no_log_refused
+returns-in-Some-Log-clause-no_log_refused g c asks h p e = c.list_in.ensures.refused h p e
+
+pub returns-in-Some-Log-clause-unlisted : goal.returns-in-Some-Log-clause-unlisted
+returns-in-Some-Log-clause-unlisted g c p e = c.list_in.ensures.unwritten (inr (p, e))
+
+pub returns-in-Some-Log-clause-read : goal.returns-in-Some-Log-clause-read
+returns-in-Some-Log-clause-read g c asks =
+    absurd (no_run _ (no_replay _ Log (λ f e. cc) (λ x given. c.in-Some-Log.ensures.one x _ given c.in-Some-Log.ensures.some ∙ c.in-Some-Log.field-0-is)) (no_threads _ Log (λ h f e. cc) (λ x given. c.in-Some-Log.ensures.one x _ given c.in-Some-Log.ensures.some ∙ c.in-Some-Log.field-0-is)) asks)
+
+pub returns-in-Some-Log-clause-judged : goal.returns-in-Some-Log-clause-judged
+returns-in-Some-Log-clause-judged g c judged b told =
+    absurd (not_judged c.list_in.result.0 (list_bad c.list_in.result.0 c.list_in.ensures.answers) (list_do c.list_in.result.0 c.list_in.ensures.answers) judged)
+
+pub returns-in-Some-Log-clause-bad : goal.returns-in-Some-Log-clause-bad
+returns-in-Some-Log-clause-bad g c n cause e =
+    absurd (list_bad c.list_in.result.0 c.list_in.ensures.answers n cause e)
+
+pub returns-in-Some-Log-clause-bad_refused : goal.returns-in-Some-Log-clause-bad_refused
+returns-in-Some-Log-clause-bad_refused g c n cause asks =
+    absurd (no_run _ (no_replay _ Log (λ f e. cc) (λ x given. c.in-Some-Log.ensures.one x _ given c.in-Some-Log.ensures.some ∙ c.in-Some-Log.field-0-is)) (no_threads _ Log (λ h f e. cc) (λ x given. c.in-Some-Log.ensures.one x _ given c.in-Some-Log.ensures.some ∙ c.in-Some-Log.field-0-is)) asks)
+
+pub returns-in-Some-Log-clause-not_threadable : goal.returns-in-Some-Log-clause-not_threadable
+returns-in-Some-Log-clause-not_threadable g c n e =
+    absurd (list_do c.list_in.result.0 c.list_in.ensures.answers n e)
+
+pub returns-in-Some-Log-clause-do_refused : goal.returns-in-Some-Log-clause-do_refused
+returns-in-Some-Log-clause-do_refused g c n asks =
+    absurd ((no_threads _ Log (λ h f e. cc) (λ x given. c.in-Some-Log.ensures.one x _ given c.in-Some-Log.ensures.some ∙ c.in-Some-Log.field-0-is)) asks)
+
+pub returns-in-Some-Log-clause-done : goal.returns-in-Some-Log-clause-done
+returns-in-Some-Log-clause-done g c can a b d =
+    absurd (no_input _ _ (λ x given. c.in-Some-Log.ensures.one x _ given c.in-Some-Log.ensures.some ∙ c.in-Some-Log.field-0-is) can)
+
+pub returns-in-Some-Log-clause-given_up_whole : goal.returns-in-Some-Log-clause-given_up_whole
+returns-in-Some-Log-clause-given_up_whole g c asks =
+    absurd ((no_replay _ Log (λ f e. cc) (λ x given. c.in-Some-Log.ensures.one x _ given c.in-Some-Log.ensures.some ∙ c.in-Some-Log.field-0-is)) asks)
+
 pub returns-in-None-clause-read : goal.returns-in-None-clause-read
 returns-in-None-clause-read g c asks =
     absurd (no_run _ (λ a. c.in-None.ensures.none _ a.1) (λ a. c.in-None.ensures.none _ a.2) asks)
@@ -211,3 +265,12 @@ returns-in-None-clause-made_answers g c n asks = absurd (c.in-None.ensures.none 
 
 pub returns-in-None-clause-demo_answers : goal.returns-in-None-clause-demo_answers
 returns-in-None-clause-demo_answers g c n asks = absurd (c.in-None.ensures.none _ asks)
+
+pub returns-in-None-clause-list_answers : goal.returns-in-None-clause-list_answers
+returns-in-None-clause-list_answers g c asks = absurd (c.in-None.ensures.none _ asks)
+
+pub returns-in-None-clause-no_log : goal.returns-in-None-clause-no_log
+returns-in-None-clause-no_log g c p e = absurd (let k : Usage ≡ NotALog p = e in cc)
+
+pub returns-in-None-clause-no_log_refused : goal.returns-in-None-clause-no_log_refused
+returns-in-None-clause-no_log_refused g c asks = absurd (c.in-None.ensures.none _ asks)

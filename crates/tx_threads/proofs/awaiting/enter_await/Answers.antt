@@ -1,5 +1,6 @@
 use Rattle.std.proofs.Common.{◌≡◌, true, false, sym, ◌∙◌}
 use Rattle.dtx_values.specs.declared.entry.Answer.TheVariants.{OutcomeIs, StillOpen}
+use Rattle.dtx_values.specs.TxIds.{number_of}
 use Rattle.dtx_model.specs.Entries.{client_told_of}
 use Rattle.dtx_model.specs.Words.{latest}
 use Rattle.tx_cells.specs.Entering.{next_of}
@@ -36,4 +37,4 @@ returns-clause-later g c e =
 
 pub returns-then-is_of_line-clause-called : goal.returns-then-is_of_line-clause-called
 returns-then-is_of_line-clause-called g c =
-    later_called g.N.Run.script c.args.state.now.tx.transaction.value c.args.line c.args.a c.next-next.result c.requires.awaits (sym c.if-is_of_line.ensures) c.next-next.ensures.ours
+    later_called g.N.Run.script (number_of c.args.state.now.tx.transaction) c.args.line c.args.a c.next-next.result c.requires.awaits (sym c.if-is_of_line.ensures) c.next-next.ensures.ours

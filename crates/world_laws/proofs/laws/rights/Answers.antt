@@ -1,3 +1,4 @@
+use Rattle.std.proofs.Common.{arith}
 use Rattle.std.proofs.Common.{◌∷◌}
 use Rattle.dtx_model.specs.World.{World}
 use Rattle.dtx_model.specs.Words.{onto}
@@ -10,7 +11,7 @@ use Rattle.world_laws.proofs.laws.rights.Goals as goal
 
 pub returns-clause-placed : goal.returns-clause-placed
 returns-clause-placed c = λ s t h named r.
-    let w : World = record { calls = r.0; past = h } in right_placed (IsCallOf s t.value) t r.1.0 w (script_once s t.value named) r.1.1
+    let w : World = record { calls = r.0; past = h } in right_placed (IsCallOf s t.value) t.value r.1.0 w t.in_range.0 (let high = t.in_range.1 in omega (arith, high)) (script_once s t.value named) r.1.1
 
 pub returns-clause-one : goal.returns-clause-one
 returns-clause-one c = λ s t h named r d. in_one_place h (free_keeps (IsCallOf s t) t h (script_once s t named) r d)

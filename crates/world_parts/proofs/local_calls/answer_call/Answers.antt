@@ -1,5 +1,6 @@
 use Rattle.std.proofs.Common.{◌≡◌, ◌∷◌, [], List, true, ap, refl, ◌∙◌}
 use Rattle.dtx_values.specs.Outgoing.{written}
+use Rattle.dtx_values.specs.TxIds.{number_of}
 use Rattle.dtx_values.specs.declared.entry.Answer.{Answer}
 use Rattle.dtx_values.specs.declared.entry.Entry.{Entry}
 use Rattle.dtx_values.specs.declared.entry.Entry.TheVariants.{Called}
@@ -18,7 +19,7 @@ call-requires-clause-own c = answers_itself c.args.c.now c.requires.near c.in_de
 pub returns-in_default : goal.returns-in_default
 returns-in_default c =
     let h = c.args.half.now in
-    let t = h.transaction.value in
+    let t = (number_of h.transaction) in
     let own = answers_itself c.args.c.now c.requires.near c.in_default.not-Await c.in_default.not-Do c.in_default.not-Gone in
     let same = own_call t h.half c.args.line c.args.actor c.args.c.now c.args.done own in
     let mine = entered (Calls c.args.line c.args.actor c.args.c.now c.args.done) [] in
@@ -33,10 +34,10 @@ unheard : (c : After-put) → is_told c.args.c.now ≡ true
 unheard c = elim c.match-c.branch [ in-Do w ↦ ap is_told w.in-Do.is | in-Await w ↦ ap is_told w.in-Await.is ]
 
 -- and is answered so
-answered : (c : After-put) → c.match-c.answer ≡ half_answer c.args.half.now.transaction.value c.args.half.now.half c.args.c.now c.args.done
+answered : (c : After-put) → c.match-c.answer ≡ half_answer (number_of c.args.half.now.transaction) c.args.half.now.half c.args.c.now c.args.done
 answered c =
     let h = c.args.half.now in
-    let t = h.transaction.value in
+    let t = (number_of h.transaction) in
     elim c.match-c.branch [
       | in-Do w ↦ w.answer-is ∙ w.if_begun-answer.ensures ∙ do_answer t h.half c.args.c.now w.in-Do.field-0 w.in-Do.field-1 w.in-Do.field-2 c.args.done w.in-Do.is
       | in-Await w ↦
@@ -55,7 +56,7 @@ returns-clause-state c = told_known c.args.half.now c.args.line c.args.actor c.a
 pub returns-clause-out : goal.returns-clause-out
 returns-clause-out c =
     let h = c.args.half.now in
-    let t = h.transaction.value in
+    let t = (number_of h.transaction) in
     let b = (goal.at.returns-clause-out c).After-put in
     c.put.ensures
     ∙ unsent c.args.out.now (Called c.args.line c.args.actor c.match-c.answer ∷ []) refl

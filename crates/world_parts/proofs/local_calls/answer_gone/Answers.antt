@@ -1,5 +1,6 @@
 use Rattle.std.proofs.Common.{◌≡◌, ◌≢◌, List, ◌∷◌, [], ap, refl, rules, ◌∙◌}
 use Rattle.dtx_values.specs.Outgoing.{Outgoing, written}
+use Rattle.dtx_values.specs.TxIds.{number_of}
 use Rattle.dtx_values.specs.declared.entry.Answer.TheVariants.{Fine}
 use Rattle.dtx_values.specs.declared.entry.Entry.{Entry}
 use Rattle.dtx_values.specs.declared.entry.Entry.TheVariants.{Called}
@@ -25,7 +26,7 @@ returns-then-eq-clause-out c =
     c.gone.ensures.out
     ∙ ap (λ (o : Outgoing). written o (gone_unlinked h.half c.args.e)) (c.put.ensures ∙ unsent c.args.out.now (Called c.args.line c.args.actor x ∷ []) refl)
     ∙ written-written c.args.out.now (Called c.args.line c.args.actor x ∷ []) (gone_unlinked h.half c.args.e)
-    ∙ ap (λ (es : List Entry). written c.args.out.now es) (gone_fine h.transaction.value h.half c.args.line c.args.actor c.args.e x (c.if_begun-answer.ensures ∙ ap (if_begun h.half.seen.limit) c.gone_answer.ensures) fine)
+    ∙ ap (λ (es : List Entry). written c.args.out.now es) (gone_fine (number_of h.transaction) h.half c.args.line c.args.actor c.args.e x (c.if_begun-answer.ensures ∙ ap (if_begun h.half.seen.limit) c.gone_answer.ensures) fine)
 
 pub returns-else-eq-clause-state : goal.returns-else-eq-clause-state
 returns-else-eq-clause-state c =
@@ -41,4 +42,4 @@ returns-else-eq-clause-out c =
     let other : x ≢ Fine = search rules in
     c.put.ensures
     ∙ unsent c.args.out.now (Called c.args.line c.args.actor x ∷ []) refl
-    ∙ ap (λ (es : List Entry). written c.args.out.now es) (gone_refused h.transaction.value h.half c.args.line c.args.actor c.args.e x (c.if_begun-answer.ensures ∙ ap (if_begun h.half.seen.limit) c.gone_answer.ensures) other)
+    ∙ ap (λ (es : List Entry). written c.args.out.now es) (gone_refused (number_of h.transaction) h.half c.args.line c.args.actor c.args.e x (c.if_begun-answer.ensures ∙ ap (if_begun h.half.seen.limit) c.gone_answer.ensures) other)

@@ -1,5 +1,6 @@
 use Rattle.std.proofs.Common.{◌≡◌, ◌∙◌, [], List, false, is_some, ap, subst, sym}
 use Rattle.dtx_values.specs.declared.entry.Entry.{Entry}
+use Rattle.dtx_values.specs.TxIds.{number_of}
 use Rattle.dtx_values.specs.declared.words.Class.{Class}
 use Rattle.dtx_values.specs.Outgoing.{written}
 use Rattle.dtx_values.specs.Support.{is_single}
@@ -50,12 +51,12 @@ unfolding heeds_all
 returns-in_default-clause-state c =
     let k = c.args.self.now in
     let d = c.in_default in
-    let q = idle k.transaction.value k c.args.c.now c.requires.own c.requires.done d.not-Begin d.not-Volatile d.not-Durable d.not-Promotable d.not-Clone d.not-Complete d.not-Commit d.not-Rollback d.not-Tick in
+    let q = idle (number_of k.transaction) k c.args.c.now c.requires.own c.requires.done d.not-Begin d.not-Volatile d.not-Durable d.not-Promotable d.not-Clone d.not-Complete d.not-Commit d.not-Rollback d.not-Tick in
     sym (ap (λ (es : List Entry). after [] (with_call c.args.c.now k) es) q.0 ∙ q.1)
 
 pub returns-in_default-clause-out : goal.returns-in_default-clause-out
 returns-in_default-clause-out c =
     let k = c.args.self.now in
     let d = c.in_default in
-    let q = idle k.transaction.value k c.args.c.now c.requires.own c.requires.done d.not-Begin d.not-Volatile d.not-Durable d.not-Promotable d.not-Clone d.not-Complete d.not-Commit d.not-Rollback d.not-Tick in
+    let q = idle (number_of k.transaction) k c.args.c.now c.requires.own c.requires.done d.not-Begin d.not-Volatile d.not-Durable d.not-Promotable d.not-Clone d.not-Complete d.not-Commit d.not-Rollback d.not-Tick in
     sym (ap (λ (es : List Entry). written c.args.out.now es) q.0 ∙ written-none c.args.out.now)

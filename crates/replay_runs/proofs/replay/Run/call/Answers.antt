@@ -1,5 +1,6 @@
 use Rattle.std.proofs.Common.{◌≡◌, ◌+◌, ◌-◌, ◌++◌, arith, get_or, length, set, subst, sym, ap, ◌∙◌}
 use Rattle.dtx_values.specs.declared.number.TxNo.{TxNo}
+use Rattle.dtx_values.specs.TxIds.{number_of}
 use Rattle.dtx_model.specs.Grammar.{are_named_well}
 use Rattle.dtx_model.specs.Steps.{Calls}
 use Rattle.dtx_model.specs.Traces.{placed}
@@ -71,6 +72,6 @@ returns g c =
       others = did.others;
       entered =
           subst (λ (z : TxState). IsBelow (c.args.n + 1) z) (sym did.now)
-          (below_after c.args.n c.args.actor c.args.c.now c.args.done log.is_up x.transaction.value x y did.does.world (subst (λ (z : TxState). IsBelow c.args.n z) did.was c.requires.below));
+          (below_after c.args.n c.args.actor c.args.c.now c.args.done log.is_up (number_of x.transaction) x y did.does.world (subst (λ (z : TxState). IsBelow c.args.n z) did.was c.requires.below));
       done = entered_turn g.D.Disk.faults g.D.Disk.honest g.D.Disk.image log t c.args.n c.args.actor c.args.c.now c.args.done x y old new did c.requires.holds;
     }

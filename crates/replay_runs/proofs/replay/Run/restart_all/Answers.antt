@@ -1,6 +1,8 @@
 use Rattle.std.proofs.Common.{◌≡◌, ◌≤◌, ◌+◌, ◌-◌, ◌∙◌, ℕ, Option, ap, arith, get_or, is_some, length, refl, set, subst, sym, true}
 use Rattle.std.specs.Prelude.{IfSome}
 use Rattle.dtx_values.specs.declared.entry.Entry.TheVariants.{Restarted}
+use Rattle.dtx_values.specs.TxIds.{first_id, number_of}
+use Rattle.dtx_values.specs.declared.tx_id.TxId.{TxId}
 use Rattle.dtx_values.specs.declared.number.TxNo.{TxNo}
 use Rattle.dtx_model.specs.Caused.{is_begin_sent}
 use Rattle.dtx_model.specs.Tied.{tied}
@@ -81,10 +83,10 @@ past : (g : Over) (c : In_ok-coordinator_restarted g) → c.coordinator_restarte
 past g c =
     let log = c.args.log.now in
     let x = c.index_mut-world.result.now in
-    let same : x.transaction ≡ c.unwrap-t.result = sym (ap (λ (z : TxState). z.transaction) (reached g c)) ∙ c.loop-place.invariant.through.numbered.numbered c.unwrap-t.result in
+    let same : x.transaction ≡ first_id c.unwrap-t.result = sym (ap (λ (z : TxState). z.transaction) (reached g c)) ∙ c.loop-place.invariant.through.numbered.numbered c.unwrap-t.result in
     ap (λ (z : TxState). z.world.past) (is_told g c)
     ∙ (reopened_past log x (subst (λ (z : TxState). has is_begin_sent z.world.past ≡ true → (core z.world).stopped ≡ true) (was g c) (c.requires.stopped c.unwrap-t.result))
-    ∙ ap (λ (u : TxNo). onto x.world.past (one_where (is_reached_by log.life x) (Restarted (is_some (record_in log.slots u.value))))) same)
+    ∙ ap (λ (u : TxId). onto x.world.past (one_where (is_reached_by log.life x) (Restarted (is_some (record_in log.slots (number_of u)))))) same)
 
 calls : (g : Over) (c : In_ok-coordinator_restarted g) → c.coordinator_restarted.new.self.world.calls ≡ c.index_mut-world.result.now.world.calls
 calls g c = ap (λ (z : TxState). z.world.calls) (is_told g c) ∙ reopened_calls c.args.log.now c.index_mut-world.result.now

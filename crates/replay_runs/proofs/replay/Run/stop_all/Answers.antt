@@ -1,6 +1,7 @@
 use Rattle.std.proofs.Common.{◌≡◌, ◌≤◌, ◌+◌, ◌-◌, ◌∙◌, ℕ, Option, ap, arith, get_or, length, refl, set, subst, sym}
 use Rattle.std.specs.Prelude.{IfSome}
 use Rattle.dtx_values.specs.declared.entry.Entry.TheVariants.{Stopped}
+use Rattle.dtx_values.specs.TxIds.{number_of}
 use Rattle.dtx_values.specs.declared.number.TxNo.{TxNo}
 use Rattle.dtx_model.specs.Traces.{placed}
 use Rattle.dtx_model.specs.Words.{onto, past_of}
@@ -30,7 +31,7 @@ note-requires g c =
     let hit = is_hit_by c.args.life x in
     subst (λ (n : ℕ). n ≤ length c.coordinator_stopped.new.self.world.past) (sym c.len-from.ensures)
     (grown c.history.result.now.items x.world.past c.coordinator_stopped.new.self.world.past (one_where hit Stopped) c.history.ensures
-    (ap (λ (w : World). w.past) c.in_ok-coordinator_stopped.ensures.world ∙ hit_past hit x.transaction.value x.world))
+    (ap (λ (w : World). w.past) c.in_ok-coordinator_stopped.ensures.world ∙ hit_past hit (number_of x.transaction) x.world))
 
 -- the transaction stands at the place that the loop has come to
 number : (g : Over) (c : In_ok-coordinator_stopped g) → c.unwrap-t.result.value ≡ c.loop-place.place + 1
@@ -48,7 +49,7 @@ there g c = subst (λ (i : ℕ). c.index_mut-world.result.now ≡ get_or c.loop-
 calls : (g : Over) (c : In_ok-coordinator_stopped g) → c.coordinator_stopped.new.self.world.calls ≡ c.index_mut-world.result.now.world.calls
 calls g c =
     let x = c.index_mut-world.result.now in
-    ap (λ (w : World). w.calls) c.in_ok-coordinator_stopped.ensures.world ∙ hit_calls (is_hit_by c.args.life x) x.transaction.value x.world
+    ap (λ (w : World). w.calls) c.in_ok-coordinator_stopped.ensures.world ∙ hit_calls (is_hit_by c.args.life x) (number_of x.transaction) x.world
 
 pub returns-in_err-note-clause-calls : goal.returns-in_err-note-clause-calls
 returns-in_err-note-clause-calls g c =
@@ -76,7 +77,7 @@ loop-place-preserved g c =
     let world = c.in_ok-coordinator_stopped.ensures.world in
     let number_same = c.coordinator_stopped.ensures.transaction in
     let kept = c.coordinator_stopped.ensures.kept in
-    let past : y.world.past ≡ onto x.world.past (one_where hit Stopped) = ap (λ (w : World). w.past) world ∙ hit_past hit x.transaction.value x.world in
+    let past : y.world.past ≡ onto x.world.past (one_where hit Stopped) = ap (λ (w : World). w.past) world ∙ hit_past hit (number_of x.transaction) x.world in
     let noted = c.in_ok-note.ensures x.world.past (one_where hit Stopped) (sym (as_long c.history.result.now.items x.world.past c.history.ensures) ∙ sym c.len-from.ensures) past in
     let written : past_of c.note.new.trace.items ≡ onto (past_of before) (placed u (one_where hit Stopped)) = ap past_of noted ∙ trace_noted before u (one_where hit Stopped) in
     let record_kept : IsRecordKept y = record { own = c.is_own_run.ensures.run; once = c.is_own_run.ensures.once; ours = c.is_own_run.ensures.ours; tried = c.is_own_run.ensures.tried } in

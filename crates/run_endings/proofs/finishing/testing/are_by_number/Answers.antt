@@ -25,8 +25,8 @@ returns-then-ne g c =
     let at : c.unwrap-t.result.value ≡ c.loop-n.n = search rules in
     let made : is_made c.args.s.now (OfTransaction c.loop-n.n) ≡ true = sym (ap (λ m. is_made c.args.s.now (OfTransaction m)) at) ∙ (sym (c.of-made.ensures c.unwrap-t.result) ∙ sym c.if-not-has.ensures) in
     let rest = subst (λ (cells : List Cell). IsRest c.args.s.now c.args.states.now cells c.loop-n.n) c.in-Some.ensures.cases.0 c.loop-n.invariant in
-    let other : not (c.in-Some.first.now.tx.transaction.value == c.loop-n.n) ≡ true =
-    sym (ap (λ n. not (c.in-Some.first.now.tx.transaction.value == n)) at) ∙ (sym (ap (λ (t : TxNo). not (t.value == c.unwrap-t.result.value)) c.t.ensures) ∙ sym c.if-ne.ensures) in
+    let other : not (c.in-Some.first.now.tx.transaction.t.value == c.loop-n.n) ≡ true =
+    sym (ap (λ n. not (c.in-Some.first.now.tx.transaction.t.value == n)) at) ∙ (sym (ap (λ (t : TxNo). not (t.value == c.unwrap-t.result.value)) c.t.ensures.t) ∙ sym c.if-ne.ensures) in
     (λ e. absurd (cc), λ e. absurd (rest_other c.args.s.now c.args.states.now c.in-Some.others.now c.in-Some.first.now c.loop-n.n (omega (arith, c.loop-n-test.true)) made other rest e))
 
 pub loop-n-preserved : goal.loop-n-preserved
@@ -34,8 +34,8 @@ loop-n-preserved g c =
     let at : c.unwrap-t.result.value ≡ c.loop-n.n = search rules in
     let made : is_made c.args.s.now (OfTransaction c.loop-n.n) ≡ true = sym (ap (λ m. is_made c.args.s.now (OfTransaction m)) at) ∙ (sym (c.of-made.ensures c.unwrap-t.result) ∙ sym c.if-not-has.ensures) in
     let rest = subst (λ (cells : List Cell). IsRest c.args.s.now c.args.states.now cells c.loop-n.n) c.in-Some.ensures.cases.0 c.loop-n.invariant in
-    let same : not (c.in-Some.first.now.tx.transaction.value == c.loop-n.n) ≡ false =
-    sym (ap (λ n. not (c.in-Some.first.now.tx.transaction.value == n)) at) ∙ (sym (ap (λ (t : TxNo). not (t.value == c.unwrap-t.result.value)) c.t.ensures) ∙ sym c.if-ne.ensures) in
+    let same : not (c.in-Some.first.now.tx.transaction.t.value == c.loop-n.n) ≡ false =
+    sym (ap (λ n. not (c.in-Some.first.now.tx.transaction.t.value == n)) at) ∙ (sym (ap (λ (t : TxNo). not (t.value == c.unwrap-t.result.value)) c.t.ensures.t) ∙ sym c.if-ne.ensures) in
     rest_next c.args.s.now c.args.states.now c.in-Some.others.now c.in-Some.first.now c.loop-n.n (omega (arith, c.loop-n-test.true)) made same rest
 
 pub returns : goal.returns

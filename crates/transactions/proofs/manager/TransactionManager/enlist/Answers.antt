@@ -1,12 +1,11 @@
-use Rattle.std.proofs.Common.{◌≡◌, ◌∙◌, Some, List, IfOk, OnErr, true, ap, refl, slice_get, slice_set, subst, sym}
+use Rattle.std.proofs.Common.{◌≡◌, Some, List, IfOk, OnErr, true, ap, refl, slice_get, slice_set, subst, sym}
 use Rattle.std.proofs.lemmas.Option.{slice_get_read}
 use Rattle.std.specs.Vec.{vec_len}
-use Rattle.dtx_model.proofs.SameNumbers.{same_transaction}
 use Rattle.transactions.specs.Enlisting.{EnlistsAt}
-use Rattle.transactions.specs.Slots.{AreSame, Standing, is_used, live_at}
+use Rattle.transactions.specs.Slots.{AreSame, Standing, is_live, live_at}
 use Rattle.transactions.specs.State.{LiveState}
 use Rattle.transactions.proofs.Enlisted.{enlist_leaves, enlisted_at, not_enlisted_at}
-use Rattle.transactions.proofs.Standing.{fits_set, live_here, live_was, numbered_set, others_same}
+use Rattle.transactions.proofs.Standing.{fits_set, live_here, live_number, live_was, numbered_set, others_same, still_live}
 use Rattle.transactions.proofs.manager.TransactionManager.enlist.Goals as goal
 
 pub invariant_of-self-2 : goal.invariant_of-self-2
@@ -18,6 +17,8 @@ invariant_of-self-2 g c =
     let there : slice_get xs c.index.result ≡ Some x = slice_get_read xs (vec_len c.self.inside.lives) c.index.result x c.self.inside.lives.ok.0 (c.in-Some.ensures.variant.0 refl) c.in-Some.ensures.value in (
       numbered_set xs c.index.result x y there c.self.invariant.0 (enlist_leaves g.D.Disk.faults c.self.inside.log c.args.k c.enlist-enlisted.result x y e.enlisted e.failed).1 c.is_sound.ensures.own,
       λ honest. fits_set c.self.inside.log xs c.index.result x y there e.fits (c.self.invariant.1 honest),
+      c.self.invariant.2,
+      c.self.invariant.3,
     )
 
 pub returns-clause-enlisted : goal.returns-clause-enlisted
@@ -29,9 +30,9 @@ returns-clause-enlisted g c =
     let e = c.enlist-enlisted.ensures in
     let t = c.args.t in
     let there : slice_get xs i ≡ Some x = slice_get_read xs (vec_len c.self.inside.lives) i x c.self.inside.lives.ok.0 (c.in-Some.ensures.variant.0 refl) c.in-Some.ensures.value in
-    let used : is_used x.usage ≡ true = sym c.if-not-is_used.ensures in
-    let now = live_here t xs i x y c.index.ensures.place there (ap is_used (enlist_leaves g.D.Disk.faults c.self.inside.log c.args.k c.enlist-enlisted.result x y e.enlisted e.failed).0 ∙ used) in
-    let number : x.number ≡ t = same_transaction x.number t ((c.self.invariant.0 i x there).0 ∙ c.index.ensures.place) in
+    let used : is_live t x ≡ true = sym c.if-not-is_live.ensures in
+    let now = live_here t xs i x y c.index.ensures.place there (still_live t x y (enlist_leaves g.D.Disk.faults c.self.inside.log c.args.k c.enlist-enlisted.result x y e.enlisted e.failed) used) in
+    let number = live_number t x used in
     subst (λ (s : Standing _ _). IfOk c.enlist-enlisted.result (λ r. EnlistsAt g.D.Disk.faults s.log t c.args.k r.0 r.1 r.2 s.lives (slice_set xs i y))) c.self.view_is
     (enlisted_at g.D.Disk.faults c.self.inside.log t c.args.k c.enlist-enlisted.result xs (slice_set xs i y) x y (live_was t xs i x c.index.ensures.place there used) now number e.enlisted)
 
@@ -44,13 +45,16 @@ returns-clause-failed g c =
     let e = c.enlist-enlisted.ensures in
     let t = c.args.t in
     let there : slice_get xs i ≡ Some x = slice_get_read xs (vec_len c.self.inside.lives) i x c.self.inside.lives.ok.0 (c.in-Some.ensures.variant.0 refl) c.in-Some.ensures.value in
-    let used : is_used x.usage ≡ true = sym c.if-not-is_used.ensures in
-    let now = live_here t xs i x y c.index.ensures.place there (ap is_used (enlist_leaves g.D.Disk.faults c.self.inside.log c.args.k c.enlist-enlisted.result x y e.enlisted e.failed).0 ∙ used) in
+    let used : is_live t x ≡ true = sym c.if-not-is_live.ensures in
+    let now = live_here t xs i x y c.index.ensures.place there (still_live t x y (enlist_leaves g.D.Disk.faults c.self.inside.log c.args.k c.enlist-enlisted.result x y e.enlisted e.failed) used) in
     subst (λ (s : Standing _ _). OnErr c.enlist-enlisted.result ((v : LiveState) → live_at t s.lives ≡ Some v → (w : LiveState) × (live_at t (slice_set xs i y) ≡ Some w) × (w ≡ record v { enlisted = w.enlisted }))) c.self.view_is
     (not_enlisted_at t c.enlist-enlisted.result xs (slice_set xs i y) x y (live_was t xs i x c.index.ensures.place there used) now e.failed)
 
 pub returns-clause-others : goal.returns-clause-others
 returns-clause-others g c =
     let xs = c.self.inside.lives.items in
+    let x = c.in-Some.live.now in
+    let y = c.enlist-enlisted.new.self in
+    let there : slice_get xs c.index.result ≡ Some x = slice_get_read xs (vec_len c.self.inside.lives) c.index.result x c.self.inside.lives.ok.0 (c.in-Some.ensures.variant.0 refl) c.in-Some.ensures.value in
     subst (λ (l : List LiveState). AreSame c.args.t l (slice_set xs c.index.result c.enlist-enlisted.new.self)) (ap (λ (s : Standing _ _). s.lives) c.self.view_is)
-    (others_same c.args.t xs c.index.result c.enlist-enlisted.new.self c.index.ensures.place)
+    (others_same c.args.t xs c.index.result x y c.index.ensures.place there (sym c.if-not-is_live.ensures) (enlist_leaves g.D.Disk.faults c.self.inside.log c.args.k c.enlist-enlisted.result x y c.enlist-enlisted.ensures.enlisted c.enlist-enlisted.ensures.failed).1)

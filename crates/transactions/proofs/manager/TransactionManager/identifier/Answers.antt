@@ -1,5 +1,8 @@
 use Rattle.std.proofs.Common.{subst}
 use Rattle.dtx_values.specs.declared.entry.Answer.{Answer}
+use Rattle.dtx_values.specs.declared.call.Call.TheVariants.{Marshal}
+use Rattle.dtx_values.specs.declared.number.TxNo.{TxNo}
+use Rattle.transactions.specs.Doing.{CallsAt}
 use Rattle.transactions.specs.Enlisting.{IsAnswered}
 use Rattle.transactions.proofs.manager.TransactionManager.identifier.Goals as goal
 
@@ -9,7 +12,7 @@ returns-in-Ok-Id-clause-identified g c =
       c.call.new.self.lives,
       called.0,
       called.1,
-      c.in-Ok.ensures.called,
+      subst (λ (p : TxNo). CallsAt g.D.Disk.faults c.args.self.now.log c.args.tx.now.number (Marshal p) called.0 called.1 c.args.self.now.lives c.call.new.self.lives) c.t.ensures c.in-Ok.ensures.called,
       c.wait.ensures.heard,
       subst (λ (a : Answer). IsAnswered c.args.tx.now.number called.0 called.1 a c.wait.new.self.lives) c.in-Ok-Id.field-0-is c.in-Ok-Id.ensures.answered,
     )

@@ -3,4 +3,4 @@ use Rattle.transactions.proofs.manager.TransactionManager.vacant.Given as goal
 
 -- each number that was tried is taken
 abbrev pub invariant-loop-n : goal.invariant-loop-n
-invariant-loop-n g l = AreTaken l.self.log l.self.lives l.n
+invariant-loop-n g l = AreTaken l.self.log l.epoch l.after l.self.lives l.n

@@ -1,5 +1,7 @@
-use Rattle.std.proofs.Common.{sym, ◌∙◌, true}
+use Rattle.std.proofs.Common.{ap, sym, ◌∙◌, true}
+use Rattle.dtx_values.specs.declared.tx_id.TxId.{TxId}
 use Rattle.dtx_model.specs.Steps.{Calls}
+use Rattle.dtx_values.specs.TxIds.{number_of}
 use Rattle.tx_world.specs.OwnCalls.{DoesAlone}
 use Rattle.tx_cells.proofs.Entered.{IsBefore, enters_here, may_be_answered, may_be_entered, needs_no_log, still_kept}
 use Rattle.tx_cells.proofs.Kept.{turned_silent}
@@ -24,9 +26,9 @@ pub invariant_of-self-2 : goal.invariant_of-self-2
 invariant_of-self-2 g c =
     let x = c.self.inside.world in
     let does = c.in_ok-answer.ensures.done in (
-      c.self.invariant.0 ∙ sym does.transaction,
+      c.self.invariant.0 ∙ sym (ap (λ (u : TxId). u.t) does.transaction),
       still_kept _ _ _ _ _ _ _ _ _ _ true c.call_alone.new.self c.advance.new.self (before g (goal.at.invariant_of-self-2 g c).In-Ok) does.transaction
-          (does.world ∙ turned_silent x.transaction.value x.world (Calls c.args.line c.args.a c.in-Ok.call 0)) c.advance.ensures.here c.advance.ensures.others,
+          (does.world ∙ turned_silent (number_of x.transaction) x.world (Calls c.args.line c.args.a c.in-Ok.call 0)) c.advance.ensures.here c.advance.ensures.others,
     )
 
 pub returns-clause-entered : goal.returns-clause-entered

@@ -1,6 +1,7 @@
-use Rattle.std.proofs.Common.{sym, ◌∙◌}
+use Rattle.std.proofs.Common.{ap, sym, ◌∙◌}
 use Rattle.tx_world.specs.State.{TxState}
 use Rattle.tx_world.specs.Stepping.{Does}
+use Rattle.dtx_values.specs.declared.tx_id.TxId.{TxId}
 use Rattle.dtx_model.specs.Steps.{Step}
 use Rattle.tx_cells.proofs.Entered.{IsBefore, enters_here, may_be_entered, may_be_answered, still_kept}
 use Rattle.tx_cells.proofs.cell.CellState.enter_over.Given.{Over}
@@ -20,7 +21,7 @@ enter-requires-clause-answers g c = may_be_answered _ _ _ _ _ _ _ _ _ _ (before 
 pub invariant_of-self-2 : goal.invariant_of-self-2
 invariant_of-self-2 g c =
     let does = c.in_ok-answer.ensures.done in (
-      c.self.invariant.0 ∙ sym does.transaction,
+      c.self.invariant.0 ∙ sym (ap (λ (u : TxId). u.t) does.transaction),
       still_kept _ _ _ _ _ _ _ _ _ _ c.args.log.now.is_up c.enter.new.self c.advance.new.self (before g (goal.at.invariant_of-self-2 g c).In-Ok) does.transaction does.world c.advance.ensures.here c.advance.ensures.others,
     )
 

@@ -1,6 +1,7 @@
 use Rattle.std.proofs.Common.{◌≡◌, true, subst}
 use Rattle.std.specs.Prelude.{IsTrue}
 use Rattle.dtx_model.specs.Caused.{Caused}
+use Rattle.dtx_values.specs.TxIds.{number_of}
 use Rattle.dtx_model.specs.Learned.{Learned}
 use Rattle.dtx_model.specs.Outcome.{agree, justified}
 use Rattle.dtx_model.specs.Promotes.{promotes}
@@ -14,12 +15,12 @@ use Rattle.tx_cells.proofs.cell.CellState.is_caused.Goals as goal
 pub returns-clause-caused : goal.returns-clause-caused
 returns-clause-caused g c =
     let free = c.lifting.ensures.lifted _ _ _ _ c.self.invariant.1.given (_, c.is_own_run.ensures.run) in
-    subst (λ (z : Cell). Caused g.N.Run.script g.N.Run.objects z.tx.transaction.value z.tx.world.past) c.self.view_is (record { freely = free; planned = c.self.invariant.1.planned })
+    subst (λ (z : Cell). Caused g.N.Run.script g.N.Run.objects (number_of z.tx.transaction) z.tx.world.past) c.self.view_is (record { freely = free; planned = c.self.invariant.1.planned })
 
 pub returns-clause-in_order : goal.returns-clause-in_order
 returns-clause-in_order g c =
     let x = c.self.inside.world in
-    subst (λ (z : Cell). IsInOrder g.N.Run.script z.tx.transaction.value z.tx.world.calls) c.self.view_is (in_order_of g.N.Run.script x.transaction.value c.self.inside.rows x.world.calls c.self.invariant.1.in_order)
+    subst (λ (z : Cell). IsInOrder g.N.Run.script (number_of z.tx.transaction) z.tx.world.calls) c.self.view_is (in_order_of g.N.Run.script (number_of x.transaction) c.self.inside.rows x.world.calls c.self.invariant.1.in_order)
 
 pub returns-clause-wires : goal.returns-clause-wires
 returns-clause-wires g c =
@@ -29,7 +30,7 @@ returns-clause-wires g c =
 pub returns-clause-tied_promotes : goal.returns-clause-tied_promotes
 returns-clause-tied_promotes g c =
     let free = c.lifting.ensures.lifted _ _ _ _ c.self.invariant.1.given (_, c.is_own_run.ensures.run) in
-    subst (λ (z : Cell). tied z.tx.world.past ≡ true → promotes g.N.Run.script z.tx.transaction.value z.tx.world.past ≡ true) c.self.view_is (c.crossings.ensures.promotes _ _ _ c.self.invariant.1.script.script.named free)
+    subst (λ (z : Cell). tied z.tx.world.past ≡ true → promotes g.N.Run.script (number_of z.tx.transaction) z.tx.world.past ≡ true) c.self.view_is (c.crossings.ensures.promotes _ _ _ c.self.invariant.1.script.script.named free)
 
 pub returns-clause-tied_just : goal.returns-clause-tied_just
 returns-clause-tied_just g c =
@@ -49,7 +50,7 @@ returns-clause-tied_learned g c =
 pub returns-clause-promotes : goal.returns-clause-promotes
 returns-clause-promotes g c =
     let free = c.lifting.ensures.lifted _ _ _ _ c.self.invariant.1.given (_, c.is_own_run.ensures.run) in
-    subst (λ (z : Cell). IsTrue g.N.Run.honest → promotes g.N.Run.script z.tx.transaction.value z.tx.world.past ≡ true) c.self.view_is (λ is. c.crossings.ensures.promotes _ _ _ c.self.invariant.1.script.script.named free (c.self.invariant.1.sound is))
+    subst (λ (z : Cell). IsTrue g.N.Run.honest → promotes g.N.Run.script (number_of z.tx.transaction) z.tx.world.past ≡ true) c.self.view_is (λ is. c.crossings.ensures.promotes _ _ _ c.self.invariant.1.script.script.named free (c.self.invariant.1.sound is))
 
 pub returns-clause-just : goal.returns-clause-just
 returns-clause-just g c =

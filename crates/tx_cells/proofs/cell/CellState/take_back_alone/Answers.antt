@@ -1,5 +1,7 @@
-use Rattle.std.proofs.Common.{◌<◌, true, rules, subst, sym, ◌∙◌}
+use Rattle.std.proofs.Common.{ap, ◌<◌, true, rules, subst, sym, ◌∙◌}
+use Rattle.dtx_values.specs.declared.tx_id.TxId.{TxId}
 use Rattle.dtx_model.specs.Steps.{Replies}
+use Rattle.dtx_values.specs.TxIds.{number_of}
 use Rattle.world_laws.specs.Left.{steps_left}
 use Rattle.tx_world.specs.OwnCalls.{DoesAlone}
 use Rattle.tx_cells.specs.Cell.{Cell}
@@ -30,9 +32,9 @@ invariant_of-self-2 g c =
     let due = is_owed g (goal.at.invariant_of-self-2 g c).After-is_own_run in
     let does = did g (goal.at.invariant_of-self-2 g c).In_ok-reply_alone due in
     let x = c.self.inside.world in (
-      c.self.invariant.0 ∙ sym does.transaction,
+      c.self.invariant.0 ∙ sym (ap (λ (u : TxId). u.t) does.transaction),
       kept_reply g.N.Run.script g.N.Run.objects g.N.Run.honest true x c.reply_alone.new.self c.self.inside.rows c.args.e c.args.n c.args.r c.self.invariant.1 c.is_own_run.ensures.run due c.requires.right does.transaction
-          (does.world ∙ turned_silent x.transaction.value x.world (Replies c.args.e c.args.r)),
+          (does.world ∙ turned_silent (number_of x.transaction) x.world (Replies c.args.e c.args.r)),
     )
 
 pub returns-clause-taken : goal.returns-clause-taken
@@ -45,7 +47,7 @@ returns-clause-taken g c =
       nearer = λ yes.
           subst (λ (z : Cell). steps_left c.reply_alone.new.self.world < steps_left z.tx.world) c.self.view_is
           (reply_nearer true x c.reply_alone.new.self c.args.e c.args.n c.args.r c.is_own_run.ensures.run (sym c.is_due.ensures ∙ c.if-not-is_due.false) c.requires.right.fitting
-          (does.world ∙ turned_silent x.transaction.value x.world (Replies c.args.e c.args.r)));
+          (does.world ∙ turned_silent (number_of x.transaction) x.world (Replies c.args.e c.args.r)));
       late = search rules;
       unmarked = search rules;
     }

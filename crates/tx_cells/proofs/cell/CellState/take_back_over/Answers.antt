@@ -1,4 +1,5 @@
-use Rattle.std.proofs.Common.{◌<◌, rules, subst, sym, ◌∙◌}
+use Rattle.std.proofs.Common.{ap, ◌<◌, rules, subst, sym, ◌∙◌}
+use Rattle.dtx_values.specs.declared.tx_id.TxId.{TxId}
 use Rattle.dtx_model.specs.Steps.{Replies}
 use Rattle.world_laws.specs.Left.{steps_left}
 use Rattle.tx_world.specs.Stepping.{Does}
@@ -25,7 +26,7 @@ pub invariant_of-self-2 : goal.invariant_of-self-2
 invariant_of-self-2 g c =
     let due = is_owed g (goal.at.invariant_of-self-2 g c).After-is_own_run in
     let does = did g (goal.at.invariant_of-self-2 g c).In_ok-reply due in (
-      c.self.invariant.0 ∙ sym does.transaction,
+      c.self.invariant.0 ∙ sym (ap (λ (u : TxId). u.t) does.transaction),
       kept_reply g.N.Run.script g.N.Run.objects g.N.Run.honest c.args.log.now.is_up c.self.inside.world c.reply.new.self c.self.inside.rows c.args.e c.args.n c.args.r c.self.invariant.1 c.is_own_run.ensures.run due c.requires.right does.transaction does.world,
     )
 

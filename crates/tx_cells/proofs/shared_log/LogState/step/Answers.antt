@@ -14,7 +14,8 @@ invariant_of-self-2 g c =
     let d = c.do_step_over.ensures.some (c.in_ok-do_step_over.was ∙ ap Ok yes) in
     let over : StepsOver g.D.Disk.faults g.D.Disk.honest g.D.Disk.image g.N.Run.script c.args.cell.now.tx c.do_step_over.new.self.tx from to =
     record {
-      named = c.is_named.ensures;
+      named = c.is_named.ensures.named;
+      first = c.is_named.ensures.first;
       same = d.done.transaction;
       sure = c.is_up-was_up.ensures.images;
       tie = c.in_ok-do_step_over.ensures.tied;

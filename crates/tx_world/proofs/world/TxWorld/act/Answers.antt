@@ -1,5 +1,6 @@
 use Rattle.std.proofs.Common.{◌≡◌, ◌≤◌, arith, false, length, not, refl, sym, ◌∙◌}
 use Rattle.dtx_model.specs.Steps.{Acts}
+use Rattle.dtx_values.specs.TxIds.{number_of}
 use Rattle.tx_world.proofs.Silent.{act_silent}
 use Rattle.tx_world.proofs.Silently.{ready_written, written_done, written_named, written_whole}
 use Rattle.tx_world.proofs.Written.{Ready, act_ready, world_of}
@@ -22,7 +23,7 @@ short : (c : After-entries) → not c.is_unpromoted-sends.result ≡ false → (
 short c n =
     let u = c.is_unpromoted-sends.result in
     let kept = c.self.invariant.kept in
-    let calm = act_calm c.self.inside.transaction.value (world_of c.self.inside.calls.items c.self.inside.history.past) in
+    let calm = act_calm (number_of c.self.inside.transaction) (world_of c.self.inside.calls.items c.self.inside.history.past) in
     (unsent_there u kept (ready c) calm c.is_unpromoted-sends.ensures n, few_there u kept (ready c) c.in_ok-reserve_for.ensures.same calm c.is_unpromoted-sends.ensures n)
 
 -- so it may be written
@@ -56,11 +57,11 @@ pub write-requires-clause-stopped : goal.write-requires-clause-stopped
 write-requires-clause-stopped c = c.is_stopped.ensures ∙ (ready (goal.at.write-requires-clause-stopped c).After-entries).stopped
 
 pub invariant_of-self-2 : goal.invariant_of-self-2
-invariant_of-self-2 c = written_whole (ready_written (ready (goal.at.invariant_of-self-2 c).After-entries) refl (sym (act_silent c.self.inside.transaction.value (world_of c.self.inside.calls.items c.self.inside.history.past))) refl c.write.ensures.past) c.self.invariant
+invariant_of-self-2 c = written_whole (ready_written (ready (goal.at.invariant_of-self-2 c).After-entries) refl (sym (act_silent (number_of c.self.inside.transaction) (world_of c.self.inside.calls.items c.self.inside.history.past))) refl c.write.ensures.past) c.self.invariant
 
 pub returns-clause-done : goal.returns-clause-done
-returns-clause-done c d = written_done c.self.inside.at_log c.args.self.now (ready_written (ready (goal.at.returns-clause-done c).After-entries) refl (sym (act_silent c.self.inside.transaction.value (world_of c.self.inside.calls.items c.self.inside.history.past))) refl c.write.ensures.past) c.self.view_is
+returns-clause-done c d = written_done c.self.inside.at_log c.args.self.now (ready_written (ready (goal.at.returns-clause-done c).After-entries) refl (sym (act_silent (number_of c.self.inside.transaction) (world_of c.self.inside.calls.items c.self.inside.history.past))) refl c.write.ensures.past) c.self.view_is
 
 -- the record that is kept names who said PREPARED
 pub returns-clause-named : goal.returns-clause-named
-returns-clause-named c n = written_named c.self.inside.at_log c.args.self.now (ready_written (ready (goal.at.returns-clause-named c).After-entries) refl (sym (act_silent c.self.inside.transaction.value (world_of c.self.inside.calls.items c.self.inside.history.past))) refl c.write.ensures.past) c.self.invariant c.self.view_is n
+returns-clause-named c n = written_named c.self.inside.at_log c.args.self.now (ready_written (ready (goal.at.returns-clause-named c).After-entries) refl (sym (act_silent (number_of c.self.inside.transaction) (world_of c.self.inside.calls.items c.self.inside.history.past))) refl c.write.ensures.past) c.self.invariant c.self.view_is n

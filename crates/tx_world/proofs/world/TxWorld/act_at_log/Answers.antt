@@ -1,6 +1,7 @@
 use Rattle.std.proofs.Common.{◌≡◌, ◌∷◌, ◌∙◌, List, true, ap, sym}
 use Rattle.std.specs.Prelude.{IsTrue}
 use Rattle.dtx_values.specs.declared.entry.Entry.{Entry}
+use Rattle.dtx_values.specs.TxIds.{number_of}
 use Rattle.dtx_values.specs.declared.entry.Entry.TheVariants.{Stopped}
 use Rattle.dtx_model.specs.Coordinated.{Coordinated}
 use Rattle.dtx_model.specs.Words.{each, onto}
@@ -29,7 +30,7 @@ did g c =
 lived : (g : Over) (c : After-act g) → c.act.new.self.life ≡ c.self.inside.at_log.life
 lived g c =
     let i = c.self.inside in
-    acted_life g.D.Disk.faults i.core.transaction.value i.core.state c.act.new.core.state i.at_log c.act.new.self c.clear.new.self c.act.new.out c.args.log.now c.act.new.log c.act.ensures.acts
+    acted_life g.D.Disk.faults (number_of i.core.transaction) i.core.state c.act.new.core.state i.at_log c.act.new.self c.clear.new.self c.act.new.out c.args.log.now c.act.new.log c.act.ensures.acts
 
 -- and what is kept then is what the history says
 tried : (g : Over) (c : After-act g) (n : List Entry) → n ≡ onto c.self.inside.history.past (coordinates c.self.inside.core.state c.act.ensures.acts.answer) → tied n ≡ true → IsTried n c.act.new.self

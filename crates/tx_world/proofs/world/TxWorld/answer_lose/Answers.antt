@@ -1,5 +1,6 @@
 use Rattle.std.proofs.Common.{◌≡◌, Bool, ap, sym, ◌∙◌, if◌then◌else◌}
 use Rattle.dtx_values.specs.declared.entry.Answer.TheVariants.{Fine, NoSuch}
+use Rattle.dtx_values.specs.TxIds.{number_of}
 use Rattle.dtx_model.specs.Answers.{if_begun}
 use Rattle.dtx_values.specs.declared.call.Call.TheVariants.{Lose}
 use Rattle.dtx_model.specs.Words.{past_of}
@@ -19,4 +20,4 @@ returns c m =
       | else-is_open v ↦ v.if_begun-is ∙ sym (ap (λ (x : Bool). if x then Fine else NoSuch) v.if-is_open.false)
     ] in
     lose_is i.transaction w i.half i.core c.args.u c.args.c c.args.up c.args.down m b c.if_begun.result c.self.invariant.kept c.is_open-is_open.ensures (c.if_begun.ensures ∙ ap (if_begun i.half.half.seen.limit) is)
-    ∙ ap (λ (x : TxState). answer_at x.transaction.value x.world (Lose c.args.u c.args.c c.args.up c.args.down) m) c.self.view_is
+    ∙ ap (λ (x : TxState). answer_at (number_of x.transaction) x.world (Lose c.args.u c.args.c c.args.up c.args.down) m) c.self.view_is

@@ -1,5 +1,6 @@
 use Rattle.std.proofs.Common.{◌≡◌, ◌∷◌, ◌∙◌, List, Option, true, false, not, nat_le, ap, sym, subst, is_some}
 use Rattle.dtx_values.specs.declared.entry.Entry.{Entry}
+use Rattle.dtx_values.specs.TxIds.{number_of}
 use Rattle.dtx_values.specs.declared.entry.Entry.TheVariants.{Restarted}
 use Rattle.dtx_model.specs.Log.{CommitRecord, first_of}
 use Rattle.dtx_model.specs.Promotes.{identifier_of}
@@ -38,7 +39,7 @@ wrote g c =
 told_it : (g : Over) (c : After-restart g)
     → Whole c.self.inside.transaction (world_of c.self.inside.calls.items c.restart.new.self.past) c.self.inside.half c.restarted.new.core c.restarted.new.self
     × (world_of c.self.inside.calls.items c.restart.new.self.past
-    ≡ after c.self.inside.transaction.value (world_of c.self.inside.calls.items c.self.inside.history.past) (Restarts (is_some (first_of c.identifier.result (open_records c.args.log.now.slots)))))
+    ≡ after (number_of c.self.inside.transaction) (world_of c.self.inside.calls.items c.self.inside.history.past) (Restarts (is_some (first_of c.identifier.result (open_records c.args.log.now.slots)))))
 told_it g c =
     let i = c.self.inside in
     let w = world_of i.calls.items i.history.past in
@@ -60,33 +61,33 @@ returns-clause-reached g c = λ reached.
     let v = world_of i.calls.items c.restart.new.self.past in
     let rs = open_records c.args.log.now.slots in
     let kept = c.restarted.ensures.kept in
-    let P : TxState → Type 0 = λ y. (v ≡ after y.transaction.value y.world (Restarts (is_some (first_of (id_of y) rs)))) × (c.restarted.new.self.ours ≡ first_of (id_of y) rs)
+    let P : TxState → Type 0 = λ y. (v ≡ after (number_of y.transaction) y.world (Restarts (is_some (first_of (id_of y) rs)))) × (c.restarted.new.self.ours ≡ first_of (id_of y) rs)
     × (c.restarted.new.self.unsure ≡ false) × (c.restarted.new.self.life ≡ c.args.log.now.life) in
-    let mine : first_of c.identifier.result rs ≡ first_of (identifier_of i.transaction.value) rs = ap (λ n. first_of n rs) c.identifier.ensures in
+    let mine : first_of c.identifier.result rs ≡ first_of (identifier_of (number_of i.transaction)) rs = ap (λ n. first_of n rs) c.identifier.ensures.identifier in
     subst P c.self.view_is (
-      (told_it g c).1 ∙ ap (λ (o : Option CommitRecord). after i.transaction.value w (Restarts (is_some o))) mine,
+      (told_it g c).1 ∙ ap (λ (o : Option CommitRecord). after (number_of i.transaction) w (Restarts (is_some o))) mine,
       ap (λ (x : LogKept). x.ours) kept ∙ mine,
       ap (λ (x : LogKept). x.unsure) kept,
       ap (λ (x : LogKept). x.life) kept,
     )
 
 -- what it keeps then is what was found
-kept_found : (g : Over) (c : After-restart g) → c.restarted.new.self.ours ≡ first_of (identifier_of c.self.inside.transaction.value) (open_records c.args.log.now.slots)
-kept_found g c = ap (λ (x : LogKept). x.ours) c.restarted.ensures.kept ∙ ap (λ n. first_of n (open_records c.args.log.now.slots)) c.identifier.ensures
+kept_found : (g : Over) (c : After-restart g) → c.restarted.new.self.ours ≡ first_of (identifier_of (number_of c.self.inside.transaction)) (open_records c.args.log.now.slots)
+kept_found g c = ap (λ (x : LogKept). x.ours) c.restarted.ensures.kept ∙ ap (λ n. first_of n (open_records c.args.log.now.slots)) c.identifier.ensures.identifier
 
 pub returns-clause-found : goal.returns-clause-found
 returns-clause-found g c = λ reached up some.
-    had_found (identifier_of c.self.inside.transaction.value) c.restarted.new.self.ours (open_records c.args.log.now.slots) (kept_found g (goal.at.returns-clause-found g c).After-restart) some
+    had_found (identifier_of (number_of c.self.inside.transaction)) c.restarted.new.self.ours (open_records c.args.log.now.slots) (kept_found g (goal.at.returns-clause-found g c).After-restart) some
 
 pub returns-clause-had : goal.returns-clause-had
 returns-clause-had g c = λ was up some.
-    had_found (identifier_of c.self.inside.transaction.value) c.restarted.new.self.ours (open_records c.args.log.now.slots) (kept_found g (goal.at.returns-clause-had g c).After-restart) some
+    had_found (identifier_of (number_of c.self.inside.transaction)) c.restarted.new.self.ours (open_records c.args.log.now.slots) (kept_found g (goal.at.returns-clause-had g c).After-restart) some
 
 pub returns-clause-tied : goal.returns-clause-tied
 returns-clause-tied g c = λ honest d.
     let i = c.self.inside in
     let rs = open_records c.args.log.now.slots in
-    let mine : c.identifier.result ≡ id_of c.args.self.now = c.identifier.ensures ∙ ap (λ (y : TxState). id_of y) c.self.view_is in
+    let mine : c.identifier.result ≡ id_of c.args.self.now = c.identifier.ensures.identifier ∙ ap (λ (y : TxState). id_of y) c.self.view_is in
     let tie = subst (λ n. Tie c.args.self.now.ours c.args.self.now.unsure (first_of n rs)) (sym mine) (c.requires.fits honest).tie in
     restart_tied i.transaction (world_of i.calls.items i.history.past) i.half i.core i.at_log c.args.self.now (first_of c.identifier.result rs) c.restart.new.self.past c.self.invariant c.self.view_is tie
     (wrote g (goal.at.returns-clause-tied g c).After-restart) d
@@ -96,7 +97,7 @@ pub returns-clause-named : goal.returns-clause-named
 returns-clause-named g c = λ honest n.
     let i = c.self.inside in
     let rs = open_records c.args.log.now.slots in
-    let mine : c.identifier.result ≡ id_of c.args.self.now = c.identifier.ensures ∙ ap (λ (y : TxState). id_of y) c.self.view_is in
+    let mine : c.identifier.result ≡ id_of c.args.self.now = c.identifier.ensures.identifier ∙ ap (λ (y : TxState). id_of y) c.self.view_is in
     let tie = subst (λ n. Tie c.args.self.now.ours c.args.self.now.unsure (first_of n rs)) (sym mine) (c.requires.fits honest).tie in
     named_told i.transaction (world_of i.calls.items i.history.past) (world_of i.calls.items c.restart.new.self.past) i.at_log c.restarted.new.self c.args.self.now (not i.core.state.stopped) (first_of c.identifier.result rs)
     (wrote g (goal.at.returns-clause-named g c).After-restart) c.self.view_is tie (ap (λ (x : LogKept). x.ours) c.restarted.ensures.kept) n

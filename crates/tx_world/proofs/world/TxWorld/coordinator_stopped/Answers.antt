@@ -1,6 +1,7 @@
 use Rattle.std.proofs.Common.{◌∷◌, ◌∙◌, ap, sym, nat_le, refl, List}
 use Rattle.std.proofs.lemmas.Bool.{cond-true}
 use Rattle.dtx_values.specs.declared.entry.Entry.{Entry}
+use Rattle.dtx_values.specs.TxIds.{number_of}
 use Rattle.dtx_values.specs.declared.entry.Entry.TheVariants.{Stopped}
 use Rattle.dtx_model.specs.Words.{past_of}
 use Rattle.dtx_model.specs.Steps.{Stops, after}
@@ -28,8 +29,8 @@ returns-clause-world c =
     let hit = ap (is_hit_by c.args.life) c.self.view_is ∙ sym c.is_hit_by.ensures ∙ c.if-not-is_hit_by.false in
     let past = c.stop.ensures.past ∙ ap (λ (h : List Entry). Stopped ∷ h) c.in_ok-reserve.ensures.same in
     (hit_kept i.transaction w i.half i.core c.stopped.new.self (past_of i.calls.items) c.stop.new.self.past (nat_le i.at_log.life c.args.life) c.self.invariant.kept hit refl past c.stopped.ensures.transaction c.stopped.ensures.state).1
-    ∙ ap (λ (x : TxState). after x.transaction.value x.world Stops) c.self.view_is
-    ∙ sym (cond-true (is_hit_by c.args.life c.args.self.now) (after c.args.self.now.transaction.value c.args.self.now.world Stops) c.args.self.now.world (sym c.is_hit_by.ensures ∙ c.if-not-is_hit_by.false))
+    ∙ ap (λ (x : TxState). after (number_of x.transaction) x.world Stops) c.self.view_is
+    ∙ sym (cond-true (is_hit_by c.args.life c.args.self.now) (after (number_of c.args.self.now.transaction) c.args.self.now.world Stops) c.args.self.now.world (sym c.is_hit_by.ensures ∙ c.if-not-is_hit_by.false))
 
 -- the record that is kept names who said PREPARED
 pub returns-clause-named : goal.returns-clause-named

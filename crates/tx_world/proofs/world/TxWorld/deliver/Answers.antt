@@ -1,10 +1,11 @@
 use Rattle.std.proofs.Common.{◌≡◌, ◌++◌, List, [], Some, None, ◌↔◌, false, true, refl, sym, ◌∙◌, subst}
 use Rattle.dtx_values.specs.declared.entry.Entry.{Entry}
+use Rattle.dtx_values.specs.TxIds.{number_of}
+use Rattle.dtx_values.specs.declared.tx_id.TxId.{TxId}
 use Rattle.dtx_values.specs.declared.entry.Entry.TheVariants.{Got}
 use Rattle.dtx_values.specs.declared.message.Conn.{Conn}
 use Rattle.dtx_values.specs.declared.message.Dir.{Dir}
 use Rattle.dtx_values.specs.declared.message.Dir.TheVariants.{Up, Down}
-use Rattle.dtx_values.specs.declared.number.TxNo.{TxNo}
 use Rattle.dtx_values.specs.Outgoing.{Outgoing, blank, written as put_out}
 use Rattle.dtx_model.specs.Coordinated.{follow_all}
 use Rattle.dtx_model.specs.Promotes.{identifier_of}
@@ -23,9 +24,9 @@ use Rattle.tx_world.proofs.world.TxWorld.deliver.Goals.{After-entries}
 use Rattle.tx_world.proofs.world.TxWorld.deliver.Goals as goal
 
 -- what the side that heard it makes of it is ready to be written
-heard : (t : TxNo) (w : World) (h g : Known) (k j : CoreKept) (c : Conn) (d : Dir) (x : Delivered) (o p : Outgoing) (n xs : List Entry) → Kept t w h k → has_left c d w.past ≡ true → Came c d x w.past n
-    → (d ≡ Up → (g ≡ h) × (j.transaction ≡ k.transaction) × (j.state ≡ follow_all k.state (noted c Up x ++ rest_up (identifier_of k.transaction.value) k.state c x)) × (p ≡ put_out o (rest_up (identifier_of k.transaction.value) k.state c x)))
-    → (d ≡ Down → (j ≡ k) × (g ≡ known_after [] h (noted c Down x ++ rest_down h.transaction.value h.half c x)) × (p ≡ put_out o (rest_down h.transaction.value h.half c x)))
+heard : (t : TxId) (w : World) (h g : Known) (k j : CoreKept) (c : Conn) (d : Dir) (x : Delivered) (o p : Outgoing) (n xs : List Entry) → Kept t w h k → has_left c d w.past ≡ true → Came c d x w.past n
+    → (d ≡ Up → (g ≡ h) × (j.transaction ≡ k.transaction) × (j.state ≡ follow_all k.state (noted c Up x ++ rest_up (identifier_of (number_of k.transaction)) k.state c x)) × (p ≡ put_out o (rest_up (identifier_of (number_of k.transaction)) k.state c x)))
+    → (d ≡ Down → (j ≡ k) × (g ≡ known_after [] h (noted c Down x ++ rest_down (number_of h.transaction) h.half c x)) × (p ≡ put_out o (rest_down (number_of h.transaction) h.half c x)))
     → xs ≡ p.entries → o ≡ blank → Heard t w c d g j n xs
 heard t w h g k j c Up x o p n xs kept left came up down value clear =
     let did = up refl in
@@ -33,7 +34,7 @@ heard t w h g k j c Up x o p n xs kept left came up down value clear =
 heard t w h g k j c Down x o p n xs kept left came up down value clear =
     let did = down refl in
     let r = down_ready t w h g k c x o p n xs kept left came did.1 value did.2 clear in
-    subst (λ (z : CoreKept). Heard t w c Down g z n xs) (sym did.0) (record { kept = r.kept; past = r.past; written = r.written; sendable = r.sendable; stopped = r.stopped; silent = down_silent t.value w c })
+    subst (λ (z : CoreKept). Heard t w c Down g z n xs) (sym did.0) (record { kept = r.kept; past = r.past; written = r.written; sendable = r.sendable; stopped = r.stopped; silent = down_silent (number_of t) w c })
 
 ready : (c : After-entries) → Heard c.self.inside.transaction (world_of c.self.inside.calls.items c.self.inside.history.past) c.args.c c.args.d c.hear.new.half c.hear.new.core c.deliver.new.self.past c.entries.result.now
 ready c =
@@ -49,7 +50,7 @@ ready c =
 pub deliver-requires-clause-lined : goal.deliver-requires-clause-lined
 deliver-requires-clause-lined c m k =
     let i = c.self.inside in
-    lined i.transaction.value (world_of i.calls.items i.history.past) c.args.c c.args.d m c.self.invariant.kept.ran (subst (λ (h : List Entry). MayCross h (Got c.args.c c.args.d m)) c.in_ok-reserve.ensures.same k)
+    lined (number_of i.transaction) (world_of i.calls.items i.history.past) c.args.c c.args.d m c.self.invariant.kept.ran (subst (λ (h : List Entry). MayCross h (Got c.args.c c.args.d m)) c.in_ok-reserve.ensures.same k)
 
 pub hear-requires-clause-few : goal.hear-requires-clause-few
 hear-requires-clause-few c = λ up.

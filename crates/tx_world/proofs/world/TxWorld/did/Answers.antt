@@ -1,5 +1,6 @@
 use Rattle.std.proofs.Common.{◌∙◌, ap}
 use Rattle.dtx_model.specs.Words.{past_of}
+use Rattle.dtx_values.specs.TxIds.{number_of}
 use Rattle.dtx_model.specs.World.{World, answer_at}
 use Rattle.tx_world.specs.State.{TxState}
 use Rattle.tx_world.proofs.Unlogged.{did_answer, did_silent, wrote_did}
@@ -15,7 +16,7 @@ write_alone-entered-requires-clause-answer c =
     let i = c.self.inside in
     let w : World = record { calls = past_of i.calls.items; past = i.history.past } in
     did_answer i.transaction w i.half i.core c.args.c.now c.args.m c.if_begun-answer.result c.self.invariant.kept c.requires.kind c.if_begun-answer.ensures
-    ∙ ap (λ (y : TxState). answer_at y.transaction.value y.world c.args.c.now c.args.m) c.self.view_is
+    ∙ ap (λ (y : TxState). answer_at (number_of y.transaction) y.world c.args.c.now c.args.m) c.self.view_is
 
 pub write_alone-entered-requires-clause-alone : goal.write_alone-entered-requires-clause-alone
 write_alone-entered-requires-clause-alone c = did_silent c.self.inside.half.half.seen.limit c.args.m c.if_begun-answer.result c.if_begun-answer.ensures

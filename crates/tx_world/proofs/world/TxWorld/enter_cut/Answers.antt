@@ -1,5 +1,6 @@
 use Rattle.std.proofs.Common.{◌≡◌, ℕ, List, ◌∷◌, ap, refl, sym, ◌∙◌}
 use Rattle.dtx_values.specs.declared.call.Call.TheVariants.{Gone}
+use Rattle.dtx_values.specs.TxIds.{number_of}
 use Rattle.dtx_values.specs.declared.entry.Answer.TheVariants.{Fine}
 use Rattle.dtx_values.specs.declared.entry.Entry.{Entry}
 use Rattle.dtx_values.specs.declared.entry.Entry.TheVariants.{Called, Lost}
@@ -25,7 +26,7 @@ ready c m =
     let i = c.self.inside in
     let w = world_of i.calls.items i.history.past in
     let may = ap (λ (x : TxState). may_enter x.world c.args.line (Gone c.args.e)) c.self.view_is ∙ c.requires.enters in
-    let fine = ap (λ (x : TxState). answer_at x.transaction.value x.world (Gone c.args.e) 0) c.self.view_is ∙ c.requires.fine in
+    let fine = ap (λ (x : TxState). answer_at (number_of x.transaction) x.world (Gone c.args.e) 0) c.self.view_is ∙ c.requires.fine in
     let some = ap (λ (x : TxState). is_empty (open_ones x.world c.args.e)) c.self.view_is ∙ c.requires.linked in
     let b = c.is_promotable_row-promotes.result in
     let row = rows_promotable i.transaction w i.half i.core c.args.e c.rows.result.now b c.self.invariant.kept c.rows.ensures.rows c.is_promotable_row-promotes.ensures in
@@ -48,7 +49,7 @@ past c =
 pub gone-requires-clause-stands : goal.gone-requires-clause-stands
 gone-requires-clause-stands c =
     let i = c.self.inside in
-    let fine = ap (λ (x : TxState). answer_at x.transaction.value x.world (Gone c.args.e) 0) c.self.view_is ∙ c.requires.fine in
+    let fine = ap (λ (x : TxState). answer_at (number_of x.transaction) x.world (Gone c.args.e) 0) c.self.view_is ∙ c.requires.fine in
     gone_stands i.transaction (world_of i.calls.items i.history.past) i.half i.core c.args.e c.self.invariant.kept fine
 
 pub write-requires-clause-sendable : goal.write-requires-clause-sendable

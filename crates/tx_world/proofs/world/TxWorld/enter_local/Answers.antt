@@ -1,5 +1,6 @@
 use Rattle.std.proofs.Common.{◌≡◌, ◌≤◌, length, false, not, refl, ap, sym, ◌∙◌, subst}
 use Rattle.dtx_model.specs.Caused.{MayAnswer}
+use Rattle.dtx_values.specs.TxIds.{number_of}
 use Rattle.dtx_model.specs.Steps.{Calls, entered}
 use Rattle.dtx_model.specs.Words.{past_of}
 use Rattle.dtx_model.specs.World.{answer_at}
@@ -24,7 +25,7 @@ ready : (c : After-entries)
 ready c =
     let i = c.self.inside in
     let may = ap (λ (x : TxState). may_enter x.world c.args.line c.args.c.now) c.self.view_is ∙ c.requires.enters in
-    let answers = subst (λ (x : TxState). MayAnswer x.transaction.value x.world c.args.c.now c.args.done) (sym c.self.view_is) c.requires.answers in
+    let answers = subst (λ (x : TxState). MayAnswer (number_of x.transaction) x.world c.args.c.now c.args.done) (sym c.self.view_is) c.requires.answers in
     let alone = ap (λ (x : TxState). is_unlinked x.world c.args.c.now) c.self.view_is ∙ c.requires.unlinked in
     let told = c.answer_call-answer.ensures in
     call_ready i.transaction (world_of i.calls.items i.history.past) i.half c.answer_call-answer.new.half i.core c.args.line c.args.actor c.args.c.now c.args.done c.clear.new.self c.answer_call-answer.new.out
@@ -47,7 +48,7 @@ returns-clause-answer c =
     let i = c.self.inside in
     c.answer_call-answer.ensures.answer
     ∙ answer_there i.transaction (world_of i.calls.items i.history.past) i.half i.core c.args.c.now c.args.done c.self.invariant.kept c.requires.near
-    ∙ ap (λ (x : TxState). answer_at x.transaction.value x.world c.args.c.now c.args.done) c.self.view_is
+    ∙ ap (λ (x : TxState). answer_at (number_of x.transaction) x.world c.args.c.now c.args.done) c.self.view_is
 
 -- it sends nothing where it may not begin a promotion, and none began; and it is short then
 short : (c : After-entries) → c.may_send-sends.result ≡ false → (has is_sent c.entries.result.now ≡ false) × (length c.entries.result.now ≤ 4)
@@ -57,7 +58,7 @@ short c n =
     let kept = c.self.invariant.kept in
     let none = sym c.may_send-sends.ensures ∙ n in
     let calm =
-    call_calm c.self.inside.transaction.value (world_of c.self.inside.calls.items c.self.inside.history.past) c.args.line c.args.actor c.args.c.now c.args.done (or_first may (not u) none) in
+    call_calm (number_of c.self.inside.transaction) (world_of c.self.inside.calls.items c.self.inside.history.past) c.args.line c.args.actor c.args.c.now c.args.done (or_first may (not u) none) in
     let local = or_second may (not u) none in
     (unsent_there u kept (ready c) calm c.is_unpromoted.ensures local, few_there u kept (ready c) c.in_ok-reserve_for.ensures.same calm c.is_unpromoted.ensures local)
 

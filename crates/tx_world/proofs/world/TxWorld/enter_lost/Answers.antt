@@ -1,5 +1,6 @@
 use Rattle.std.proofs.Common.{◌≡◌, ℕ, List, ◌∷◌, [], ap, refl, ◌∙◌}
 use Rattle.dtx_values.specs.declared.call.Call.TheVariants.{Lose}
+use Rattle.dtx_values.specs.TxIds.{number_of}
 use Rattle.dtx_values.specs.declared.entry.Answer.TheVariants.{Fine}
 use Rattle.dtx_values.specs.declared.entry.Entry.{Entry}
 use Rattle.dtx_values.specs.declared.entry.Entry.TheVariants.{Called}
@@ -23,7 +24,7 @@ ready : (c : After-is_stopped) (m : ℕ)
 ready c m =
     let i = c.self.inside in
     let may = ap (λ (x : TxState). may_enter x.world c.args.line (Lose c.args.u c.args.c c.args.up c.args.down)) c.self.view_is ∙ c.requires.enters in
-    let fine = ap (λ (x : TxState). answer_at x.transaction.value x.world (Lose c.args.u c.args.c c.args.up c.args.down) 0) c.self.view_is ∙ c.requires.fine in
+    let fine = ap (λ (x : TxState). answer_at (number_of x.transaction) x.world (Lose c.args.u c.args.c c.args.up c.args.down) 0) c.self.view_is ∙ c.requires.fine in
     lost i.transaction (world_of i.calls.items i.history.past) i.half i.core c.args.line c.args.actor c.args.u c.args.c c.args.up c.args.down m c.self.invariant.kept may fine
 
 -- the call is the newest
@@ -40,8 +41,8 @@ past c =
     let wrote : c.write.new.self.past ≡ Called c.args.line c.args.actor Fine ∷ h = c.write.ensures.past ∙ ap (λ (p : List Entry). Called c.args.line c.args.actor Fine ∷ p) c.in_ok-reserve.ensures.same in
     let opened =
     c.lose.ensures.open ∙ ap (is_open_wire c.args.c) wrote ∙ after_call c.args.line c.args.actor Fine c.args.c h
-    ∙ lost_open c.self.inside.transaction.value (world_of c.self.inside.calls.items h) c.args.u c.args.c c.args.up c.args.down 0
-    (ap (λ (x : TxState). answer_at x.transaction.value x.world (Lose c.args.u c.args.c c.args.up c.args.down) 0) c.self.view_is ∙ c.requires.fine) in
+    ∙ lost_open (number_of c.self.inside.transaction) (world_of c.self.inside.calls.items h) c.args.u c.args.c c.args.up c.args.down 0
+    (ap (λ (x : TxState). answer_at (number_of x.transaction) x.world (Lose c.args.u c.args.c c.args.up c.args.down) 0) c.self.view_is ∙ c.requires.fine) in
     lost_past c.args.line c.args.actor c.args.c c.args.up c.args.down c.from.result c.from-2.result h c.write.new.self.past c.lose.new.self.past wrote c.from.ensures c.from-2.ensures (c.lose.ensures.cut opened)
 
 pub write-requires-clause-sendable : goal.write-requires-clause-sendable

@@ -1,5 +1,6 @@
 use Rattle.std.proofs.Common.{◌≡◌, ℕ, List, ◌∷◌, [], ap, refl, ◌∙◌}
 use Rattle.dtx_values.specs.declared.call.Call.TheVariants.{Recovered}
+use Rattle.dtx_values.specs.TxIds.{number_of}
 use Rattle.dtx_values.specs.declared.entry.Answer.TheVariants.{Fine}
 use Rattle.dtx_values.specs.declared.entry.Entry.{Entry}
 use Rattle.dtx_values.specs.declared.entry.Entry.TheVariants.{Called, Recovered as RecoveredEntry}
@@ -22,7 +23,7 @@ ready : (c : After-recovery_over) (m : ℕ)
 ready c m =
     let i = c.self.inside in
     let may = ap (λ (x : TxState). may_enter x.world c.args.line (Recovered c.args.u c.args.r)) c.self.view_is ∙ c.requires.enters in
-    let fine = ap (λ (x : TxState). answer_at x.transaction.value x.world (Recovered c.args.u c.args.r) 0) c.self.view_is ∙ c.requires.fine in
+    let fine = ap (λ (x : TxState). answer_at (number_of x.transaction) x.world (Recovered c.args.u c.args.r) 0) c.self.view_is ∙ c.requires.fine in
     recovered i.transaction (world_of i.calls.items i.history.past) i.half i.core c.recovery_over.new.self c.args.line c.args.actor c.args.u c.args.r m c.self.invariant.kept may fine c.recovery_over.ensures.transaction
     c.recovery_over.ensures.state
 

@@ -1,5 +1,6 @@
 use Rattle.std.proofs.Common.{◌≡◌, ℕ, ap, refl, ◌∙◌}
 use Rattle.dtx_values.specs.declared.call.Call.TheVariants.{Reenlist}
+use Rattle.dtx_values.specs.TxIds.{number_of}
 use Rattle.dtx_model.specs.Words.{past_of}
 use Rattle.dtx_model.specs.Steps.{Calls, entered}
 use Rattle.dtx_model.specs.World.{answer_at}
@@ -18,7 +19,7 @@ ready : (c : After-is_stopped) (m : ℕ)
 ready c m =
     let i = c.self.inside in
     let may = ap (λ (x : TxState). may_enter x.world c.args.line (Reenlist c.args.e)) c.self.view_is ∙ c.requires.enters in
-    let fine = ap (λ (x : TxState). answer_at x.transaction.value x.world (Reenlist c.args.e) 0) c.self.view_is ∙ c.requires.fine in
+    let fine = ap (λ (x : TxState). answer_at (number_of x.transaction) x.world (Reenlist c.args.e) 0) c.self.view_is ∙ c.requires.fine in
     let wrote = c.write_return.ensures in
     returns_back i.transaction (world_of i.calls.items i.history.past) i.half c.write_return.new.half i.core c.args.line c.args.actor c.args.e m c.clear.new.self c.write_return.new.out
     c.reserve.new.self.past c.entries.result.now c.self.invariant.kept c.in_ok-reserve.ensures.same may fine (wrote.state m) c.entries.ensures.value wrote.out c.clear.ensures
@@ -33,7 +34,7 @@ pub write_return-requires-clause-accepted : goal.write_return-requires-clause-ac
 write_return-requires-clause-accepted c =
     let i = c.self.inside in
     fine_accepted i.transaction (world_of i.calls.items i.history.past) i.half i.core c.args.e 0 c.self.invariant.kept
-    (ap (λ (x : TxState). answer_at x.transaction.value x.world (Reenlist c.args.e) 0) c.self.view_is ∙ c.requires.fine)
+    (ap (λ (x : TxState). answer_at (number_of x.transaction) x.world (Reenlist c.args.e) 0) c.self.view_is ∙ c.requires.fine)
 
 pub write-requires-clause-written : goal.write-requires-clause-written
 write-requires-clause-written c = (ready c 0).written

@@ -1,5 +1,6 @@
 use Rattle.std.proofs.Common.{◌≡◌, true, subst}
 use Rattle.dtx_model.specs.Caused.{AreMadeOnce, IsIn}
+use Rattle.dtx_values.specs.TxIds.{number_of}
 use Rattle.dtx_model.specs.Promotes.{identifier_of}
 use Rattle.dtx_model.specs.Tied.{tied}
 use Rattle.dtx_model.specs.World.{core}
@@ -15,7 +16,7 @@ returns-clause-once c = subst (λ (x : TxState). AreMadeOnce (IsIn x.world.calls
 pub returns-clause-ours : goal.returns-clause-ours
 returns-clause-ours c =
     let x = c.self.inside.at_log in
-    let here = subst (λ (k : CoreKept). IsOurs (identifier_of k.transaction.value) k.state x) c.self.invariant.kept.core c.self.invariant.ours in
+    let here = subst (λ (k : CoreKept). IsOurs (identifier_of (number_of k.transaction)) k.state x) c.self.invariant.kept.core c.self.invariant.ours in
     subst (λ (s : TxState). IsOurs (id_of s) (core s.world) (record { ours = s.ours; unsure = s.unsure; life = s.life })) c.self.view_is here
 
 pub returns-clause-tried : goal.returns-clause-tried

@@ -1,6 +1,7 @@
 use Rattle.std.proofs.Common.{◌≡◌, true, is_some, refl, sym, subst}
 use Rattle.std.specs.Prelude.{IfOk}
 use Rattle.dtx_model.specs.Replies.{due_of}
+use Rattle.dtx_values.specs.TxIds.{number_of}
 use Rattle.dtx_model.specs.Steps.{Replies}
 use Rattle.dtx_model.specs.World.{half}
 use Rattle.tx_world.proofs.Silent.{due_silent}
@@ -13,7 +14,7 @@ returns-clause-done c = λ done.
     let x = c.args.self.now in
     let o = due_of (half x.world).seen c.args.e.value in
     let due = subst (λ r. IfOk r (λ b. b ≡ is_some o)) done c.reply_at.ensures.due in
-    alone_at true 0 (Replies c.args.e c.args.r) x c.reply_at.new.self (due_silent x.transaction.value x.world c.args.e c.args.r o (sym due) c.requires.fits c.requires.alone) (c.reply_at.ensures.done done)
+    alone_at true 0 (Replies c.args.e c.args.r) x c.reply_at.new.self (due_silent (number_of x.transaction) x.world c.args.e c.args.r o (sym due) c.requires.fits c.requires.alone) (c.reply_at.ensures.done done)
 
 -- what its restarts found stays tied to what was appended
 pub returns-clause-tied : goal.returns-clause-tied

@@ -1,5 +1,6 @@
 use Rattle.std.proofs.Common.{◌≡◌, ◌≤◌, length, false, not, refl, ap, sym, ◌∙◌}
 use Rattle.dtx_model.specs.Half.{Half}
+use Rattle.dtx_values.specs.TxIds.{number_of}
 use Rattle.dtx_model.specs.Replies.{due_of}
 use Rattle.dtx_model.specs.Steps.{Replies}
 use Rattle.dtx_model.specs.World.{half}
@@ -32,7 +33,7 @@ short : (c : After-entries) → not c.is_unpromoted-sends.result ≡ false → (
 short c n =
     let u = c.is_unpromoted-sends.result in
     let kept = c.self.invariant.kept in
-    let calm = reply_calm c.self.inside.transaction.value (world_of c.self.inside.calls.items c.self.inside.history.past) c.args.e c.args.r in
+    let calm = reply_calm (number_of c.self.inside.transaction) (world_of c.self.inside.calls.items c.self.inside.history.past) c.args.e c.args.r in
     (unsent_there u kept (ready c) calm c.is_unpromoted-sends.ensures n, few_there u kept (ready c) c.in_ok-reserve_for.ensures.same calm c.is_unpromoted-sends.ensures n)
 
 pub write_near-begins-requires : goal.write_near-begins-requires

@@ -1,5 +1,6 @@
 use Rattle.std.proofs.Common.{◌∙◌, ap}
 use Rattle.dtx_model.specs.Half.{Half}
+use Rattle.dtx_values.specs.TxIds.{number_of}
 use Rattle.dtx_model.specs.Words.{past_of}
 use Rattle.dtx_model.specs.World.{World, half}
 use Rattle.tx_world.specs.OwnCalls.{status_of}
@@ -13,4 +14,4 @@ returns-clause-answer c = λ t m.
     let i = c.self.inside in
     let w : World = record { calls = past_of i.calls.items; past = i.history.past } in
     let known = ap (λ (h : Half). h.seen.decided) (half_is i.transaction w i.half i.core c.self.invariant.kept) ∙ ap (λ (x : TxState). (half x.world).seen.decided) c.self.view_is in
-    status_said c.args.self.now.transaction.value c.args.self.now.world t m c.status_of.result (c.status_of.ensures ∙ ap status_of (c.decided.ensures ∙ known))
+    status_said (number_of c.args.self.now.transaction) c.args.self.now.world t m c.status_of.result (c.status_of.ensures ∙ ap status_of (c.decided.ensures ∙ known))

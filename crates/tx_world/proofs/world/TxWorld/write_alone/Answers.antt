@@ -1,5 +1,6 @@
 use Rattle.std.proofs.Common.{◌≡◌, List, ap, refl, sym, ◌∙◌, ◌∷◌, [], subst}
 use Rattle.dtx_values.specs.declared.entry.Entry.{Entry}
+use Rattle.dtx_values.specs.TxIds.{number_of}
 use Rattle.dtx_values.specs.declared.entry.Entry.TheVariants.{Called}
 use Rattle.dtx_model.specs.Words.{onto, past_of}
 use Rattle.dtx_model.specs.Caused.{MayAnswer}
@@ -24,8 +25,8 @@ ready c =
     let d = c.args.c.now in
     let x = c.args.answer in
     let may = ap (λ (y : TxState). may_enter y.world c.args.line d) c.self.view_is ∙ c.requires.enters in
-    let answers = subst (λ (y : TxState). MayAnswer y.transaction.value y.world d c.args.done) (sym c.self.view_is) c.requires.answers in
-    let is = subst (λ (y : TxState). x ≡ answer_at y.transaction.value y.world d c.args.done) (sym c.self.view_is) c.requires.answer in
+    let answers = subst (λ (y : TxState). MayAnswer (number_of y.transaction) y.world d c.args.done) (sym c.self.view_is) c.requires.answers in
+    let is = subst (λ (y : TxState). x ≡ answer_at (number_of y.transaction) y.world d c.args.done) (sym c.self.view_is) c.requires.answer in
     alone_ready i.transaction (world_of i.calls.items i.history.past) i.half i.core c.args.line c.args.actor d c.args.done x c.self.invariant.kept may answers is c.requires.alone
 
 -- the call is the newest

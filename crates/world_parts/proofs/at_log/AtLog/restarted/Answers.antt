@@ -1,6 +1,7 @@
 use Rattle.std.proofs.Common.{◌≡◌, Option, false, is_some, Bool, Bor}
 use Rattle.std.specs.Option.{option_map}
 use Rattle.dtx_values.specs.declared.entry.Entry.TheVariants.{Restarted}
+use Rattle.dtx_values.specs.TxIds.{number_of}
 use Rattle.dtx_values.specs.declared.record.LogRecord.{LogRecord}
 use Rattle.dtx_model.specs.Coordinated.{follow}
 use Rattle.dtx_model.specs.Log.{first_of, record_of}
@@ -21,7 +22,7 @@ restarted-requires-clause-own g c = λ x e.
 
 pub returns-clause-ours : goal.returns-clause-ours
 returns-clause-ours g c =
-    let id = identifier_of c.args.core.now.transaction.value in
+    let id = identifier_of (number_of c.args.core.now.transaction) in
     let rs = open_records c.args.log.now.slots in
     let found = first_of c.args.id rs in
     let life = c.life-self-inside.result in

@@ -1,0 +1,4 @@
+mod Names
+mod Records
+mod Freed
+mod Images

@@ -1,0 +1,14 @@
+use Rattle.std.proofs.Common.{◌≡◌, ◌∙◌, true, subst}
+use Rattle.dtx_model.specs.Scopes.{closing}
+use Rattle.scope_context.specs.Standing.{Standing as Scopes}
+use Rattle.transactions.specs.Scoping.{AreSameBut, ended_by, is_top, made_in}
+use Rattle.transactions.proofs.Scoping.{same_but}
+use Rattle.transactions.proofs.manager.TransactionManager.dispose.Goals as goal
+
+pub returns-clause-others : goal.returns-clause-others
+returns-clause-others g c = λ top u n m.
+    let old = c.args.self.now.lives in
+    let mid = c.close-closed.new.self.lives in
+    let P : Scopes → Type 0 = λ v. is_top c.args.s.scope.value v.scopes ≡ true → AreSameBut (ended_by (closing v.scopes) old) old mid in
+    let others = subst P c.take.ensures c.close-closed.ensures.others in
+    same_but (made_in c.args.s) mid c.let_go.new.self.lives c.let_go.ensures.others u m ∙ same_but (ended_by (closing c.args.a.now.scopes) old) old mid (others top) u n
