@@ -20,7 +20,7 @@ use crate::refusal::LogRefusal;
 use crate::slots::Slots;
 use crate::stop::ArmedStop;
 use dtx_values::LogRecord;
-use outside::{Disk, Image};
+use outside::{Disk, Image, Relay};
 use std::alloc::Global;
 use std::marker::Model;
 
@@ -343,6 +343,13 @@ impl<D: Disk> Log<D> {
         self.up
     }
 
+    /// The disk.
+    pub fn disk(&self) -> &D
+        ensures { result.now ≡ self.now.disk }
+    {
+        &self.disk
+    }
+
     /// Hands the disk back.
     pub fn into_disk(self) -> D
         ensures disk { result ≡ self.disk }
@@ -366,5 +373,18 @@ impl<D: Disk> Log<D> {
             life: 0,
             armed: None,
         }
+    }
+}
+
+impl<D: Relay> Log<D> {
+    /// All that the disk was asked for is done ([`Relay::settle`]). The log stays as it is.
+    pub fn settle(&mut self)
+        ensures settled { IsTrue (D.is_settled self.new.disk) }
+        ensures kept { self.new ≡ record self.old { disk = self.new.disk } }
+        ensures seen { D.seen self.new.disk ≡ D.seen self.old.disk }
+        ensures images { AreWithin (D.image self.old.disk) (D.image self.new.disk) }
+        ensures faults { D.faults self.new.disk ≡ D.faults self.old.disk }
+    {
+        self.disk.settle();
     }
 }

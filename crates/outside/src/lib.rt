@@ -19,6 +19,7 @@
 //! - [`SureDisk`] holds its bytes in memory, and never fails.
 //! - [`FileDisk`] is a file of the system. It isn't honest: it tells nothing of its content. One program has
 //!   it at a time, and after a sync that failed it answers nothing more.
+//! - A [`Relay`] is a disk whose writes and syncs somebody else does.
 //!
 //! A [`Gate`] is a place that each reply on threads goes by, where a test may hold it. [`OpenGate`] holds
 //! nothing.
@@ -36,6 +37,7 @@ mod gate;
 mod mem_disk;
 mod memory;
 mod plan;
+mod relay;
 mod sheet;
 mod sink;
 mod source;
@@ -52,6 +54,7 @@ pub use file_disk::{FileDisk, read_range, write_range};
 pub use gate::{Gate, OpenGate};
 pub use mem_disk::MemDisk;
 pub use memory::{MemSink, MemSource};
+pub use relay::Relay;
 pub use sink::Sink;
 pub use source::Source;
 pub use standard::{StdSink, StdSource};
