@@ -9,4 +9,8 @@ mod numbers;
 #[cfg(test)]
 mod objects;
 #[cfg(test)]
+mod polling;
+#[cfg(test)]
+mod recovering;
+#[cfg(test)]
 mod waits;

@@ -1,10 +1,8 @@
 //! Numbers of transactions, which never come twice, and managers over the log of an earlier one.
-use crate::objects::{Manager, Objects, Seen, ends, manager};
+use crate::objects::{Manager, Objects, Seen, ends, manager, opened};
 use coordinator_log::LOG_BYTES;
 use dtx_values::{Answer, EnlistOption, Timeout};
 use outside::{Disk, MemClock, SureDisk};
-use std::alloc::Global;
-use std::process::Abort;
 use std::test::Fail;
 use transactions::{OpenError, TransactionManager, TxError};
 
@@ -29,15 +27,6 @@ fn rises(manager: &mut Manager, count: u32, o: &mut Objects, seen: &mut Seen) ->
         last = number;
     }
     last
-}
-
-/// The manager over the disk of this one.
-fn opened(rt: &impl Abort, alloc: Global, manager: Manager) -> Manager {
-    let disk = manager.into_disk();
-    match TransactionManager::open(alloc, disk, MemClock::new(Vec::new(alloc))) {
-        Ok(manager) => manager,
-        Err(e) => panic!(rt; "{}", e.0),
-    }
 }
 
 #[test]

@@ -75,6 +75,15 @@ pub fn manager(rt: &impl Abort, alloc: Global, readings: Vec<u64>) -> Manager {
     }
 }
 
+/// The manager over the disk of this one.
+pub fn opened(rt: &impl Abort, alloc: Global, manager: Manager) -> Manager {
+    let disk = manager.into_disk();
+    match TransactionManager::open(alloc, disk, MemClock::new(Vec::new(alloc))) {
+        Ok(manager) => manager,
+        Err(e) => panic!(rt; "{}", e.0),
+    }
+}
+
 /// The resource manager of this number.
 pub fn resource(rt: &impl Abort, n: u32) -> RmNo {
     RmNo::new(n).expect(rt, "a resource manager's number")

@@ -1,5 +1,5 @@
 -- What one part of a call wrote and heard, and what the next one did, are what both did.
-use Rattle.std.proofs.Common.{ℕ, Bool, true, ◌≡◌, ◌≤◌, ◌∙◌, not, List, [], ◌∷◌, ◌++◌, Option, Some, None, Result, Ok, Err, OnErr, is_some, false, length, drop, append_assoc, append-nil, refl, ap, arith, subst, sym}
+use Rattle.std.proofs.Common.{ℕ, Bool, true, ◌≡◌, ◌⊎◌, ◌≤◌, ◌∙◌, not, List, [], ◌∷◌, ◌++◌, Option, Some, None, Result, Ok, Err, OnErr, is_some, false, length, drop, append_assoc, append-nil, refl, ap, arith, subst, sym, inl, inr}
 use Rattle.std.proofs.lemmas.Bool.{or_left}
 use Rattle.std.proofs.lemmas.Grind.{reverse_onto}
 use Rattle.std.proofs.lemmas.List.{drop-append-le}
@@ -108,6 +108,21 @@ going_step x y z go writes rest within =
 -- On its way it heard nothing that says something.
 pub going_on : (x y : LiveState) → Going x y → x.heard ≤ length (past x) → Advances None x y
 going_on x y go was = record { writes = go.writes; hears = go.hears; rest = go.rest; within = was }
+
+-- A transaction is as it was, or it went on and nothing was heard that says something.
+abbrev pub Onward : LiveState → LiveState → Type 0
+Onward x y = (y ≡ x) ⊎ Advances None x y
+
+-- and then what it did next
+pub onward_next : (e : Option Event) (x y z : LiveState) → Onward x y → Advances e y z → Advances e x z
+onward_next e x y z (inl same) a = subst (λ (v : LiveState). Advances e v z) same a
+onward_next e x y z (inr b) a =
+    record {
+      writes = writes_on [] [] x y z b.writes a.writes;
+      hears = hears_on [] (listed e) [] x y z b.hears a.writes a.hears (ap (λ (v : LiveState). v.number) b.rest) a.within;
+      rest = a.rest ∙ ap (λ (v : LiveState). record v { tx = z.tx; heard = z.heard }) b.rest;
+      within = b.within;
+    }
 
 -- the transaction of a sound state is its number's
 pub same_own : (x y : LiveState) → IsSound x → IsSound y → y.number ≡ x.number → y.tx.transaction ≡ x.tx.transaction

@@ -15,14 +15,16 @@ use Rattle.dtx_model.specs.World.{World, answer_at}
 use Rattle.coordinator_log.specs.Slots.{open_records}
 use Rattle.coordinator_log.specs.State.{LogState}
 use Rattle.log_epochs.specs.Epochs.{is_epoch}
-use Rattle.std.specs.Prelude.{IsTrue}
+use Rattle.std.specs.Prelude.{IsTrue, IfOk, OnOk}
 use Rattle.tx_world.specs.AtLog.{Fits, id_of}
 use Rattle.tx_world.specs.State.{TxState}
 use Rattle.tx_world.proofs.Fitting.{fits_same}
+use Rattle.transactions.specs.declared.error.TxError.{TxError}
+use Rattle.transactions.specs.declared.handle.CommittableTransaction.{CommittableTransaction}
 use Rattle.transactions.specs.Calling.{IsCalled}
 use Rattle.transactions.specs.Keeping.{AreNumbered, FitsAll}
 use Rattle.transactions.specs.Numbering.{IsTaken}
-use Rattle.transactions.specs.Slots.{AreSame, is_live, is_used, is_vacant, live_at, live_in}
+use Rattle.transactions.specs.Slots.{AreSame, Standing, is_live, is_used, is_vacant, live_at, live_in}
 use Rattle.transactions.specs.State.{LiveState, blank}
 use Rattle.transactions.proofs.Standing.{get_here, get_there, none_live, not_live, put_at}
 
@@ -166,3 +168,16 @@ pub fits_next : {D : Type 0} (from to : LogState D) (xs : List LiveState) → ((
     → FitsAll to xs
 fits_next from to xs law others still all =
     record { fits = λ up i x there. fits_same x.tx (open_records from.slots) (open_records to.slots) (others (id_of x.tx) (law x.tx.transaction)) (all.fits (still up) i x there) }
+
+-- A transaction was begun as this one, after its number was found.
+pub begun_by : {D C : Type 0} (faults : D → ℕ) (timeout : Timeout) (t : TxId) (mid new : Standing D C) (reading : ℕ) (z : Result CommittableTransaction TxError) → mid.reading ≡ reading
+    → new ≡ record mid { lives = new.lives; last = new.last } → IfOk z (λ tx. tx.number ≡ t)
+    → OnOk z ((y : LiveState) × (live_at t new.lives ≡ Some y) × IsCalled faults mid.log (Begin t.t timeout) 1 Fine (blank t mid.reading) y)
+    → IfOk z (λ tx. (y : LiveState) × (live_at tx.number new.lives ≡ Some y) × IsCalled faults new.log (Begin tx.number.t timeout) 1 Fine (blank tx.number reading) y)
+begun_by faults timeout t mid new reading (Ok tx) same rest number did =
+    let y = did.0 in
+    let log : mid.log ≡ new.log = sym (ap (λ (s : Standing _ _). s.log) rest) in
+    let called : IsCalled faults mid.log (Begin t.t timeout) 1 Fine (blank t reading) y = subst (λ (r : ℕ). IsCalled faults mid.log (Begin t.t timeout) 1 Fine (blank t r) y) same did.2 in
+    subst (λ (n : TxId). (v : LiveState) × (live_at n new.lives ≡ Some v) × IsCalled faults new.log (Begin n.t timeout) 1 Fine (blank n reading) v) (sym number)
+    (y, did.1, subst (λ (l : LogState _). IsCalled faults l (Begin t.t timeout) 1 Fine (blank t reading) y) log called)
+begun_by faults timeout t mid new reading (Err e) same rest number did = tt

@@ -11,7 +11,7 @@ use Rattle.dtx_model.specs.World.{half}
 use Rattle.history_table.proofs.Scans.{each_more}
 use Rattle.transactions.specs.declared.event.Event.{Event}
 use Rattle.transactions.specs.declared.handle.Enlistment.{Enlistment}
-use Rattle.transactions.specs.Doing.{HeardAt}
+use Rattle.transactions.specs.Doing.{AdvancesAt, HeardAt}
 use Rattle.transactions.specs.Events.{note_in}
 use Rattle.transactions.specs.Hearing.{Advances, Given, Hears, HearsNote, IsHeard, Writes, is_one_of, is_reply, says}
 use Rattle.transactions.specs.Slots.{AreSame, KeepsRest, KeepsTime, Standing, live_at}
@@ -111,10 +111,6 @@ heard_turn gives e rs x y z a b v h w rest within =
 -- The same, of the transaction of a number, where one goes on.
 abbrev pub WithinAt : TxId → List LiveState → Type 0
 WithinAt t xs = (x : LiveState) → live_at t xs ≡ Some x → x.heard ≤ length (past x)
-
--- it did this next, where it goes on
-abbrev pub AdvancesAt : Option Event → TxId → List LiveState → List LiveState → Type 0
-AdvancesAt e t old new = (x : LiveState) → live_at t old ≡ Some x → (y : LiveState) × (live_at t new ≡ Some y) × Advances e x y
 
 -- these replies were given, or weren't written
 abbrev pub GivenAt : List Given → TxId → List LiveState → List LiveState → Type 0

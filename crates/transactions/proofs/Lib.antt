@@ -9,9 +9,13 @@ pub mod Advancing
 pub mod Standing
 pub mod Places
 pub mod Recorded
+pub mod Lasting
+pub mod Freeing
+pub mod Kept
 pub mod Numbers
 pub mod Calls
 pub mod Nexts
+pub mod Settling
 pub mod Enlisted
 pub mod Driving
 pub mod Entering

@@ -12,7 +12,8 @@ use Rattle.transactions.specs.declared.error.TxError.{TxError}
 use Rattle.transactions.specs.declared.error.TxError.TheVariants.{Memory, Many, Refused}
 use Rattle.transactions.specs.declared.handle.Enlistment.{Enlistment}
 use Rattle.transactions.specs.Calling.{IsCalled}
-use Rattle.transactions.specs.Hearing.{Given, IsHeard}
+use Rattle.transactions.specs.declared.event.Event.{Event}
+use Rattle.transactions.specs.Hearing.{Advances, Given, IsHeard}
 use Rattle.transactions.specs.Slots.{live_at}
 use Rattle.transactions.specs.State.{LiveState}
 
@@ -31,6 +32,10 @@ pub record CallsAt {D : Type 0} (faults : D → ℕ) (log : LogState D) (t : TxI
 -- Where a transaction of this number goes on, its objects heard what came of it.
 abbrev pub HeardAt : {O : Type 0} → (O → Enlistment → Note → Option Reply → O → Type 0) → List Given → TxId → List LiveState → List LiveState → O → O → Type 0
 HeardAt gives given t old new a b = (x : LiveState) → live_at t old ≡ Some x → (z : LiveState) × (live_at t new ≡ Some z) × IsHeard gives given x z a b
+
+-- Where a transaction of this number goes on, it did this next.
+abbrev pub AdvancesAt : Option Event → TxId → List LiveState → List LiveState → Type 0
+AdvancesAt e t old new = (x : LiveState) → live_at t old ≡ Some x → (y : LiveState) × (live_at t new ≡ Some y) × Advances e x y
 
 -- the call was entered on some line, and was done or waits
 abbrev pub Called : {D : Type 0} → (D → ℕ) → LogState D → TxId → Call → List LiveState → List LiveState → Type 0

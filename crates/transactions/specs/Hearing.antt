@@ -15,6 +15,10 @@ use Rattle.dtx_model.specs.Entries.{same_outcome}
 use Rattle.dtx_model.specs.Half.{is_aborted}
 use Rattle.dtx_model.specs.Caused.{same_vote}
 use Rattle.transactions.specs.declared.event.Event.{Event}
+use Rattle.transactions.specs.declared.event.Next.{Next}
+use Rattle.transactions.specs.declared.event.Next.TheVariants.{Found, Nothing, Disk}
+use Rattle.transactions.specs.declared.event.Advance.{Advance}
+use Rattle.transactions.specs.declared.event.Advance.TheVariants.{Heard, Did, Idle}
 use Rattle.transactions.specs.declared.handle.Enlistment.{Enlistment}
 use Rattle.transactions.specs.Events.{event_of, note_in}
 use Rattle.transactions.specs.State.{LiveState, past, unheard}
@@ -55,6 +59,18 @@ events t xs = filter_map (event_of t) xs
 abbrev pub listed : Option Event → List Event
 listed (Some x) = x ∷ []
 listed None = []
+
+-- what was heard
+abbrev pub heard_in : Advance → Option Event
+heard_in (Heard x) = Some x
+heard_in Did = None
+heard_in Idle = None
+
+-- what was found to come next
+abbrev pub found_in : Next → Option Event
+found_in (Found x) = Some x
+found_in Nothing = None
+found_in Disk = None
 
 -- a reply, where there is one
 abbrev pub replied : Enlistment → Option Reply → List Given

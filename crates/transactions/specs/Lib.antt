@@ -5,6 +5,7 @@ pub mod Calling
 pub mod Hearing
 pub mod Keeping
 pub mod Numbering
+pub mod Recovering
 pub mod Slots
 pub mod Waiting
 pub mod Ending

@@ -39,7 +39,7 @@ pub enum TxError {
     /// The log has no room for the record of the epoch in which the transaction would begin.
     #[error("the log is full")]
     LogFull,
-    /// The log is stopped, in which the epoch of the transaction would begin: its disk failed, now or before.
+    /// The log is stopped, in which the epoch of the transaction would begin, or from which a record would be freed: its disk failed, now or before.
     #[error("the log is stopped")]
     LogStopped,
     /// The log's epoch is the last, so that none can begin.

@@ -16,6 +16,28 @@ pub enum Event {
     Done(Outcome),
 }
 
+/// What comes next in a transaction, for a program that does the work of the log's disk itself.
+#[derive(Clone, Copy, PartialEq, Eq, Debug)]
+pub enum Next {
+    /// This comes next.
+    Found(Event),
+    /// Nothing, unless a call, a reply or the time lets the transaction go on.
+    Nothing,
+    /// First what the log asked its disk for is to be done.
+    Disk,
+}
+
+/// What a transaction did when it went on once.
+#[derive(Clone, Copy, PartialEq, Eq, Debug)]
+pub(crate) enum Advance {
+    /// An entry of the history was heard that says this.
+    Heard(Event),
+    /// A step was done.
+    Did,
+    /// No step is pending but replies that were asked for.
+    Idle,
+}
+
 /// The note that tells an enlistment this outcome.
 fn note_told(o: Outcome) -> Note
     ensures { result ≡ note_told o }

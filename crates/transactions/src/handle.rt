@@ -1,6 +1,8 @@
 //! What a program holds of its transactions.
 ghost use Rattle.std.specs.Prelude.{◌≡◌};
 ghost use Rattle.std.specs.Option.{option_map};
+ghost use Rattle.dtx_values.specs.TxIds.{number_of};
+ghost use Rattle.transactions.specs.Events.{enlistment};
 
 use dtx_values::{CloneNo, EnlNo, ScopeNo, TxId};
 
@@ -39,12 +41,43 @@ impl CommittableTransaction {
     {
         self.number
     }
+
+    /// The number for good, for a program that keeps numbers in place of handles. `TransactionManager::handle` gives the handle again.
+    pub fn into_number(self) -> u64
+        ensures { result ≡ number_of self.number }
+    {
+        let CommittableTransaction { number } = self;
+        number.number()
+    }
+
+    /// The enlistment of this number in the transaction, whether or not there is one.
+    pub fn enlistment(&self, number: EnlNo) -> Enlistment
+        ensures { result ≡ enlistment self.now.number number }
+    {
+        Enlistment {
+            transaction: self.number,
+            number,
+        }
+    }
 }
 
 /// A dependent clone, which is to be completed: it can't be dropped. (`DependentTransaction` of System.Transactions.)
 pub struct DependentTransaction {
     pub(crate) transaction: TxId,
     pub(crate) clone: CloneNo,
+}
+
+impl DependentTransaction {
+    /// Its number in the transaction, for a program that keeps numbers in place of handles. `TransactionManager::begin_complete` completes it.
+    pub fn into_number(self) -> CloneNo
+        ensures { result ≡ self.clone }
+    {
+        let DependentTransaction {
+            transaction: _,
+            clone,
+        } = self;
+        clone
+    }
 }
 
 /// A scope that is open, which is to be disposed: it can't be dropped. (`TransactionScope` of System.Transactions.)

@@ -13,25 +13,30 @@
 //!
 //! Neither a scope nor a transaction that its holder may commit can be dropped: a `?` between `open_scope` and `finish` doesn't compile.
 //!
-//! [`TransactionManager::open`] takes up the log of an earlier process. No number of a transaction comes twice in the life of a log ([`TransactionManager::begin`]).
+//! [`TransactionManager::open`] takes up the log of an earlier process. No number of a transaction comes twice in the life of a log ([`TransactionManager::begin`]). Each
+//! resource manager asks there what came of what it had prepared ([`TransactionManager::recovered_outcome`]), and then says at a [`RecoveryDesk`] that it has recovered, which
+//! frees what nobody will ask for ([`TransactionManager::recovery_complete`]).
 //!
 //! What holds of each transaction, on every disk: all that anybody was told in it has its cause, and no two were told opposite outcomes ([`TransactionManager::is_lawful`]).
 #![tactic(auto)]
 
 mod ambient;
+mod desk;
 mod error;
 mod event;
 mod handle;
 mod kind;
 mod live;
 mod manager;
+mod recovering;
 mod resource;
 mod usage;
 mod work;
 
 pub use ambient::Ambient;
+pub use desk::RecoveryDesk;
 pub use error::{CommitError, OpenError, ScopeError, TxError};
-pub use event::Event;
+pub use event::{Event, Next};
 pub use handle::{
     CommittableTransaction, DependentTransaction, Enlistment, Phases, TransactionScope,
 };

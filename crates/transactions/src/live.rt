@@ -24,16 +24,17 @@ ghost use Rattle.transactions.specs.Answered.{Has, is_answer_to};
 ghost use Rattle.transactions.specs.Counting.{is_given, is_plain};
 ghost use Rattle.transactions.specs.Enlisting.{Clones, Enlists};
 ghost use Rattle.transactions.specs.Ending.{IsOver, is_left_prepared, is_told_to};
-ghost use Rattle.transactions.specs.Hearing.{Advances, HearsNext, Writes, listed};
+ghost use Rattle.transactions.specs.Hearing.{Advances, HearsNext, Writes, heard_in, listed};
 ghost use Rattle.transactions.specs.Keeping.{IsSound};
 ghost use Rattle.transactions.specs.Slots.{is_live, is_used, standing_in};
 ghost use Rattle.transactions.specs.State.{LiveState, blank, past};
 ghost use Rattle.transactions.specs.Telling.{Waiting, is_full, told};
 ghost use Rattle.transactions.specs.Waiting.{AllAsked};
+ghost use Rattle.transactions.specs.declared.event.Advance.TheVariants.{Did, Idle};
 ghost use Rattle.transactions.specs.declared.usage.Usage.TheVariants.{Held, Left};
 
 use crate::error::TxError;
-use crate::event::{Event, event_of};
+use crate::event::{Advance, Event, event_of};
 use crate::kind::{Kind, enlists};
 use crate::usage::Usage;
 use coordinator_log::Log;
@@ -287,6 +288,7 @@ impl Live {
         ensures rest { self.new ≡ record self.old { tx = self.new.tx } }
         ensures leaves { Leaves D.honest D.image D.faults self.old.tx log.old self.new.tx log.new }
         ensures none { result ≡ Ok false → (self.new ≡ self.old) × AllAsked self.new.tx.world }
+        ensures still { result ≡ Ok false → log.new ≡ log.old }
         ensures memory { IfErr result (λ e. (e ≡ TxError.Memory) × (self.new ≡ self.old)) }
     {
         let Some(k) = self.place() else {
@@ -302,33 +304,27 @@ impl Live {
         let _ = &self.heard;
     }
 
-    /// What comes next; nothing where no step is pending but replies that were asked for.
-    pub fn next<D: Disk>(
+    /// Hears the next entry of the history that says something to somebody; where none is left, does the first pending step that is no reply.
+    pub fn advance<D: Disk>(
         &mut self,
         log: &mut Log<D>,
         out: &mut Outbox,
-    ) -> Result<Option<Event>, TxError>
+    ) -> Result<Advance, TxError>
         requires fits { IsTrue D.honest → IsTrue log.old.is_up → Fits self.old.tx (open_records log.old.slots) }
-        ensures comes { IfOk result (λ x. Advances x self.old self.new) }
+        ensures comes { IfOk result (λ x. Advances (heard_in x) self.old self.new) }
         ensures stays { OnErr result (Advances None self.old self.new) }
-        ensures all { result ≡ Ok None → (self.new.heard ≡ length (past self.new)) × AllAsked self.new.tx.world }
+        ensures heard { IfOk result (λ x. x ≢ Did → log.new ≡ log.old) }
+        ensures idle { result ≡ Ok Idle → (self.new.heard ≡ length (past self.new)) × AllAsked self.new.tx.world }
         ensures leaves { Leaves D.honest D.image D.faults self.old.tx log.old self.new.tx log.new }
         ensures memory { IfErr result (λ e. e ≡ TxError.Memory) }
     {
-        self.is_sound();
-        let mut count: u64 = 0;
-        while count < u64::MAX {
-            let event = self.hear();
-            if event.is_some() {
-                return Ok(event);
-            }
-            if !self.step(log, out)? {
-                return Ok(None);
-            }
-            self.is_sound();
-            count += 1;
+        if let Some(event) = self.hear() {
+            return Ok(Advance::Heard(event));
         }
-        Err(TxError::Memory)
+        if self.step(log, out)? {
+            return Ok(Advance::Did);
+        }
+        Ok(Advance::Idle)
     }
 
     /// The reply of an enlistment; false exactly where none is due, or it doesn't fit.

@@ -8,14 +8,15 @@ ghost use Rattle.dtx_model.specs.Outcome.{agree, justified};
 ghost use Rattle.dtx_model.specs.World.{half};
 ghost use Rattle.tx_world.specs.OwnCalls.{status_of};
 ghost use Rattle.transactions.specs.Counting.{is_plain};
-ghost use Rattle.transactions.specs.Doing.{CallsAt, Enters, MayFail, is_done};
-ghost use Rattle.transactions.specs.Hearing.{Advances};
+ghost use Rattle.transactions.specs.Doing.{AdvancesAt, CallsAt, Enters, MayFail, is_done};
+ghost use Rattle.transactions.specs.Hearing.{Advances, heard_in};
 ghost use Rattle.transactions.specs.Slots.{AreSame, KeepsRest, KeepsTime, live_at, standing_at};
 ghost use Rattle.transactions.specs.State.{LiveState, past};
 ghost use Rattle.transactions.specs.Waiting.{AllAsked};
+ghost use Rattle.transactions.specs.declared.event.Advance.TheVariants.{Did, Idle};
 
 use crate::error::TxError;
-use crate::event::Event;
+use crate::event::{Advance, Event};
 use crate::handle::CommittableTransaction;
 use crate::live::Live;
 use coordinator_log::Log;
@@ -30,7 +31,12 @@ mod driving;
 mod ending;
 mod enlisting;
 mod opening;
+mod polling;
+mod recovering;
 mod scoping;
+
+/// The upper half of each identifier of a transaction.
+const NODE: u128 = 1 << 64;
 
 /// A transaction manager over a log on a disk.
 ///
@@ -175,7 +181,7 @@ impl<D: Disk + Drop, C: Clock + Drop> TransactionManager<D, C> {
     /// - [`TxError::Refused`] where the transaction is none of this manager's.
     /// - [`TxError::Memory`] where memory ran out. What was done is done, and the next call goes on.
     pub fn next(&mut self, tx: &CommittableTransaction) -> Result<Option<Event>, TxError>
-        ensures comes { IfOk result (λ e. (x : LiveState) → live_at tx.now.number self.old.lives ≡ Some x → (y : LiveState) × (live_at tx.now.number self.new.lives ≡ Some y) × Advances e x y) }
+        ensures comes { IfOk result (λ e. AdvancesAt e tx.now.number self.old.lives self.new.lives) }
         ensures all { result ≡ Ok None → (y : LiveState) → live_at tx.now.number self.new.lives ≡ Some y → (y.heard ≡ length (past y)) × AllAsked y.tx.world }
         ensures others { AreSame tx.now.number self.old.lives self.new.lives }
         ensures time { KeepsTime self.old self.new }
@@ -185,9 +191,36 @@ impl<D: Disk + Drop, C: Clock + Drop> TransactionManager<D, C> {
     }
 
     fn next_in(&mut self, t: TxId) -> Result<Option<Event>, TxError>
-        ensures comes { IfOk result (λ e. (x : LiveState) → live_at t self.old.lives ≡ Some x → (y : LiveState) × (live_at t self.new.lives ≡ Some y) × Advances e x y) }
-        ensures stays { OnErr result ((x : LiveState) → live_at t self.old.lives ≡ Some x → (y : LiveState) × (live_at t self.new.lives ≡ Some y) × Advances None x y) }
+        ensures comes { IfOk result (λ e. AdvancesAt e t self.old.lives self.new.lives) }
+        ensures stays { OnErr result (AdvancesAt None t self.old.lives self.new.lives) }
         ensures all { result ≡ Ok None → (y : LiveState) → live_at t self.new.lives ≡ Some y → (y.heard ≡ length (past y)) × AllAsked y.tx.world }
+        ensures others { AreSame t self.old.lives self.new.lives }
+        ensures time { KeepsTime self.old self.new }
+        ensures cause { IfErr result (λ e. (e ≡ TxError.Memory) ⊎ ((e ≡ TxError.Refused NoSuch) × (live_at t self.old.lives ≡ None))) }
+    {
+        self.is_within(t);
+        let mut count: u64 = 0;
+        while count < u64::MAX {
+            let advance = match self.advance(t) {
+                Ok(advance) => advance,
+                Err(e) => return Err(e),
+            };
+            match advance {
+                Advance::Heard(event) => return Ok(Some(event)),
+                Advance::Did => {}
+                Advance::Idle => return Ok(None),
+            }
+            count += 1;
+        }
+        Err(TxError::Memory)
+    }
+
+    /// Hears the next entry of a transaction's history that says something to somebody; where none is left, does its first pending step that is no reply.
+    fn advance(&mut self, t: TxId) -> Result<Advance, TxError>
+        ensures comes { IfOk result (λ x. AdvancesAt (heard_in x) t self.old.lives self.new.lives) }
+        ensures stays { OnErr result (AdvancesAt None t self.old.lives self.new.lives) }
+        ensures heard { IfOk result (λ x. x ≢ Did → self.new.log ≡ self.old.log) }
+        ensures idle { result ≡ Ok Idle → (y : LiveState) → live_at t self.new.lives ≡ Some y → (y.heard ≡ length (past y)) × AllAsked y.tx.world }
         ensures others { AreSame t self.old.lives self.new.lives }
         ensures time { KeepsTime self.old self.new }
         ensures cause { IfErr result (λ e. (e ≡ TxError.Memory) ⊎ ((e ≡ TxError.Refused NoSuch) × (live_at t self.old.lives ≡ None))) }
@@ -199,9 +232,9 @@ impl<D: Disk + Drop, C: Clock + Drop> TransactionManager<D, C> {
         if !live.is_live(t) {
             return Err(TxError::Refused(Answer::NoSuch));
         }
-        let came = live.next(&mut self.log, &mut self.out);
+        let advanced = live.advance(&mut self.log, &mut self.out);
         live.is_sound();
-        came
+        advanced
     }
 
     /// The law of one outcome: all that anybody was told in this transaction has its cause, no two were told opposite outcomes, and each that came back learned the outcome,

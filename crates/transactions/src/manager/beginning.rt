@@ -64,7 +64,7 @@ impl<D: Disk + Drop, C: Clock + Drop> TransactionManager<D, C> {
     }
 
     /// Whether each place has a transaction.
-    fn is_crowded(&self) -> bool
+    pub(super) fn is_crowded(&self) -> bool
         ensures { result ≡ true → (p : TxNo) → is_vacant (slice_get self.now.lives (p.value - 1)) ≡ false }
     {
         for n in 0..TxNo::MAX {
@@ -78,8 +78,19 @@ impl<D: Disk + Drop, C: Clock + Drop> TransactionManager<D, C> {
         true
     }
 
+    /// The least number of this epoch, after the last one, with which a transaction may begin.
+    pub(super) fn vacant_now(&self) -> Option<TxId>
+        ensures free { IfSome result (λ t. is_vacant (slice_get self.now.lives (t.t.value - 1)) ≡ true) }
+        ensures within { IfSome result (λ t. t.t.value ≤ length self.now.lives + 1) }
+        ensures unrecorded { IfSome result (λ t. first_of (identifier_of (number_of t)) (open_records self.now.log.slots) ≡ None) }
+        ensures above { IfSome result (λ t. self.now.last < number_of t) }
+        ensures recorded { IfSome result (λ t. IsRecorded D.honest D.image self.now.log (number_of t)) }
+    {
+        self.vacant(self.epoch, self.given)
+    }
+
     /// Begins the next epoch of the log, of which no number is given yet.
-    fn next_epoch(&mut self) -> Result<u32, TxError>
+    pub(super) fn next_epoch(&mut self) -> Result<u32, TxError>
         ensures next { IfOk result (λ n. (self.new.last ≡ 65536 * n) × (n ≡ epoch_of (open_records self.new.log.slots))) }
         ensures above { OnOk result (self.old.last < self.new.last) }
         ensures same { OnErr result (self.new.last ≡ self.old.last) }
@@ -111,7 +122,7 @@ impl<D: Disk + Drop, C: Clock + Drop> TransactionManager<D, C> {
         ensures rest { self.new ≡ record self.old { log = self.new.log; last = self.new.last } }
         ensures cause { IfErr result (MayNotBegin D.faults self.old.log self.new.log self.old.lives) }
     {
-        if let Some(t) = self.vacant(self.epoch, self.given) {
+        if let Some(t) = self.vacant_now() {
             return Ok(t);
         }
         if self.is_crowded() {
@@ -208,6 +219,28 @@ impl<D: Disk + Drop, C: Clock + Drop> TransactionManager<D, C> {
             Ok(t) => t,
             Err(e) => return Err(e),
         };
+        self.begin_as(t, timeout)
+    }
+
+    /// Begins the transaction of this number, of an epoch that the log recorded.
+    pub(super) fn begin_as(
+        &mut self,
+        t: TxId,
+        timeout: Timeout,
+    ) -> Result<CommittableTransaction, TxError>
+        requires free { is_vacant (slice_get self.old.lives (t.t.value - 1)) ≡ true }
+        requires within { t.t.value ≤ length self.old.lives + 1 }
+        requires unrecorded { first_of (identifier_of (number_of t)) (open_records self.old.log.slots) ≡ None }
+        requires recorded { IsRecorded D.honest D.image self.old.log (number_of t) }
+        ensures number { IfOk result (λ tx. tx.number ≡ t) }
+        ensures fresh { live_at t self.old.lives ≡ None }
+        ensures begun { OnOk result ((y : LiveState) × (live_at t self.new.lives ≡ Some y) × IsCalled D.faults self.old.log (Begin t.t timeout) 1 Fine (blank t self.old.reading) y) }
+        ensures last { OnOk result (self.new.last ≡ number_of t) }
+        ensures others { OnOk result (AreSame t self.old.lives self.new.lives) }
+        ensures refused { OnErr result (self.new ≡ self.old) }
+        ensures rest { self.new ≡ record self.old { lives = self.new.lives; last = self.new.last } }
+        ensures memory { IfErr result (λ e. e ≡ TxError.Memory) }
+    {
         let live = match self.begun(t, timeout) {
             Ok(live) => live,
             Err(e) => return Err(e),

@@ -76,7 +76,7 @@ impl<D: Disk + Drop, C: Clock + Drop> TransactionManager<D, C> {
     }
 
     /// What was heard of a transaction is within its history. It does nothing when it runs.
-    fn is_within(&self, t: TxId)
+    pub(super) fn is_within(&self, t: TxId)
         ensures { (x : LiveState) → live_at t self.now.lives ≡ Some x → x.heard ≤ length (past x) }
     {
         if let Some(live) = self.live(t) {

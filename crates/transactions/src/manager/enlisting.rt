@@ -23,7 +23,7 @@ use outside::{Clock, Disk};
 
 impl<D: Disk + Drop, C: Clock + Drop> TransactionManager<D, C> {
     /// Enters the call that enlists something in a transaction under the next number; it gives that, the line and the answer.
-    fn enlist(&mut self, t: TxId, k: Kind) -> Result<(EnlNo, u32, Answer), TxError>
+    pub(super) fn enlist(&mut self, t: TxId, k: Kind) -> Result<(EnlNo, u32, Answer), TxError>
         ensures enlisted { IfOk result (λ x. EnlistsAt D.faults self.old.log t k x.0 x.1 x.2 self.old.lives self.new.lives) }
         ensures failed { OnErr result ((x : LiveState) → live_at t self.old.lives ≡ Some x → (y : LiveState) × (live_at t self.new.lives ≡ Some y) × (y ≡ record x { enlisted = y.enlisted })) }
         ensures others { AreSame t self.old.lives self.new.lives }

@@ -1,7 +1,8 @@
 use Rattle.std.proofs.Common.{◌∷◌, [], Some, refl, subst, sym}
 use Rattle.transactions.specs.Events.{note_in}
 use Rattle.transactions.specs.Hearing.{Given, HearsNote, given_of}
-use Rattle.transactions.proofs.Driving.{AdvancesAt, Driven, driven_none, driven_turn, given_by_answer, given_none, heard_idle_at, heard_turn_at}
+use Rattle.transactions.specs.Doing.{AdvancesAt}
+use Rattle.transactions.proofs.Driving.{Driven, driven_none, driven_turn, given_by_answer, given_none, heard_idle_at, heard_turn_at}
 use Rattle.transactions.proofs.manager.TransactionManager.drive.Goals.{in-Some-tell+in_ok-answer, in_default-tell}
 use Rattle.transactions.proofs.manager.TransactionManager.drive.Goals as goal
 

@@ -1,81 +1,32 @@
-use Rattle.std.proofs.Common.{◌≡◌, Some, None, List, IfOk, OnErr, true, ap, refl, slice_get, slice_set, subst, sym, ◌+◌, ◌*◌}
-use Rattle.std.proofs.lemmas.Option.{slice_get_read}
-use Rattle.std.specs.Vec.{vec_len}
-use Rattle.transactions.specs.Hearing.{Advances}
-use Rattle.transactions.specs.Slots.{AreSame, Standing, is_live, live_at}
-use Rattle.transactions.specs.State.{LiveState}
-use Rattle.transactions.proofs.Nexts.{all_at, came_at, next_leaves, stayed_at}
-use Rattle.transactions.proofs.Recorded.{recorded_left}
-use Rattle.transactions.proofs.Standing.{fits_left, live_here, live_was, numbered_set, others_same, still_live}
+use Rattle.std.proofs.Common.{None, Some, subst}
+use Rattle.transactions.specs.Doing.{AdvancesAt}
+use Rattle.transactions.specs.Hearing.{heard_in}
+use Rattle.transactions.proofs.Nexts.{onward_at, onward_none, onward_on, onward_then}
 use Rattle.transactions.proofs.manager.TransactionManager.next_in.Goals as goal
 
-pub next-came-requires : goal.next-came-requires
-next-came-requires g c =
-    let xs = c.self.inside.lives.items in
-    let x = c.in-Some.live.now in
-    let there : slice_get xs c.index.result ≡ Some x = slice_get_read xs (vec_len c.self.inside.lives) c.index.result x c.self.inside.lives.ok.0 (c.in-Some.ensures.variant.0 refl) c.in-Some.ensures.value in
-    record { fits = λ honest up. (c.self.invariant.1 honest).fits up c.index.result x there }
+pub loop-count-init : goal.loop-count-init
+loop-count-init g c = onward_none c.args.t c.args.self.now
 
-pub invariant_of-self-2 : goal.invariant_of-self-2
-invariant_of-self-2 g c =
-    let xs = c.self.inside.lives.items in
-    let x = c.in-Some.live.now in
-    let y = c.next-came.new.self in
-    let e = c.next-came.ensures in
-    let there : slice_get xs c.index.result ≡ Some x = slice_get_read xs (vec_len c.self.inside.lives) c.index.result x c.self.inside.lives.ok.0 (c.in-Some.ensures.variant.0 refl) c.in-Some.ensures.value in (
-      numbered_set xs c.index.result x y there c.self.invariant.0 (next_leaves c.next-came.result x y e.comes e.stays).1 c.is_sound.ensures.own,
-      λ honest. fits_left g.D.Disk.honest g.D.Disk.image g.D.Disk.faults c.self.inside.log c.next-came.new.log xs c.index.result x y honest c.self.invariant.0 there e.leaves (c.self.invariant.1 honest),
-      e.leaves.later.unarmed c.self.invariant.2,
-      recorded_left g.D.Disk.honest g.D.Disk.image g.D.Disk.faults c.self.inside.log c.next-came.new.log x.tx y.tx (65536 * c.self.inside.epoch + c.self.inside.given)
-          (c.no_transaction_is_an_epoch.ensures.test x.tx.transaction) e.leaves c.self.invariant.3,
-    )
+pub returns-in-Err-clause-stays : goal.returns-in-Err-clause-stays
+returns-in-Err-clause-stays g c = onward_then None c.args.t c.args.self.now c.loop-count.self c.advance.new.self c.loop-count.invariant c.in-Err.ensures.stays
 
-pub returns-clause-comes : goal.returns-clause-comes
-returns-clause-comes g c =
-    let xs = c.self.inside.lives.items in
-    let i = c.index.result in
-    let x = c.in-Some.live.now in
-    let y = c.next-came.new.self in
-    let e = c.next-came.ensures in
-    let t = c.args.t in
-    let there : slice_get xs i ≡ Some x = slice_get_read xs (vec_len c.self.inside.lives) i x c.self.inside.lives.ok.0 (c.in-Some.ensures.variant.0 refl) c.in-Some.ensures.value in
-    let used : is_live t x ≡ true = sym c.if-not-is_live.ensures in
-    let now = live_here t xs i x y c.index.ensures.place there (still_live t x y (next_leaves c.next-came.result x y e.comes e.stays) used) in
-    subst (λ (s : Standing _ _). IfOk c.next-came.result (λ n. (v : LiveState) → live_at t s.lives ≡ Some v → (w : LiveState) × (live_at t (slice_set xs i y) ≡ Some w) × Advances n v w)) c.self.view_is
-    (came_at t c.next-came.result xs (slice_set xs i y) x y (live_was t xs i x c.index.ensures.place there used) now e.comes)
+pub returns-in-Heard-clause-comes : goal.returns-in-Heard-clause-comes
+returns-in-Heard-clause-comes g c =
+    let y = c.loop-count.self in
+    let z = c.advance.new.self in
+    onward_then (Some c.in-Heard.event) c.args.t c.args.self.now y z c.loop-count.invariant (subst (λ a. AdvancesAt (heard_in a) c.args.t y.lives z.lives) c.in-Heard.is c.in-Ok.ensures.comes)
+
+pub returns-in-Idle-clause-comes : goal.returns-in-Idle-clause-comes
+returns-in-Idle-clause-comes g c =
+    let y = c.loop-count.self in
+    let z = c.advance.new.self in
+    onward_then None c.args.t c.args.self.now y z c.loop-count.invariant (subst (λ a. AdvancesAt (heard_in a) c.args.t y.lives z.lives) c.in-Idle.is c.in-Ok.ensures.comes)
 
 pub returns-clause-stays : goal.returns-clause-stays
-returns-clause-stays g c =
-    let xs = c.self.inside.lives.items in
-    let i = c.index.result in
-    let x = c.in-Some.live.now in
-    let y = c.next-came.new.self in
-    let e = c.next-came.ensures in
-    let t = c.args.t in
-    let there : slice_get xs i ≡ Some x = slice_get_read xs (vec_len c.self.inside.lives) i x c.self.inside.lives.ok.0 (c.in-Some.ensures.variant.0 refl) c.in-Some.ensures.value in
-    let used : is_live t x ≡ true = sym c.if-not-is_live.ensures in
-    let now = live_here t xs i x y c.index.ensures.place there (still_live t x y (next_leaves c.next-came.result x y e.comes e.stays) used) in
-    subst (λ (s : Standing _ _). OnErr c.next-came.result ((v : LiveState) → live_at t s.lives ≡ Some v → (w : LiveState) × (live_at t (slice_set xs i y) ≡ Some w) × Advances None v w)) c.self.view_is
-    (stayed_at t c.next-came.result xs (slice_set xs i y) x y (live_was t xs i x c.index.ensures.place there used) now e.stays)
+returns-clause-stays g c = onward_at c.args.t c.args.self.now c.loop-count.self c.is_within.ensures c.loop-count.invariant
 
-pub returns-clause-all : goal.returns-clause-all
-returns-clause-all g c = λ none.
-    let xs = c.self.inside.lives.items in
-    let i = c.index.result in
-    let x = c.in-Some.live.now in
-    let y = c.next-came.new.self in
-    let e = c.next-came.ensures in
-    let t = c.args.t in
-    let there : slice_get xs i ≡ Some x = slice_get_read xs (vec_len c.self.inside.lives) i x c.self.inside.lives.ok.0 (c.in-Some.ensures.variant.0 refl) c.in-Some.ensures.value in
-    let used : is_live t x ≡ true = sym c.if-not-is_live.ensures in
-    let now = live_here t xs i x y c.index.ensures.place there (still_live t x y (next_leaves c.next-came.result x y e.comes e.stays) used) in
-    all_at t (slice_set xs i y) y now (e.all none)
-
-pub returns-clause-others : goal.returns-clause-others
-returns-clause-others g c =
-    let xs = c.self.inside.lives.items in
-    let x = c.in-Some.live.now in
-    let y = c.next-came.new.self in
-    let there : slice_get xs c.index.result ≡ Some x = slice_get_read xs (vec_len c.self.inside.lives) c.index.result x c.self.inside.lives.ok.0 (c.in-Some.ensures.variant.0 refl) c.in-Some.ensures.value in
-    subst (λ (l : List LiveState). AreSame c.args.t l (slice_set xs c.index.result c.next-came.new.self)) (ap (λ (s : Standing _ _). s.lives) c.self.view_is)
-    (others_same c.args.t xs c.index.result x y c.index.ensures.place there (sym c.if-not-is_live.ensures) (next_leaves c.next-came.result x y c.next-came.ensures.comes c.next-came.ensures.stays).1)
+pub loop-count-preserved : goal.loop-count-preserved
+loop-count-preserved g c =
+    let y = c.loop-count.self in
+    let z = c.advance.new.self in
+    onward_on c.args.t c.args.self.now y z c.loop-count.invariant (subst (λ a. AdvancesAt (heard_in a) c.args.t y.lives z.lives) c.in-Did.is c.in-Ok.ensures.comes) c.advance.ensures.others c.advance.ensures.time

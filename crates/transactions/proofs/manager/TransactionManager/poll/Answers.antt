@@ -1,0 +1,43 @@
+use Rattle.std.proofs.Common.{◌≡◌, ◌∙◌, Bool, true, false, None, Some, refl, ap, subst, sym}
+use Rattle.transactions.specs.Doing.{AdvancesAt}
+use Rattle.transactions.specs.Hearing.{heard_in}
+use Rattle.transactions.specs.Slots.{Standing}
+use Rattle.transactions.proofs.Nexts.{onward_at, onward_none, onward_on, onward_then}
+use Rattle.transactions.proofs.manager.TransactionManager.poll.Goals as goal
+
+-- what is so and isn't so
+not_both : (b : Bool) → b ≡ true → b ≡ false → ⊥
+not_both true h k = absurd cc
+not_both false h k = absurd cc
+
+pub loop-count-init : goal.loop-count-init
+loop-count-init g c = (onward_none c.args.tx.now.number c.args.self.now, λ h. refl)
+
+pub returns-then-not-is_settled-clause-comes : goal.returns-then-not-is_settled-clause-comes
+returns-then-not-is_settled-clause-comes g c = onward_at c.args.tx.now.number c.args.self.now c.loop-count.self c.is_within.ensures c.loop-count.invariant.0
+
+pub returns-in-Heard-clause-comes : goal.returns-in-Heard-clause-comes
+returns-in-Heard-clause-comes g c =
+    let t = c.args.tx.now.number in
+    let y = c.loop-count.self in
+    let z = c.advance.new.self in
+    onward_then (Some c.in-Heard.event) t c.args.self.now y z c.loop-count.invariant.0 (subst (λ a. AdvancesAt (heard_in a) t y.lives z.lives) c.in-Heard.is c.in-Ok.ensures.comes)
+
+pub returns-in-Idle-clause-comes : goal.returns-in-Idle-clause-comes
+returns-in-Idle-clause-comes g c =
+    let t = c.args.tx.now.number in
+    let y = c.loop-count.self in
+    let z = c.advance.new.self in
+    onward_then None t c.args.self.now y z c.loop-count.invariant.0 (subst (λ a. AdvancesAt (heard_in a) t y.lives z.lives) c.in-Idle.is c.in-Ok.ensures.comes)
+
+pub loop-count-preserved : goal.loop-count-preserved
+loop-count-preserved g c =
+    let t = c.args.tx.now.number in
+    let y = c.loop-count.self in
+    let z = c.advance.new.self in
+    let settled = g.D.Relay.is_settled in
+    let here : settled c.self-in-loop-count.inside.log.disk ≡ true = subst (λ d. settled d ≡ true) c.disk.ensures (sym c.if-not-is_settled.ensures) in
+    let stood : settled y.log.disk ≡ true = subst (λ (s : Standing _ _). settled s.log.disk ≡ true) c.self-in-loop-count.view_is here in (
+      onward_on t c.args.self.now y z c.loop-count.invariant.0 (subst (λ a. AdvancesAt (heard_in a) t y.lives z.lives) c.in-Did.is c.in-Ok.ensures.comes) c.advance.ensures.others c.advance.ensures.time,
+      λ h. absurd (not_both (settled y.log.disk) stood (ap (λ (s : Standing _ _). settled s.log.disk) (c.loop-count.invariant.1 h) ∙ h)),
+    )
