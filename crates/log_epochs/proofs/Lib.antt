@@ -1,4 +1,4 @@
 mod Names
-mod Records
+pub mod Records
 mod Freed
 mod Images

@@ -1,5 +1,5 @@
 -- A call of one transaction of a manager.
-use Rattle.std.proofs.Common.{ℕ, false, ◌≡◌, ◌≢◌, ◌-◌, ◌^◌, ◌∙◌, List, Option, Some, None, Result, Ok, Err, IfOk, IfErr, OnErr, refl, ap, subst, sym, inl, inr}
+use Rattle.std.proofs.Common.{ℕ, false, ◌≡◌, ◌≢◌, ◌-◌, ◌^◌, ◌∙◌, List, Option, Some, None, Result, Ok, Err, IfOk, IfErr, OnErr, ◌⊎◌, refl, ap, subst, sym, inl, inr}
 use Rattle.dtx_values.specs.declared.call.Call.{Call}
 use Rattle.dtx_values.specs.declared.entry.Answer.{Answer}
 use Rattle.dtx_values.specs.declared.tx_id.TxId.{TxId}
@@ -12,6 +12,7 @@ use Rattle.transactions.specs.declared.error.TxError.{TxError}
 use Rattle.transactions.specs.declared.error.TxError.TheVariants.{LogFull, LogStopped, Memory, Many, NoEpoch, Refused, Waits}
 use Rattle.transactions.specs.Calling.{IsCalled}
 use Rattle.transactions.specs.Doing.{CallsAt, MayFail}
+use Rattle.transactions.specs.Enlisting.{MayNotMake}
 use Rattle.transactions.specs.Slots.{live_at}
 use Rattle.transactions.specs.State.{LiveState}
 use Rattle.transactions.proofs.Passing.{none-false}
@@ -36,46 +37,29 @@ pub stays_at : {A : Type 0} (t : TxId) (z : Result A TxError) (xs ys : List Live
 stays_at t (Ok r) xs ys x y was now same = tt
 stays_at t (Err e) xs ys x y was now same = now ∙ (ap (λ (v : LiveState). Some v) same ∙ sym was)
 
--- why it wasn't done
+-- what isn't done for another cause than want of memory has that cause
+pub memory_or : {P : Type 0} (e : TxError) → (e ≢ Memory → P) → (e ≡ Memory) ⊎ P
+memory_or Memory why = inl refl
+memory_or (Refused a) why = inr (why (λ q. cc))
+memory_or Waits why = inr (why (λ q. cc))
+memory_or Many why = inr (why (λ q. cc))
+memory_or LogFull why = inr (why (λ q. cc))
+memory_or LogStopped why = inr (why (λ q. cc))
+memory_or NoEpoch why = inr (why (λ q. cc))
+
+-- why a call wasn't done
 pub may_fail : {A : Type 0} (t : TxId) (z : Result A TxError) (xs : List LiveState) (x : LiveState) → live_at t xs ≡ Some x → IfErr z (λ e. e ≢ Memory → (e ≡ Many) × (x.lines ≡ 2 ^ 32 - 1)) → IfErr z (MayFail t xs)
 may_fail t (Ok r) xs x was cause = tt
-may_fail t (Err Memory) xs x was cause = inl refl
-may_fail t (Err Many) xs x was cause = let m = cause (λ q. never q) in inr (inr (m.0, x, was, m.1))
-  where
-    never : Many ≡ Memory → ⊥
-    never q = cc
-may_fail t (Err Waits) xs x was cause = absurd (other (cause (λ q. never q)).0)
-  where
-    never : Waits ≡ Memory → ⊥
-    never q = cc
+may_fail t (Err e) xs x was cause = elim (memory_or e cause) [
+  | inl memory ↦ inl memory
+  | inr many ↦ inr (inr (many.0, x, was, many.1))
+]
 
-    other : Waits ≡ Many → ⊥
-    other q = cc
-may_fail t (Err LogFull) xs x was cause = absurd (other (cause (λ q. never q)).0)
-  where
-    never : LogFull ≡ Memory → ⊥
-    never q = cc
-
-    other : LogFull ≡ Many → ⊥
-    other q = cc
-may_fail t (Err LogStopped) xs x was cause = absurd (other (cause (λ q. never q)).0)
-  where
-    never : LogStopped ≡ Memory → ⊥
-    never q = cc
-
-    other : LogStopped ≡ Many → ⊥
-    other q = cc
-may_fail t (Err NoEpoch) xs x was cause = absurd (other (cause (λ q. never q)).0)
-  where
-    never : NoEpoch ≡ Memory → ⊥
-    never q = cc
-
-    other : NoEpoch ≡ Many → ⊥
-    other q = cc
-may_fail t (Err (Refused a)) xs x was cause = absurd (other (cause (λ q. never q)).0)
-  where
-    never : Refused a ≡ Memory → ⊥
-    never q = cc
-
-    other : Refused a ≡ Many → ⊥
-    other q = cc
+-- why nothing was made
+pub may_not_make : {A : Type 0} (all_used : LiveState → Type 0) (t : TxId) (z : Result A TxError) (xs : List LiveState) (x : LiveState) → live_at t xs ≡ Some x
+    → IfErr z (λ e. e ≢ Memory → (e ≡ Many) × (all_used x ⊎ (x.lines ≡ 2 ^ 32 - 1))) → IfErr z (MayNotMake all_used t xs)
+may_not_make all_used t (Ok r) xs x was cause = tt
+may_not_make all_used t (Err e) xs x was cause = elim (memory_or e cause) [
+  | inl memory ↦ inl memory
+  | inr many ↦ inr (inr (many.0, x, was, many.1))
+]

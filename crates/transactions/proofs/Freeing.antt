@@ -20,7 +20,8 @@ use Rattle.log_epochs.specs.Beginning.{AllAre}
 use Rattle.transactions.specs.Keeping.{AreNumbered}
 use Rattle.transactions.specs.Recovering.{OnlyFrees, has_place, is_found, is_passed, may_be_freed}
 use Rattle.transactions.specs.State.{LiveState}
-use Rattle.transactions.proofs.Lasting.{among-without, among_both, found-without, length-without, others-without}
+use Rattle.log_epochs.proofs.Records.{length-without}
+use Rattle.transactions.proofs.Lasting.{among-without, among_both, found-without, others-without}
 
 -- some element of a list that was made by a function passes
 pub list_any-map : {X Y : Type 0} (p : X → Bool) (h : Y → X) (ys : List Y) → list_any p (map h ys) ≡ list_any (λ y. p (h y)) ys

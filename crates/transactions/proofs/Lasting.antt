@@ -1,6 +1,6 @@
 -- Records that are taken out of a log one by one, where they pass a test.
 use Rattle.std.specs.Prelude.{All, Contains, filter}
-use Rattle.std.proofs.Common.{◌≡◌, ◌<◌, inl, inr, ℕ, Bool, true, false, not, cond, eqb, max, List, [], ◌∷◌, length, Some, refl, ap, sym, ◌∙◌, arith}
+use Rattle.std.proofs.Common.{◌≡◌, inl, inr, ℕ, Bool, true, false, not, cond, eqb, max, List, [], ◌∷◌, Some, refl, ap, sym, ◌∙◌, arith}
 use Rattle.std.proofs.lemmas.Bool.{both_ways, cases_Bool, eqb-true}
 use Rattle.std.proofs.lemmas.List.Elements.{All-cons, All-contains, All-contains_itself, All-weaker, Contains-append_right}
 use Rattle.dtx_model.specs.Log.{CommitRecord, first_of, is_record_of, without_first_of}
@@ -76,11 +76,3 @@ epoch_others p (x ∷ rs) none = elim (cases_Bool (p x)) [
 pub epoch_same : (p : CommitRecord → Bool) (rs qs : List CommitRecord) → ((r : CommitRecord) → p r ≡ true → epoch_of_record r ≡ 0) → filter (λ x. not (p x)) qs ≡ filter (λ x. not (p x)) rs
     → epoch_of qs ≡ epoch_of rs
 epoch_same p rs qs none same = sym (epoch_others p qs none) ∙ (ap epoch_of same ∙ epoch_others p rs none)
-
--- there is one less
-pub length-without : (id : ℕ) (rs : List CommitRecord) (r : CommitRecord) → first_of id rs ≡ Some r → length (without_first_of id rs) < length rs
-length-without id [] r e = absurd cc
-length-without id (x ∷ rs) r e = elim (cases_Bool (eqb x.id id)) [
-  | inl same ↦ rw same (omega arith)
-  | inr other ↦ rw other (let h = length-without id rs r (rw other at e) in omega arith)
-]

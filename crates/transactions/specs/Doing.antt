@@ -1,8 +1,9 @@
 -- What the calls of a manager make of its transactions.
-use Rattle.std.specs.Prelude.{ℕ, ◌≡◌, ◌⊎◌, ◌^◌, ◌-◌, Bool, true, false, List, [], Option, Some, None, Result, Ok, Err}
+use Rattle.std.specs.Prelude.{ℕ, ◌≡◌, ◌≢◌, ◌⊎◌, ◌^◌, ◌-◌, Bool, true, false, List, [], Option, Some, None, Result, Ok, Err}
 use Rattle.dtx_values.specs.declared.call.Call.{Call}
 use Rattle.dtx_values.specs.declared.entry.Answer.{Answer}
-use Rattle.dtx_values.specs.declared.entry.Answer.TheVariants.{NoSuch}
+use Rattle.dtx_values.specs.declared.call.Call.TheVariants.{Marshal}
+use Rattle.dtx_values.specs.declared.entry.Answer.TheVariants.{Id, NoSuch, Wait}
 use Rattle.dtx_values.specs.declared.note.Note.{Note}
 use Rattle.dtx_values.specs.declared.note.Reply.{Reply}
 use Rattle.dtx_values.specs.declared.tx_id.TxId.{TxId}
@@ -48,6 +49,12 @@ IsRefused faults log t c answer old new = (line : ℕ) × CallsAt faults log t c
 -- Why a call of a transaction isn't entered: memory ran out; no transaction of this number goes on; or all numbers of lines are used.
 abbrev pub MayFail : TxId → List LiveState → TxError → Type 0
 MayFail t old e = (e ≡ Memory) ⊎ ((e ≡ Refused NoSuch) × (live_at t old ≡ None)) ⊎ ((e ≡ Many) × (x : LiveState) × (live_at t old ≡ Some x) × (x.lines ≡ 2 ^ 32 - 1))
+
+-- Why there is no identifier: the call wasn't entered, and nothing changed; or it was answered so, which is neither an identifier nor that it waits.
+abbrev pub IsUnidentified : {D : Type 0} → (D → ℕ) → LogState D → TxId → List LiveState → List LiveState → TxError → Type 0
+IsUnidentified faults log t old new e =
+    (MayFail t old e × (live_at t new ≡ live_at t old))
+    ⊎ ((answer : Answer) × (e ≡ Refused answer) × (answer ≢ Wait) × ((id : ℕ) → answer ≢ Id id) × (line : ℕ) × CallsAt faults log t (Marshal t.t) line answer old new)
 
 -- What a call without objects comes to: it was done or waits; or it was refused, with the answer that is given; or it wasn't entered.
 abbrev pub Enters : {A D : Type 0} → (D → ℕ) → LogState D → TxId → Call → List LiveState → List LiveState → Result A TxError → Type 0

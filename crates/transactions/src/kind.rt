@@ -7,7 +7,7 @@ use dtx_values::{Call, EnlNo, EnlistOption, Outcome, RmNo, Support, TxNo, Vote};
 
 /// What is enlisted in a transaction.
 #[derive(Clone, Copy, PartialEq, Eq, Debug)]
-pub(crate) enum Kind {
+pub enum Kind {
     /// A volatile resource.
     Volatile(EnlistOption),
     /// A durable resource of a resource manager.

@@ -40,6 +40,7 @@ pub use event::{Event, Next};
 pub use handle::{
     CommittableTransaction, DependentTransaction, Enlistment, Phases, TransactionScope,
 };
+pub use kind::Kind;
 pub use manager::TransactionManager;
 pub use resource::ResourceManager;
 pub use work::Work;

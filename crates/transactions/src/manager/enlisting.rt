@@ -8,7 +8,7 @@ ghost use Rattle.dtx_values.specs.declared.entry.Entry.TheVariants.{Answered};
 ghost use Rattle.dtx_model.specs.Words.{has};
 ghost use Rattle.transactions.specs.Answered.{Has, is_answer_to};
 ghost use Rattle.transactions.specs.Doing.{CallsAt, Goes, HeardAt, IsRefused, is_done};
-ghost use Rattle.transactions.specs.Enlisting.{ClonesAt, EnlistsAt, IsAnswered, IsTaken};
+ghost use Rattle.transactions.specs.Enlisting.{ClonesAt, EnlistsAt, IsAnswered, IsNotCloned, IsNotEnlisted, IsTaken, MayNotClone, MayNotEnlist, NumbersClones, NumbersEnlistments};
 ghost use Rattle.transactions.specs.Slots.{AreSame, KeepsRest, KeepsTime, live_at};
 ghost use Rattle.transactions.specs.State.{LiveState, past};
 ghost use Rattle.transactions.specs.declared.kind.Kind.TheVariants.{Durable, Promotable, Volatile};
@@ -25,9 +25,10 @@ impl<D: Disk + Drop, C: Clock + Drop> TransactionManager<D, C> {
     /// Enters the call that enlists something in a transaction under the next number; it gives that, the line and the answer.
     pub(super) fn enlist(&mut self, t: TxId, k: Kind) -> Result<(EnlNo, u32, Answer), TxError>
         ensures enlisted { IfOk result (λ x. EnlistsAt D.faults self.old.log t k x.0 x.1 x.2 self.old.lives self.new.lives) }
-        ensures failed { OnErr result ((x : LiveState) → live_at t self.old.lives ≡ Some x → (y : LiveState) × (live_at t self.new.lives ≡ Some y) × (y ≡ record x { enlisted = y.enlisted })) }
+        ensures failed { OnErr result (NumbersEnlistments t self.old.lives self.new.lives) }
         ensures others { AreSame t self.old.lives self.new.lives }
         ensures rest { KeepsRest self.old self.new }
+        ensures cause { IfErr result (MayNotEnlist t self.old.lives) }
     {
         let Some(live) = self.lives.get_mut(index(t)) else {
             return Err(TxError::Refused(Answer::NoSuch));
@@ -38,6 +39,25 @@ impl<D: Disk + Drop, C: Clock + Drop> TransactionManager<D, C> {
         let enlisted = live.enlist(&self.log, &mut self.out, self.actor, k);
         live.is_sound();
         enlisted
+    }
+
+    /// Enlists something in a transaction under the next number, now or once the transaction is promoted.
+    pub(super) fn enlisted(&mut self, t: TxId, k: Kind) -> Result<Enlistment, TxError>
+        ensures enlisted { IfOk result (λ e. (e.transaction ≡ t) × (line : ℕ) × (a : Answer) × EnlistsAt D.faults self.old.log t k e.number line a self.old.lives self.new.lives × (is_done a ≡ true)) }
+        ensures refused { IfErr result (IsNotEnlisted D.faults self.old.log t k self.old.lives self.new.lives) }
+        ensures others { AreSame t self.old.lives self.new.lives }
+        ensures rest { KeepsRest self.old self.new }
+    {
+        match self.enlist(t, k) {
+            Ok((number, _, answer)) => match done(answer) {
+                Ok(()) => Ok(Enlistment {
+                    transaction: t,
+                    number,
+                }),
+                Err(e) => Err(e),
+            },
+            Err(e) => Err(e),
+        }
     }
 
     /// Enlists a volatile resource. (`EnlistVolatile` of System.Transactions.)
@@ -53,20 +73,11 @@ impl<D: Disk + Drop, C: Clock + Drop> TransactionManager<D, C> {
         k: EnlistOption,
     ) -> Result<Enlistment, TxError>
         ensures enlisted { IfOk result (λ e. (e.transaction ≡ tx.now.number) × (line : ℕ) × (a : Answer) × EnlistsAt D.faults self.old.log tx.now.number (Volatile k) e.number line a self.old.lives self.new.lives × (is_done a ≡ true)) }
+        ensures refused { IfErr result (IsNotEnlisted D.faults self.old.log tx.now.number (Volatile k) self.old.lives self.new.lives) }
         ensures others { AreSame tx.now.number self.old.lives self.new.lives }
         ensures rest { KeepsRest self.old self.new }
     {
-        let t = tx.number;
-        match self.enlist(t, Kind::Volatile(k)) {
-            Ok((number, _, answer)) => match done(answer) {
-                Ok(()) => Ok(Enlistment {
-                    transaction: t,
-                    number,
-                }),
-                Err(e) => Err(e),
-            },
-            Err(e) => Err(e),
-        }
+        self.enlisted(tx.number, Kind::Volatile(k))
     }
 
     /// Does what is pending in a transaction, and gives the answer of the call of this line: that one, or where it had to wait the one that came.
@@ -162,23 +173,12 @@ impl<D: Disk + Drop, C: Clock + Drop> TransactionManager<D, C> {
         ensures others { AreSame tx.now.number self.old.lives self.new.lives }
         ensures time { KeepsTime self.old self.new }
     {
-        let t = tx.number;
-        let (number, _, answer) = match self.enlist(t, Kind::Promotable(rm)) {
-            Ok(enlisted) => enlisted,
+        let made = match self.begin_enlist_promotable(tx, rm) {
+            Ok(made) => made,
             Err(e) => return Err(e),
         };
-        match self.drive(t, o) {
-            Ok(()) => (),
-            Err(e) => return Err(e),
-        }
-        if let Answer::False = answer {
-            return Ok(None);
-        }
-        match done(answer) {
-            Ok(()) => Ok(Some(Enlistment {
-                transaction: t,
-                number,
-            })),
+        match self.drive(tx.number, o) {
+            Ok(()) => Ok(made),
             Err(e) => Err(e),
         }
     }
@@ -221,6 +221,7 @@ impl<D: Disk + Drop, C: Clock + Drop> TransactionManager<D, C> {
         k: CloneKind,
     ) -> Result<DependentTransaction, TxError>
         ensures cloned { IfOk result (λ d. (d.transaction ≡ tx.now.number) × (a : Answer) × ClonesAt D.faults self.old.log tx.now.number k d.clone a self.old.lives self.new.lives × (is_done a ≡ true)) }
+        ensures refused { IfErr result (IsNotCloned D.faults self.old.log tx.now.number k self.old.lives self.new.lives) }
         ensures others { AreSame tx.now.number self.old.lives self.new.lives }
         ensures rest { KeepsRest self.old self.new }
     {
@@ -240,8 +241,10 @@ impl<D: Disk + Drop, C: Clock + Drop> TransactionManager<D, C> {
     /// Enters the call that makes a clone of a transaction under the next number; it gives that and the answer.
     fn clone_in(&mut self, t: TxId, k: CloneKind) -> Result<(CloneNo, Answer), TxError>
         ensures cloned { IfOk result (λ x. ClonesAt D.faults self.old.log t k x.0 x.1 self.old.lives self.new.lives) }
+        ensures failed { OnErr result (NumbersClones t self.old.lives self.new.lives) }
         ensures others { AreSame t self.old.lives self.new.lives }
         ensures rest { KeepsRest self.old self.new }
+        ensures cause { IfErr result (MayNotClone t self.old.lives) }
     {
         let Some(live) = self.lives.get_mut(index(t)) else {
             return Err(TxError::Refused(Answer::NoSuch));

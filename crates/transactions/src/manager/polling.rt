@@ -4,12 +4,12 @@ ghost use Rattle.outside.specs.Disk.{AreWithin};
 ghost use Rattle.dtx_values.specs.TxIds.{number_of};
 ghost use Rattle.dtx_values.specs.declared.call.Call.TheVariants.{Begin, Complete, Gone, Marshal, Tick};
 ghost use Rattle.dtx_values.specs.declared.entry.Answer.{Answer};
-ghost use Rattle.dtx_values.specs.declared.entry.Answer.TheVariants.{Fine, Id, NoSuch, Wait};
+ghost use Rattle.dtx_values.specs.declared.entry.Answer.TheVariants.{False, Fine, Id, NoSuch, Wait};
 ghost use Rattle.dtx_values.specs.declared.number.EnlNo.{EnlNo};
 ghost use Rattle.dtx_values.specs.declared.tx_id.TxId.{TxId};
 ghost use Rattle.transactions.specs.Calling.{IsCalled};
-ghost use Rattle.transactions.specs.Doing.{AdvancesAt, CallsAt, Enters, is_done};
-ghost use Rattle.transactions.specs.Enlisting.{EnlistsAt, IsTaken};
+ghost use Rattle.transactions.specs.Doing.{AdvancesAt, CallsAt, Enters, IsUnidentified, is_done};
+ghost use Rattle.transactions.specs.Enlisting.{EnlistsAt, IsNotEnlisted, IsTaken};
 ghost use Rattle.transactions.specs.Hearing.{found_in};
 ghost use Rattle.transactions.specs.Numbering.{MayNotBegin, NumbersLog};
 ghost use Rattle.transactions.specs.Slots.{AreSame, KeepsRest, KeepsTime, live_at};
@@ -18,13 +18,20 @@ ghost use Rattle.transactions.specs.Waiting.{AllAsked};
 ghost use Rattle.transactions.specs.declared.event.Next.TheVariants.{Disk as FirstDisk, Nothing};
 ghost use Rattle.transactions.specs.declared.kind.Kind.TheVariants.{Durable, Promotable};
 
-use super::{NODE, TransactionManager, done};
+use super::{NODE, TransactionManager};
 use crate::error::TxError;
 use crate::event::{Advance, Next};
 use crate::handle::{CommittableTransaction, Enlistment, Phases};
 use crate::kind::Kind;
 use dtx_values::{Answer, Call, CloneNo, RmNo, Timeout, TxId};
 use outside::{Clock, Disk, Relay};
+
+/// Whether nothing was enlisted since another resource is.
+fn is_taken(e: TxError) -> bool
+    ensures { result ≡ true → e ≡ TxError.Refused False }
+{
+    matches!(e, TxError::Refused(Answer::False))
+}
 
 impl<D: Disk + Drop, C: Clock + Drop> TransactionManager<D, C> {
     /// The handle of the transaction of this number for good ([`CommittableTransaction::into_number`]); none exactly where none of this number goes on.
@@ -52,20 +59,11 @@ impl<D: Disk + Drop, C: Clock + Drop> TransactionManager<D, C> {
         p: Phases,
     ) -> Result<Enlistment, TxError>
         ensures enlisted { IfOk result (λ e. (e.transaction ≡ tx.now.number) × (line : ℕ) × (a : Answer) × EnlistsAt D.faults self.old.log tx.now.number (Durable rm p) e.number line a self.old.lives self.new.lives × (is_done a ≡ true)) }
+        ensures refused { IfErr result (IsNotEnlisted D.faults self.old.log tx.now.number (Durable rm p) self.old.lives self.new.lives) }
         ensures others { AreSame tx.now.number self.old.lives self.new.lives }
         ensures rest { KeepsRest self.old self.new }
     {
-        let t = tx.number;
-        match self.enlist(t, Kind::Durable(rm, p)) {
-            Ok((number, _, answer)) => match done(answer) {
-                Ok(()) => Ok(Enlistment {
-                    transaction: t,
-                    number,
-                }),
-                Err(e) => Err(e),
-            },
-            Err(e) => Err(e),
-        }
+        self.enlisted(tx.number, Kind::Durable(rm, p))
     }
 
     /// Enlists a resource that owns the commit, for a program that asks what comes next. None exactly where the transaction answers so: another resource is enlisted already.
@@ -79,23 +77,13 @@ impl<D: Disk + Drop, C: Clock + Drop> TransactionManager<D, C> {
         rm: RmNo,
     ) -> Result<Option<Enlistment>, TxError>
         ensures enlisted { IfOk result (λ r. (number : EnlNo) × (line : ℕ) × (a : Answer) × EnlistsAt D.faults self.old.log tx.now.number (Promotable rm) number line a self.old.lives self.new.lives × IsTaken tx.now.number number a r) }
+        ensures refused { IfErr result (IsNotEnlisted D.faults self.old.log tx.now.number (Promotable rm) self.old.lives self.new.lives) }
         ensures others { AreSame tx.now.number self.old.lives self.new.lives }
         ensures rest { KeepsRest self.old self.new }
     {
-        let t = tx.number;
-        let (number, _, answer) = match self.enlist(t, Kind::Promotable(rm)) {
-            Ok(enlisted) => enlisted,
-            Err(e) => return Err(e),
-        };
-        if let Answer::False = answer {
-            return Ok(None);
-        }
-        match done(answer) {
-            Ok(()) => Ok(Some(Enlistment {
-                transaction: t,
-                number,
-            })),
-            Err(e) => Err(e),
+        match self.enlisted(tx.number, Kind::Promotable(rm)) {
+            Ok(e) => Ok(Some(e)),
+            Err(e) => { if is_taken(e) { Ok(None) } else { Err(e) } }
         }
     }
 
@@ -108,6 +96,7 @@ impl<D: Disk + Drop, C: Clock + Drop> TransactionManager<D, C> {
     pub fn begin_identifier(&mut self, tx: &CommittableTransaction) -> Result<Option<u128>, TxError>
         ensures identified { (id : ℕ) → result ≡ Ok (Some id) → (line : ℕ) × CallsAt D.faults self.old.log tx.now.number (Marshal tx.now.number.t) line (Id id) self.old.lives self.new.lives }
         ensures waits { result ≡ Ok None → (line : ℕ) × CallsAt D.faults self.old.log tx.now.number (Marshal tx.now.number.t) line Wait self.old.lives self.new.lives }
+        ensures refused { IfErr result (IsUnidentified D.faults self.old.log tx.now.number self.old.lives self.new.lives) }
         ensures others { AreSame tx.now.number self.old.lives self.new.lives }
         ensures rest { KeepsRest self.old self.new }
     {
@@ -223,6 +212,7 @@ impl<D: Relay + Drop, C: Clock + Drop> TransactionManager<D, C> {
         ensures quiet { (tx : CommittableTransaction) → result ≡ Ok (Some tx) → IsTrue (D.is_settled self.new.log.disk) }
         ensures unsettled { D.is_settled self.old.log.disk ≡ false → (result ≡ Ok None) × (self.new ≡ self.old) }
         ensures rises { self.old.last ≤ self.new.last }
+        ensures only { result ≡ Ok None → (D.is_settled self.old.log.disk ≡ false) ⊎ (self.old.last < self.new.last) }
         ensures waits { result ≡ Ok None → self.new.lives ≡ self.old.lives }
         ensures refused { OnErr result (self.new.lives ≡ self.old.lives) }
         ensures log { NumbersLog D.honest D.image D.faults self.old.log self.new.log }

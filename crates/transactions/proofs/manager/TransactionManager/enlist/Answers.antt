@@ -1,9 +1,11 @@
-use Rattle.std.proofs.Common.{◌≡◌, Some, List, IfOk, OnErr, true, ap, refl, slice_get, slice_set, subst, sym}
+use Rattle.std.proofs.Common.{◌≡◌, ◌≤◌, Some, List, IfOk, IfErr, OnErr, true, ap, refl, slice_get, slice_set, subst, sym}
 use Rattle.std.proofs.lemmas.Option.{slice_get_read}
 use Rattle.std.specs.Vec.{vec_len}
-use Rattle.transactions.specs.Enlisting.{EnlistsAt}
-use Rattle.transactions.specs.Slots.{AreSame, Standing, is_live, live_at}
+use Rattle.dtx_values.specs.declared.number.TheConstants.EnlNo.{MAX as ENLISTMENTS}
+use Rattle.transactions.specs.Enlisting.{EnlistsAt, MayNotEnlist, NumbersEnlistments}
+use Rattle.transactions.specs.Slots.{AreSame, Standing, is_live}
 use Rattle.transactions.specs.State.{LiveState}
+use Rattle.transactions.proofs.Calls.{may_not_make}
 use Rattle.transactions.proofs.Enlisted.{enlist_leaves, enlisted_at, not_enlisted_at}
 use Rattle.transactions.proofs.Standing.{fits_set, live_here, live_number, live_was, numbered_set, others_same, still_live}
 use Rattle.transactions.proofs.manager.TransactionManager.enlist.Goals as goal
@@ -47,7 +49,7 @@ returns-clause-failed g c =
     let there : slice_get xs i ≡ Some x = slice_get_read xs (vec_len c.self.inside.lives) i x c.self.inside.lives.ok.0 (c.in-Some.ensures.variant.0 refl) c.in-Some.ensures.value in
     let used : is_live t x ≡ true = sym c.if-not-is_live.ensures in
     let now = live_here t xs i x y c.index.ensures.place there (still_live t x y (enlist_leaves g.D.Disk.faults c.self.inside.log c.args.k c.enlist-enlisted.result x y e.enlisted e.failed) used) in
-    subst (λ (s : Standing _ _). OnErr c.enlist-enlisted.result ((v : LiveState) → live_at t s.lives ≡ Some v → (w : LiveState) × (live_at t (slice_set xs i y) ≡ Some w) × (w ≡ record v { enlisted = w.enlisted }))) c.self.view_is
+    subst (λ (s : Standing _ _). OnErr c.enlist-enlisted.result (NumbersEnlistments t s.lives (slice_set xs i y))) c.self.view_is
     (not_enlisted_at t c.enlist-enlisted.result xs (slice_set xs i y) x y (live_was t xs i x c.index.ensures.place there used) now e.failed)
 
 pub returns-clause-others : goal.returns-clause-others
@@ -58,3 +60,12 @@ returns-clause-others g c =
     let there : slice_get xs c.index.result ≡ Some x = slice_get_read xs (vec_len c.self.inside.lives) c.index.result x c.self.inside.lives.ok.0 (c.in-Some.ensures.variant.0 refl) c.in-Some.ensures.value in
     subst (λ (l : List LiveState). AreSame c.args.t l (slice_set xs c.index.result c.enlist-enlisted.new.self)) (ap (λ (s : Standing _ _). s.lives) c.self.view_is)
     (others_same c.args.t xs c.index.result x y c.index.ensures.place there (sym c.if-not-is_live.ensures) (enlist_leaves g.D.Disk.faults c.self.inside.log c.args.k c.enlist-enlisted.result x y c.enlist-enlisted.ensures.enlisted c.enlist-enlisted.ensures.failed).1)
+
+pub returns-clause-cause : goal.returns-clause-cause
+returns-clause-cause g c =
+    let xs = c.self.inside.lives.items in
+    let i = c.index.result in
+    let x = c.in-Some.live.now in
+    let there : slice_get xs i ≡ Some x = slice_get_read xs (vec_len c.self.inside.lives) i x c.self.inside.lives.ok.0 (c.in-Some.ensures.variant.0 refl) c.in-Some.ensures.value in
+    subst (λ (s : Standing _ _). IfErr c.enlist-enlisted.result (MayNotEnlist c.args.t s.lives)) c.self.view_is
+    (may_not_make (λ (v : LiveState). ENLISTMENTS ≤ v.enlisted) c.args.t c.enlist-enlisted.result xs x (live_was c.args.t xs i x c.index.ensures.place there (sym c.if-not-is_live.ensures)) c.enlist-enlisted.ensures.cause)
