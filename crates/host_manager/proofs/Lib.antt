@@ -1,0 +1,4 @@
+pub mod Passing
+pub mod Polling
+pub mod Beginning
+pub mod Requests

@@ -1,0 +1,13 @@
+use Rattle.std.proofs.Common.{Some, rules, sym}
+use Rattle.std.proofs.lemmas.Int.{to_z-of_z}
+use mir.Syntax.{w32}
+use mir.Val.{SFits}
+use Rattle.wirtozhak_c.proofs.Called.{by_call, with_word}
+use Rattle.wirtozhak_c.proofs.wz_enlist_durable.Goals as goal
+
+pub returns : goal.returns
+returns c =
+    let made = c.enlist_durable-given in
+    let fits : SFits w32 c.give_enlistment.result = search rules in
+    by_call _ _ _ c.take-m.result.value c.deref_mut.result.now made.new.self c.give_enlistment.result _ c.take-m.ensures.taken c.deref_mut.ensures.value c.put.ensures (sym (to_z-of_z w32 c.give_enlistment.result fits))
+    (Some c.in-Some.r, c.in-Some.ensures, with_word _ _ _ c.in-Some-phases_of.p _ _ _ (sym c.in-Some-phases_of.ensures) (made.result, c.give_enlistment.ensures, made.ensures))

@@ -1,0 +1,4 @@
+pub mod Owned
+pub mod Codes
+pub mod Words
+pub mod Holding
