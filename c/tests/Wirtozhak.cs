@@ -312,11 +312,34 @@ namespace Wirtozhak.Transactions
         }
 
         internal readonly ulong Number;
-        readonly Dictionary<uint, IEnlistmentNotification> objects =
-            new Dictionary<uint, IEnlistmentNotification>();
-        readonly HashSet<uint> durable = new HashSet<uint>();
-        readonly HashSet<uint> prepared = new HashSet<uint>(); // the durable ones that said yes
-        readonly HashSet<uint> owing = new HashSet<uint>(); // those that are to acknowledge
+        // An object that is enlisted.
+        sealed class Enlisted
+        {
+            internal readonly IEnlistmentNotification Object;
+            readonly bool isDurable;
+            bool hasPrepared, owes; // of a durable one: it said yes; it is to acknowledge
+
+            internal Enlisted(IEnlistmentNotification notification, bool isDurable)
+            {
+                Object = notification;
+                this.isDurable = isDurable;
+            }
+
+            internal void SaidYes() { hasPrepared = isDurable; }
+
+            internal void IsCommitted() { owes = hasPrepared; }
+
+            // Whether it is to acknowledge; once.
+            internal bool Acknowledges()
+            {
+                bool did = owes;
+                owes = false;
+                return did;
+            }
+        }
+
+        // By number less one: the numbers of a transaction's enlistments are 1, 2, and so on.
+        readonly List<Enlisted> enlisted = new List<Enlisted>();
         bool driving;
 
         internal Transaction(TimeSpan timeout)
@@ -346,9 +369,18 @@ namespace Wirtozhak.Transactions
             uint number;
             Native.Check(Native.wz_enlist_volatile(TransactionManager.Handle, Number,
                                                    (uint)options, out number));
-            objects[number] = notification;
+            Put(number, notification, false);
             return new Enlistment(this, number);
         }
+
+        // A number whose enlistment was refused has no object.
+        void Put(uint number, IEnlistmentNotification notification, bool isDurable)
+        {
+            while (enlisted.Count < (int)number) enlisted.Add(null);
+            enlisted[(int)number - 1] = new Enlisted(notification, isDurable);
+        }
+
+        Enlisted At(uint number) { return enlisted[(int)number - 1]; }
 
         // System.Transactions has a Guid for the resource manager; here it is a number from 1, the
         // same in each life.
@@ -360,8 +392,7 @@ namespace Wirtozhak.Transactions
             uint single = notification is ISinglePhaseNotification ? 1u : 0u, number;
             Native.Check(Native.wz_enlist_durable(TransactionManager.Handle, Number,
                                                   resourceManager, single, out number));
-            objects[number] = notification;
-            durable.Add(number);
+            Put(number, notification, true);
             Drive();
             return new Enlistment(this, number);
         }
@@ -432,36 +463,38 @@ namespace Wirtozhak.Transactions
         void Ask(uint number, uint kind)
         {
             if (kind == Native.PREPARE)
-                objects[number].Prepare(new PreparingEnlistment(this, number));
+                At(number).Object.Prepare(new PreparingEnlistment(this, number));
             else if (kind == Native.SINGLE || kind == Native.HAND)
-                ((ISinglePhaseNotification)objects[number]).SinglePhaseCommit(
+                ((ISinglePhaseNotification)At(number).Object).SinglePhaseCommit(
                     new SinglePhaseEnlistment(this, number));
         }
 
         void Tell(uint number, uint outcome)
         {
             if (number == 0) return; // the client, who asks for the status
-            if (outcome == (uint)TransactionStatus.Committed && prepared.Contains(number))
-                owing.Add(number);
             var enlistment = new Enlistment(this, number);
+            var one = At(number);
             switch ((TransactionStatus)outcome)
             {
-                case TransactionStatus.Committed: objects[number].Commit(enlistment); break;
-                case TransactionStatus.Aborted: objects[number].Rollback(enlistment); break;
-                default: objects[number].InDoubt(enlistment); break;
+                case TransactionStatus.Committed:
+                    one.IsCommitted();
+                    one.Object.Commit(enlistment);
+                    break;
+                case TransactionStatus.Aborted: one.Object.Rollback(enlistment); break;
+                default: one.Object.InDoubt(enlistment); break;
             }
         }
 
         internal void Reply(uint number, uint word)
         {
             Native.Check(Native.wz_reply(TransactionManager.Handle, Number, number, word));
-            if (word == Native.YES && durable.Contains(number)) prepared.Add(number);
+            if (word == Native.YES) At(number).SaidYes();
             Drive();
         }
 
         internal void Acknowledge(uint number)
         {
-            if (!owing.Remove(number)) return;
+            if (!At(number).Acknowledges()) return;
             Native.Check(Native.wz_reply(TransactionManager.Handle, Number, number, Native.ACK));
             Drive();
         }
