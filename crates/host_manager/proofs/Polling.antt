@@ -14,7 +14,7 @@ use Rattle.host_disk.specs.HostState.{HostState}
 use Rattle.host_disk.specs.Order.{is_settled}
 use Rattle.host_manager.proofs.Passing.{held, on_this}
 use Rattle.host_manager.specs.Host.{IsLawful}
-use Rattle.host_manager.specs.Polls.{Ends, EndsAt, GoesOn, NotDue, Replies, RepliesAt, Stays, is_due}
+use Rattle.host_manager.specs.Polls.{Ends, EndsAt, GoesOn, NotDue, Replies, RepliesAt, Stays}
 use Rattle.host_manager.specs.Results.{ended_in, replied_in}
 use Rattle.host_manager.specs.declared.clock.HostClock.{HostClock}
 use Rattle.transactions.specs.declared.error.TxError.{TxError}
@@ -22,7 +22,7 @@ use Rattle.transactions.specs.declared.error.TxError.TheVariants.{Memory, Refuse
 use Rattle.transactions.specs.declared.event.Next.{Next}
 use Rattle.transactions.specs.declared.event.Next.TheVariants.{Disk, Nothing}
 use Rattle.transactions.specs.declared.handle.CommittableTransaction.{CommittableTransaction}
-use Rattle.transactions.specs.Doing.{AdvancesAt}
+use Rattle.transactions.specs.Doing.{AdvancesAt, is_due}
 use Rattle.transactions.specs.Ending.{IsOver}
 use Rattle.transactions.specs.Hearing.{Writes, found_in}
 use Rattle.transactions.specs.Slots.{AreSame, KeepsRest, KeepsTime, Standing, live_at}
@@ -32,6 +32,7 @@ use Rattle.transactions.specs.Waiting.{AllAsked}
 pub goes_on : (number : ℕ) (t : TxId) (m n : Standing HostState HostClock) (ms : List RmNo) (given : ℕ) (z : Result Next TxError)
     → number_of t ≡ number → live_at t m.lives ≢ None
     → IfOk z (λ x. AdvancesAt (found_in x) t m.lives n.lives)
+    → OnErr z (AdvancesAt None t m.lives n.lives)
     → IfOk z (λ x. x ≢ Disk → IsTrue (is_settled n.log.disk.asked))
     → (is_settled m.log.disk.asked ≡ false → n ≡ m)
     → (z ≡ Ok Disk → is_settled n.log.disk.asked ≡ false)
@@ -39,7 +40,7 @@ pub goes_on : (number : ℕ) (t : TxId) (m n : Standing HostState HostClock) (ms
     → IsLawful t n.lives → AreSame t m.lives n.lives → KeepsTime m n
     → IfErr z (λ e. (e ≡ Memory) ⊎ ((e ≡ Refused NoSuch) × (live_at t m.lives ≡ None)))
     → GoesOn number (held m ms given) (held n ms given) z
-goes_on number t m n ms given (Ok x) named live comes quiet busy disk all lawful others time cause = record {
+goes_on number t m n ms given (Ok x) named live comes stays quiet busy disk all lawful others time cause = record {
   transaction = t;
   named = named;
   comes = comes;
@@ -52,8 +53,8 @@ goes_on number t m n ms given (Ok x) named live comes quiet busy disk all lawful
   time = time;
   desk = refl;
 }
-goes_on number t m n ms given (Err e) named live comes quiet busy disk all lawful others time cause = elim cause [
-  | inl memory ↦ inl (memory, t, named, others, time, refl)
+goes_on number t m n ms given (Err e) named live comes stays quiet busy disk all lawful others time cause = elim cause [
+  | inl memory ↦ inl (memory, t, named, stays, others, time, refl)
   | inr none ↦ absurd (live none.1)
 ]
 

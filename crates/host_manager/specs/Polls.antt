@@ -1,5 +1,5 @@
 -- What comes next in a transaction, and its end.
-use Rattle.std.specs.Prelude.{ℕ, ◌≡◌, ◌≢◌, ◌⊎◌, ◌&&◌, ◌∷◌, [], Bool, true, false, List, Option, Some, None, Result, Ok, Err, IsTrue, is_some, length}
+use Rattle.std.specs.Prelude.{ℕ, ◌≡◌, ◌≢◌, ◌⊎◌, ◌∷◌, [], Bool, true, false, List, Option, Some, None, Result, Ok, Err, IsTrue, length}
 use Rattle.dtx_values.specs.TxIds.{number_of}
 use Rattle.dtx_values.specs.declared.entry.Answer.TheVariants.{NoSuch}
 use Rattle.dtx_values.specs.declared.entry.Entry.{Entry}
@@ -7,10 +7,9 @@ use Rattle.dtx_values.specs.declared.note.Reply.{Reply}
 use Rattle.dtx_values.specs.declared.number.EnlNo.{EnlNo}
 use Rattle.dtx_values.specs.declared.tx_id.TxId.{TxId}
 use Rattle.dtx_values.specs.declared.words.Outcome.{Outcome}
-use Rattle.dtx_model.specs.Replies.{due_of, reply_entries}
+use Rattle.dtx_model.specs.Replies.{reply_entries}
 use Rattle.dtx_model.specs.Words.{onto}
 use Rattle.dtx_model.specs.World.{half}
-use Rattle.local_half.specs.Half.{fits_due}
 use Rattle.host_manager.specs.Calls.{ByNobody, On}
 use Rattle.host_manager.specs.Host.{HostView, IsLawful, IsNobody, KeepsDesk, is_quiet}
 use Rattle.host_manager.specs.declared.error.HostError.{HostError}
@@ -19,7 +18,7 @@ use Rattle.transactions.specs.declared.error.TxError.{TxError}
 use Rattle.transactions.specs.declared.error.TxError.TheVariants.{Memory, Refused}
 use Rattle.transactions.specs.declared.event.Next.{Next}
 use Rattle.transactions.specs.declared.event.Next.TheVariants.{Disk, Nothing}
-use Rattle.transactions.specs.Doing.{AdvancesAt}
+use Rattle.transactions.specs.Doing.{AdvancesAt, is_due}
 use Rattle.transactions.specs.Ending.{IsOver}
 use Rattle.transactions.specs.Hearing.{Writes, found_in}
 use Rattle.transactions.specs.Slots.{AreSame, KeepsTime, live_at}
@@ -43,16 +42,13 @@ pub record Hands (number : ℕ) (old new : HostView) (n : Next) : Type 0 where
   pub time : KeepsTime old.manager new.manager
   pub desk : KeepsDesk old new
 
--- What comes next was handed out; or memory ran out; or no transaction of this number goes on.
+-- What comes next was handed out; or memory ran out, and the transaction went on with no reply, and nothing was heard that says something to somebody; or no transaction of this
+-- number goes on.
 abbrev pub GoesOn : ℕ → HostView → HostView → Result Next TxError → Type 0
 GoesOn number old new (Ok n) = Hands number old new n
 GoesOn number old new (Err e) =
-    ((e ≡ Memory) × (t : TxId) × (number_of t ≡ number) × AreSame t old.manager.lives new.manager.lives × KeepsTime old.manager new.manager × KeepsDesk old new)
+    ((e ≡ Memory) × (t : TxId) × (number_of t ≡ number) × AdvancesAt None t old.manager.lives new.manager.lives × AreSame t old.manager.lives new.manager.lives × KeepsTime old.manager new.manager × KeepsDesk old new)
     ⊎ ((e ≡ Refused NoSuch) × ByNobody number old new)
-
--- whether this reply of an enlistment is due in a transaction
-abbrev pub is_due : EnlNo → Reply → LiveState → Bool
-is_due e r x = is_some (due_of (half x.tx.world).seen e.value) && fits_due r (due_of (half x.tx.world).seen e.value)
 
 -- The reply was due, and was written; and what follows at once.
 abbrev pub RepliesAt : EnlNo → Reply → TxId → HostView → HostView → Type 0

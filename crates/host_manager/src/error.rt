@@ -21,14 +21,3 @@ pub enum HostError {
     #[error("{0}")]
     Call(TxError),
 }
-
-impl From<TxError> for HostError {
-    ghost use Rattle.std.specs.Prelude.{◌≡◌};
-    ghost use Rattle.host_manager.specs.declared.error.HostError.TheVariants.{Call};
-
-    ghost from_gives = { λ e r. r ≡ Call e };
-
-    fn from(e: TxError) -> HostError {
-        HostError::Call(e)
-    }
-}

@@ -1,14 +1,18 @@
 -- What the calls of a manager make of its transactions.
-use Rattle.std.specs.Prelude.{ℕ, ◌≡◌, ◌≢◌, ◌⊎◌, ◌^◌, ◌-◌, Bool, true, false, List, [], Option, Some, None, Result, Ok, Err}
+use Rattle.std.specs.Prelude.{ℕ, ◌≡◌, ◌≢◌, ◌⊎◌, ◌&&◌, ◌^◌, ◌-◌, Bool, true, false, List, [], Option, Some, None, Result, Ok, Err, is_some}
 use Rattle.dtx_values.specs.declared.call.Call.{Call}
 use Rattle.dtx_values.specs.declared.entry.Answer.{Answer}
 use Rattle.dtx_values.specs.declared.call.Call.TheVariants.{Marshal}
 use Rattle.dtx_values.specs.declared.entry.Answer.TheVariants.{Id, NoSuch, Wait}
 use Rattle.dtx_values.specs.declared.note.Note.{Note}
 use Rattle.dtx_values.specs.declared.note.Reply.{Reply}
+use Rattle.dtx_values.specs.declared.number.EnlNo.{EnlNo}
 use Rattle.dtx_values.specs.declared.tx_id.TxId.{TxId}
 use Rattle.dtx_model.specs.Facts.{has_facts}
+use Rattle.dtx_model.specs.Replies.{due_of}
+use Rattle.dtx_model.specs.World.{half}
 use Rattle.coordinator_log.specs.State.{LogState}
+use Rattle.local_half.specs.Half.{fits_due}
 use Rattle.transactions.specs.declared.error.TxError.{TxError}
 use Rattle.transactions.specs.declared.error.TxError.TheVariants.{Memory, Many, Refused}
 use Rattle.transactions.specs.declared.handle.Enlistment.{Enlistment}
@@ -21,6 +25,10 @@ use Rattle.transactions.specs.State.{LiveState}
 -- the answer says that the call was done, or waits: it has facts
 abbrev pub is_done : Answer → Bool
 is_done answer = has_facts answer
+
+-- whether a reply of this enlistment is due in a transaction, and this one fits
+abbrev pub is_due : EnlNo → Reply → LiveState → Bool
+is_due e r x = is_some (due_of (half x.tx.world).seen e.value) && fits_due r (due_of (half x.tx.world).seen e.value)
 
 -- The call was entered in the transaction of this number, on this line, and answered so.
 pub record CallsAt {D : Type 0} (faults : D → ℕ) (log : LogState D) (t : TxId) (c : Call) (line : ℕ) (answer : Answer) (old new : List LiveState) : Type 0 where

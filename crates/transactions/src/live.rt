@@ -1,5 +1,5 @@
 //! One transaction that goes on.
-ghost use Rattle.std.specs.Prelude.{ℕ, ◌≡◌, ◌≢◌, ◌⊎◌, ◌≤◌, ◌<◌, ◌+◌, ◌-◌, ◌^◌, ◌↔◌, ◌&&◌, ◌∷◌, List, [], Option, Some, None, Ok, Err, IfOk, IfErr, OnOk, OnErr, IfSome, IsTrue, true, false, is_some, length, filter};
+ghost use Rattle.std.specs.Prelude.{ℕ, ◌≡◌, ◌≢◌, ◌⊎◌, ◌≤◌, ◌<◌, ◌+◌, ◌-◌, ◌^◌, ◌↔◌, ◌∷◌, List, [], Option, Some, None, Ok, Err, IfOk, IfErr, OnOk, OnErr, IfSome, IsTrue, true, false, is_some, length, filter};
 ghost use Rattle.dtx_values.specs.declared.entry.Answer.{Answer};
 ghost use Rattle.dtx_values.specs.declared.entry.Entry.TheVariants.{Answered};
 ghost use Rattle.dtx_model.specs.Caused.{made_by};
@@ -8,12 +8,10 @@ ghost use Rattle.dtx_model.specs.Grammar.{OfClone, OfEnlistment};
 ghost use Rattle.dtx_model.specs.Log.{CommitRecord};
 ghost use Rattle.dtx_model.specs.Outcome.{agree, justified};
 ghost use Rattle.dtx_model.specs.Learned.{Learned};
-ghost use Rattle.dtx_model.specs.Replies.{due_of};
 ghost use Rattle.dtx_model.specs.Steps.{Calls, Replies, pending};
 ghost use Rattle.dtx_model.specs.Words.{has, kth};
 ghost use Rattle.dtx_model.specs.World.{half};
 ghost use Rattle.coordinator_log.specs.Slots.{open_records};
-ghost use Rattle.local_half.specs.Half.{fits_due};
 ghost use Rattle.tx_world.specs.AtLog.{Fits};
 ghost use Rattle.tx_world.specs.Leaves.{Leaves};
 ghost use Rattle.tx_world.specs.OwnCalls.{status_of};
@@ -22,6 +20,7 @@ ghost use Rattle.tx_world.specs.Stepping.{Does, reply_in};
 ghost use Rattle.transactions.specs.Calling.{IsCalled, Ticks};
 ghost use Rattle.transactions.specs.Answered.{Has, is_answer_to};
 ghost use Rattle.transactions.specs.Counting.{is_given, is_plain};
+ghost use Rattle.transactions.specs.Doing.{is_due};
 ghost use Rattle.transactions.specs.Enlisting.{Clones, Enlists};
 ghost use Rattle.transactions.specs.Ending.{IsOver, is_left_prepared, is_told_to};
 ghost use Rattle.transactions.specs.Hearing.{Advances, HearsNext, Writes, heard_in, listed};
@@ -335,7 +334,7 @@ impl Live {
         e: EnlNo,
         r: Reply,
     ) -> Result<bool, TxError>
-        ensures due { IfOk result (λ b. b ≡ (is_some (due_of (half self.old.tx.world).seen e.value) && fits_due r (due_of (half self.old.tx.world).seen e.value))) }
+        ensures due { IfOk result (λ b. b ≡ is_due e r self.old) }
         ensures done { result ≡ Ok true → Does D.faults (Replies e r) self.old.tx log.now self.new.tx log.now }
         ensures writes { result ≡ Ok true → Writes ((e, r) ∷ []) self.old self.new }
         ensures rest { self.new ≡ record self.old { tx = self.new.tx } }

@@ -182,6 +182,7 @@ impl<D: Disk + Drop, C: Clock + Drop> TransactionManager<D, C> {
     /// - [`TxError::Memory`] where memory ran out. What was done is done, and the next call goes on.
     pub fn next(&mut self, tx: &CommittableTransaction) -> Result<Option<Event>, TxError>
         ensures comes { IfOk result (λ e. AdvancesAt e tx.now.number self.old.lives self.new.lives) }
+        ensures stays { OnErr result (AdvancesAt None tx.now.number self.old.lives self.new.lives) }
         ensures all { result ≡ Ok None → (y : LiveState) → live_at tx.now.number self.new.lives ≡ Some y → (y.heard ≡ length (past y)) × AllAsked y.tx.world }
         ensures others { AreSame tx.now.number self.old.lives self.new.lives }
         ensures time { KeepsTime self.old self.new }

@@ -25,5 +25,5 @@ abbrev pub ComesTo : {A E : Type 0} → (HostView → HostView → Result A E �
 ComesTo {A} {E} does says old new answer = (r : Result A E) × says r answer × does old new r
 
 -- The call asked for a result, and changed nothing.
-abbrev pub Asks : {A E : Type 0} → (HostView → Result A E → Type 0) → (Result A E → ℤ → Type 0) → HostView → HostView → ℤ → Type 0
-Asks {A} {E} does says old new answer = (new ≡ old) × (r : Result A E) × says r answer × does old r
+abbrev pub Reads : {A E : Type 0} → (HostView → Result A E → Type 0) → (Result A E → ℤ → Type 0) → HostView → HostView → ℤ → Type 0
+Reads {A} {E} does says old new answer = (new ≡ old) × (r : Result A E) × says r answer × does old r

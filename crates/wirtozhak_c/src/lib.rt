@@ -14,7 +14,7 @@ ghost use Rattle.host_manager.specs.Lives.{Begins, HoldsLog, IsNew, Recovers, Sa
 ghost use Rattle.host_manager.specs.Polls.{Ends, GoesOn, Replies, SaysTold};
 ghost use Rattle.transactions.specs.declared.kind.Kind.TheVariants.{Durable, Volatile};
 ghost use Rattle.wirtozhak_c.specs.Codes.{IsClone, IsEnlistment, IsManager, clone_kind, code_of, host_code, number_or_none, option_of, outcome_word, phases_of, reply_of, timeout_of};
-ghost use Rattle.wirtozhak_c.specs.Holding.{Asks, Calls, ComesTo, DoesWith, Opens};
+ghost use Rattle.wirtozhak_c.specs.Holding.{Reads, Calls, ComesTo, DoesWith, Opens};
 ghost use Rattle.wirtozhak_c.specs.Words.{GivesBytes, GivesWork, IsDone, IsIdentifier, IsNext, IsWritten, MayNot};
 
 mod code;
@@ -94,7 +94,7 @@ pub extern "C" fn wz_outcome(
     outcome: &mut u32,
 ) -> i32
     ensures { Calls (λ m n a. (o : Option EnlNo) × IsEnlistment enlistment o
-        × DoesWith NO_SUCH (λ e. Asks (SaysOutcome tx e) (λ r. IsWritten host_code (λ x. outcome_word (Some x)) r outcome.old outcome.new)) o m n a) h.old.held.value h.new.held.value result }
+        × DoesWith NO_SUCH (λ e. Reads (SaysOutcome tx e) (λ r. IsWritten host_code (λ x. outcome_word (Some x)) r outcome.old outcome.new)) o m n a) h.old.held.value h.new.held.value result }
 {
     if !h.is_open() {
         return CLOSED;
@@ -347,7 +347,7 @@ pub extern "C" fn wz_reply(
 /// What the client was told: 0 nothing, 1 committed, 2 aborted, 3 in doubt.
 #[unsafe(no_mangle)]
 pub extern "C" fn wz_told(alloc: Global, h: &mut Handle, tx: u64, outcome: &mut u32) -> i32
-    ensures { Calls (Asks (SaysTold tx) (λ r. IsWritten host_code outcome_word r outcome.old outcome.new)) h.old.held.value h.new.held.value result }
+    ensures { Calls (Reads (SaysTold tx) (λ r. IsWritten host_code outcome_word r outcome.old outcome.new)) h.old.held.value h.new.held.value result }
 {
     give_told(calling!(alloc, h, m => m.told(tx)), outcome)
 }

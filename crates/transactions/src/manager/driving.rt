@@ -1,17 +1,16 @@
 //! Doing what is pending, with the objects' replies.
-ghost use Rattle.std.specs.Prelude.{ℕ, ◌≡◌, ◌≢◌, ◌⊎◌, ◌≤◌, ◌&&◌, ◌∷◌, ◌++◌, List, [], Option, Some, None, Ok, Err, IfOk, IfErr, OnOk, OnErr, true, false, is_some, length, max};
+ghost use Rattle.std.specs.Prelude.{ℕ, ◌≡◌, ◌≢◌, ◌⊎◌, ◌≤◌, ◌∷◌, ◌++◌, List, [], Option, Some, None, Ok, Err, IfOk, IfErr, OnOk, OnErr, true, false, length, max};
 ghost use Rattle.dtx_values.specs.declared.call.Call.TheVariants.{Commit as CommitCall, Gone, Rollback as RollbackCall};
 ghost use Rattle.dtx_values.specs.declared.entry.Answer.{Answer};
 ghost use Rattle.dtx_values.specs.declared.entry.Answer.TheVariants.{NoSuch};
 ghost use Rattle.dtx_values.specs.declared.entry.Entry.{Entry};
 ghost use Rattle.dtx_model.specs.Caused.{made_by};
 ghost use Rattle.dtx_model.specs.Entries.{is_commit};
-ghost use Rattle.dtx_model.specs.Replies.{due_of, reply_entries};
+ghost use Rattle.dtx_model.specs.Replies.{reply_entries};
 ghost use Rattle.dtx_model.specs.Words.{has, onto};
 ghost use Rattle.dtx_model.specs.World.{half};
-ghost use Rattle.local_half.specs.Half.{fits_due};
 ghost use Rattle.transactions.specs.Counting.{is_plain};
-ghost use Rattle.transactions.specs.Doing.{Enters, Goes, HeardAt, IsRefused, MayFail};
+ghost use Rattle.transactions.specs.Doing.{Enters, Goes, HeardAt, IsRefused, MayFail, is_due};
 ghost use Rattle.transactions.specs.Events.{note_in};
 ghost use Rattle.transactions.specs.Hearing.{HearsNote, Writes, given_of};
 ghost use Rattle.transactions.specs.Slots.{AreSame, KeepsRest, KeepsTime, live_at};
@@ -53,8 +52,7 @@ impl<D: Disk + Drop, C: Clock + Drop> TransactionManager<D, C> {
     ///
     /// As of [`TransactionManager::next`].
     pub fn answer(&mut self, e: Enlistment, r: Reply) -> Result<bool, TxError>
-        ensures due { IfOk result (λ b. (x : LiveState) → live_at e.transaction self.old.lives ≡ Some x
-            → b ≡ (is_some (due_of (half x.tx.world).seen e.number.value) && fits_due r (due_of (half x.tx.world).seen e.number.value))) }
+        ensures due { IfOk result (λ b. (x : LiveState) → live_at e.transaction self.old.lives ≡ Some x → b ≡ is_due e.number r x) }
         ensures replied { result ≡ Ok true → (x : LiveState) → live_at e.transaction self.old.lives ≡ Some x
             → (y : LiveState) × (live_at e.transaction self.new.lives ≡ Some y) × Writes ((e.number, r) ∷ []) x y × (y ≡ record x { tx = y.tx })
             × (es : List Entry) × (past y ≡ onto (onto (past x) (reply_entries (half x.tx.world) e.number r)) es) }
@@ -251,8 +249,7 @@ impl<D: Disk + Drop, C: Clock + Drop> TransactionManager<D, C> {
         r: Reply,
         o: &mut O,
     ) -> Result<bool, TxError>
-        ensures due { IfOk result (λ b. (x : LiveState) → live_at e.transaction self.old.lives ≡ Some x
-            → b ≡ (is_some (due_of (half x.tx.world).seen e.number.value) && fits_due r (due_of (half x.tx.world).seen e.number.value))) }
+        ensures due { IfOk result (λ b. (x : LiveState) → live_at e.transaction self.old.lives ≡ Some x → b ≡ is_due e.number r x) }
         ensures replied { result ≡ Ok true → (x : LiveState) → live_at e.transaction self.old.lives ≡ Some x
             → (z : LiveState) × (live_at e.transaction self.new.lives ≡ Some z) × (es : List Entry) × (past z ≡ onto (onto (past x) (reply_entries (half x.tx.world) e.number r)) es) }
         ensures heard { HeardAt O.gives ((e.number, r) ∷ []) e.transaction self.old.lives self.new.lives o.old o.new }

@@ -242,6 +242,7 @@ impl<D: Relay + Drop, C: Clock + Drop> TransactionManager<D, C> {
     /// As of [`TransactionManager::next`].
     pub fn poll(&mut self, tx: &CommittableTransaction) -> Result<Next, TxError>
         ensures comes { IfOk result (λ n. AdvancesAt (found_in n) tx.now.number self.old.lives self.new.lives) }
+        ensures stays { OnErr result (AdvancesAt None tx.now.number self.old.lives self.new.lives) }
         ensures quiet { IfOk result (λ n. n ≢ FirstDisk → IsTrue (D.is_settled self.new.log.disk)) }
         ensures unsettled { D.is_settled self.old.log.disk ≡ false → self.new ≡ self.old }
         ensures disk { result ≡ Ok FirstDisk → D.is_settled self.new.log.disk ≡ false }

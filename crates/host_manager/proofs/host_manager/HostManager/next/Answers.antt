@@ -19,5 +19,5 @@ returns c =
     let t = c.in-Some.tx.number in
     subst (λ (old : HostView). GoesOn c.args.number old (held made.new.self c.self.inside.desk c.self.inside.given) made.result) c.self.view_is
     (goes_on c.args.number t c.self.inside.manager made.new.self c.self.inside.desk c.self.inside.given made.result c.in-Some.ensures.found.0 c.in-Some.ensures.found.1
-    made.ensures.comes made.ensures.quiet made.ensures.unsettled made.ensures.disk made.ensures.all
+    made.ensures.comes made.ensures.stays made.ensures.quiet made.ensures.unsettled made.ensures.disk made.ensures.all
     (record { just = c.is_lawful.ensures.just; agrees = c.is_lawful.ensures.agrees; learned = c.is_lawful.ensures.learned }) made.ensures.others made.ensures.time made.ensures.cause)

@@ -1,10 +1,8 @@
-use Rattle.std.proofs.Common.{◌≡◌, ◌&&◌, Bool, is_some, Some, List, IfOk, true, ap, refl, slice_get, slice_set, subst, sym}
+use Rattle.std.proofs.Common.{◌≡◌, Bool, Some, List, IfOk, true, ap, refl, slice_get, slice_set, subst, sym}
 use Rattle.std.proofs.lemmas.Option.{slice_get_read}
 use Rattle.std.specs.Vec.{vec_len}
-use Rattle.dtx_model.specs.Replies.{due_of}
-use Rattle.dtx_model.specs.World.{half}
-use Rattle.local_half.specs.Half.{fits_due}
 use Rattle.transactions.proofs.Nexts.{replied_at, so_at}
+use Rattle.transactions.specs.Doing.{is_due}
 use Rattle.transactions.specs.Slots.{AreSame, Standing, is_live, live_at}
 use Rattle.transactions.specs.State.{LiveState}
 use Rattle.transactions.proofs.Standing.{fits_set, live_here, live_was, numbered_set, others_same, still_live}
@@ -39,7 +37,7 @@ returns-clause-due g c =
     let x = c.in-Some.live.now in
     let t = c.args.e.transaction in
     let there : slice_get xs i ≡ Some x = slice_get_read xs (vec_len c.self.inside.lives) i x c.self.inside.lives.ok.0 (c.in-Some.ensures.variant.0 refl) c.in-Some.ensures.value in
-    let P : Bool → LiveState → Type 0 = λ b v. b ≡ (is_some (due_of (half v.tx.world).seen c.args.e.number.value) && fits_due c.args.r (due_of (half v.tx.world).seen c.args.e.number.value)) in
+    let P : Bool → LiveState → Type 0 = λ b v. b ≡ is_due c.args.e.number c.args.r v in
     subst (λ (s : Standing _ _). IfOk c.reply-replied.result (λ b. (v : LiveState) → live_at t s.lives ≡ Some v → P b v)) c.self.view_is
     (so_at P t xs x c.reply-replied.result (live_was t xs i x c.index.ensures.place there (sym c.if-not-is_live.ensures)) c.reply-replied.ensures.due)
 

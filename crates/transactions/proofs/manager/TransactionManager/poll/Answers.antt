@@ -41,3 +41,9 @@ loop-count-preserved g c =
       onward_on t c.args.self.now y z c.loop-count.invariant.0 (subst (λ a. AdvancesAt (heard_in a) t y.lives z.lives) c.in-Did.is c.in-Ok.ensures.comes) c.advance.ensures.others c.advance.ensures.time,
       λ h. absurd (not_both (settled y.log.disk) stood (ap (λ (s : Standing _ _). settled s.log.disk) (c.loop-count.invariant.1 h) ∙ h)),
     )
+
+pub returns-in-Err-clause-stays : goal.returns-in-Err-clause-stays
+returns-in-Err-clause-stays g c = onward_then None c.args.tx.now.number c.args.self.now c.loop-count.self c.advance.new.self c.loop-count.invariant.0 c.in-Err.ensures.stays
+
+pub returns-clause-stays : goal.returns-clause-stays
+returns-clause-stays g c = onward_at c.args.tx.now.number c.args.self.now c.loop-count.self c.is_within.ensures c.loop-count.invariant.0
