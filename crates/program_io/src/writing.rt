@@ -10,6 +10,8 @@ use crate::exit::Exit;
 use crate::transfer::{WriteStop, write_all};
 use outside::Sink;
 use program_words::Form;
+use reason_text::why_text;
+use script_text::Script;
 use std::alloc::Global;
 use trace_text::{Trace, json_trace, print_lines, summary};
 
@@ -75,11 +77,17 @@ fn written_lines<K: Sink>(alloc: Global, sink: &mut K, trace: &Trace, wire: bool
     }
 }
 
-/// Writes the text of a trace in this form to the sink.
-pub fn written_in<K: Sink>(alloc: Global, sink: &mut K, form: Form, trace: &Trace) -> Exit
-    ensures all { result ≡ Exit.Fine → ForSome (K.written sink.old) (λ w. K.written sink.new ≡ Some (w ++ form_text form trace.now)) }
-    ensures cut { result ≡ Exit.WriteFault → ForSome (K.written sink.old) (λ w. IsPartWritten w (form_text form trace.now) (K.written sink.new)) }
-    ensures memory { result ≡ Exit.Memory → (sink.new ≡ sink.old) ⊎ ForSome (K.written sink.old) (λ w. IsPartWritten w (form_text form trace.now) (K.written sink.new)) }
+/// Writes the text of a trace of this script in this form to the sink.
+pub fn written_in<K: Sink>(
+    alloc: Global,
+    sink: &mut K,
+    form: Form,
+    script: &Script,
+    trace: &Trace,
+) -> Exit
+    ensures all { result ≡ Exit.Fine → ForSome (K.written sink.old) (λ w. K.written sink.new ≡ Some (w ++ form_text form script.now trace.now)) }
+    ensures cut { result ≡ Exit.WriteFault → ForSome (K.written sink.old) (λ w. IsPartWritten w (form_text form script.now trace.now) (K.written sink.new)) }
+    ensures memory { result ≡ Exit.Memory → (sink.new ≡ sink.old) ⊎ ForSome (K.written sink.old) (λ w. IsPartWritten w (form_text form script.now trace.now) (K.written sink.new)) }
     ensures fault { result ≡ Exit.WriteFault → Rose (K.faults sink.old) (K.faults sink.new) }
     ensures smooth { result ≢ Exit.WriteFault → K.faults sink.new ≡ K.faults sink.old }
     ensures answers { (result ≡ Exit.Fine) ⊎ ((result ≡ Exit.WriteFault) ⊎ (result ≡ Exit.Memory)) }
@@ -89,6 +97,7 @@ pub fn written_in<K: Sink>(alloc: Global, sink: &mut K, form: Form, trace: &Trac
         Form::Wire => return written_lines(alloc, sink, trace, true),
         Form::Json => json_trace(alloc, trace),
         Form::Summary => summary(alloc, trace),
+        Form::Why => why_text(alloc, script, trace),
     };
     match text {
         Ok(text) => written(sink, &text),

@@ -1,7 +1,7 @@
 -- The words of each command, and no others.
 use Rattle.std.specs.Prelude.{ℕ, ◌≡◌, Bool, true, false, nat_le, ◌&&◌, List, [], ◌∷◌, codes, decimal}
 use Rattle.program_words.specs.declared.command.Form.{Form}
-use Rattle.program_words.specs.declared.command.Form.TheVariants.{Plain, Wire, Json, Summary}
+use Rattle.program_words.specs.declared.command.Form.TheVariants.{Plain, Wire, Json, Summary, Why}
 use Rattle.program_words.specs.declared.command.Command.{Command}
 use Rattle.program_words.specs.declared.command.Command.TheVariants.{Replay, Make, Demo, Threads, Log}
 
@@ -11,6 +11,7 @@ form_words Plain = []
 form_words Wire = codes "--wire" ∷ []
 form_words Json = codes "--json" ∷ []
 form_words Summary = codes "--summary" ∷ []
+form_words Why = codes "--why" ∷ []
 
 -- the words of a command; its number is in decimal, without sign or leading zero
 abbrev pub words_of : Command → List (List ℕ)
@@ -28,10 +29,11 @@ is_count n = nat_le 1 n && nat_le n 256
 abbrev pub is_helpers : ℕ → Bool
 is_helpers h = nat_le 1 h && nat_le h 16
 
--- the trace of a run on threads is written as it is, or as its summary
+-- the trace of a run on threads is written as it is, as its summary, or as why
 abbrev pub is_form_on_threads : Form → Bool
 is_form_on_threads Plain = true
 is_form_on_threads Summary = true
+is_form_on_threads Why = true
 is_form_on_threads _ = false
 
 abbrev pub is_command : Command → Bool

@@ -11,6 +11,8 @@ pub enum Form {
     Json,
     /// Eight lines with numbers.
     Summary,
+    /// Why each transaction was promoted, and why it ended as it did.
+    Why,
 }
 
 /// What the words ask for.
@@ -22,7 +24,7 @@ pub enum Command {
     Make(u16),
     /// Replay that script, and write the summary.
     Demo(u16),
-    /// Run the script that is read on threads, each actor on one of its own and so many helpers beside them, from 1 to 16, and write the trace, as it is or its summary.
+    /// Run the script that is read on threads, each actor on one of its own and so many helpers beside them, from 1 to 16, and write the trace, as it is, its summary or why.
     Threads(u8, Form),
     /// List the log that is on the disk, and change nothing of it.
     Log,

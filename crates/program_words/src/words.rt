@@ -24,6 +24,8 @@ const JSON: &[u8] = b"--json";
 
 const SUMMARY: &[u8] = b"--summary";
 
+const WHY: &[u8] = b"--why";
+
 /// The number from 1 to 256 that this word is, in decimal without sign or leading zero.
 fn count_of(word: &[u8]) -> Option<u16>
     ensures some { IfSome result (λ n. (word.now ≡ decimal n) × (is_count n ≡ true)) }
@@ -55,6 +57,23 @@ fn form_of(word: &[u8]) -> Option<Form>
     }
     if word == SUMMARY {
         return Some(Form::Summary);
+    }
+    if word == WHY {
+        return Some(Form::Why);
+    }
+    None
+}
+
+/// The form of a run on threads that this word asks for.
+fn form_on_threads_of(word: &[u8]) -> Option<Form>
+    ensures some { IfSome result (λ f. (form_words f ≡ word.now ∷ []) × (is_form_on_threads f ≡ true)) }
+    ensures none { IfNone result ((f : Form) → is_form_on_threads f ≡ true → form_words f ≢ word.now ∷ []) }
+{
+    if word == SUMMARY {
+        return Some(Form::Summary);
+    }
+    if word == WHY {
+        return Some(Form::Why);
     }
     None
 }
@@ -97,11 +116,12 @@ fn triple_of(first: &[u8], second: &[u8], third: &[u8]) -> Option<Command>
     ensures some { IfSome result (λ c. Asks (first.now ∷ second.now ∷ third.now ∷ []) c) }
     ensures none { IfNone result (AsksNothing (first.now ∷ second.now ∷ third.now ∷ [])) }
 {
-    if first != THREADS || third != SUMMARY {
+    if first != THREADS {
         return None;
     }
+    let form = form_on_threads_of(third)?;
     match helpers_of(second) {
-        Some(h) => Some(Command::Threads(h, Form::Summary)),
+        Some(h) => Some(Command::Threads(h, form)),
         None => None,
     }
 }

@@ -52,9 +52,9 @@ abbrev pub IsRunBy : Way → ℕ → ℕ → ℕ → Bool → (List ℕ → Type
 IsRunBy ReplayWay = IsReplayOf
 IsRunBy (ThreadsWay h) = IsThreadsOf
 
--- There is a run as P says, of the script that the source gave, where it tells its bytes, and of some script where it tells nothing; and this holds of its trace. The numbers of the trace are those of their types, and each of its messages is one
--- that its connection carries: so its text, but for a summary, is that of no other such trace, up to what a message's line leaves out.
-pub record HasRun (P : List Line → List Placed → Type 0) (given : Option (List ℕ)) (holds : List Placed → Type 0) : Type 0 where
+-- There is a run as P says, of the script that the source gave, where it tells its bytes, and of some script where it tells nothing; and this holds of the script and its trace. The numbers of the trace are those of their types, and each of its messages is one
+-- that its connection carries: so its text, but for a summary and for why, is that of no other such trace, up to what a message's line leaves out.
+pub record HasRun (P : List Line → List Placed → Type 0) (given : Option (List ℕ)) (holds : List Line → List Placed → Type 0) : Type 0 where
   pub lines : List Line
   pub trace : List Placed
   pub read : ForSome given (λ b. Reads b lines)
@@ -64,15 +64,15 @@ pub record HasRun (P : List Line → List Placed → Type 0) (given : Option (Li
   pub frame_typed : each is_frame_typed_at trace ≡ true
   pub carried : each is_carried_at trace ≡ true
   pub got_carried : each is_got_carried_at trace ≡ true
-  pub gained : holds trace
+  pub gained : holds lines trace
 
 -- there is such a run, and the sink, where it tells what was written, gained exactly the text of its trace in this form
 abbrev pub IsTextWritten : (P : List Line → List Placed → Type 0) → Form → (given before after : Option (List ℕ)) → Type 0
-IsTextWritten P f given before after = HasRun P given (λ T. ForSome before (λ w. after ≡ Some (w ++ form_text f T)))
+IsTextWritten P f given before after = HasRun P given (λ s T. ForSome before (λ w. after ≡ Some (w ++ form_text f s T)))
 
 -- the same, but the sink gained a part of the text and not all of it
 abbrev pub IsTextCutShort : (P : List Line → List Placed → Type 0) → Form → (given before after : Option (List ℕ)) → Type 0
-IsTextCutShort P f given before after = HasRun P given (λ T. ForSome before (λ w. IsPartWritten w (form_text f T) after))
+IsTextCutShort P f given before after = HasRun P given (λ s T. ForSome before (λ w. IsPartWritten w (form_text f s T) after))
 
 -- the headline: the text of a replay was written; or a part of it
 abbrev pub IsWritten : Form → (k from to : ℕ) (honest : Bool) (image : List ℕ → Type 0) (given before after : Option (List ℕ)) → Type 0

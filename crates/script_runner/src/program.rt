@@ -89,7 +89,7 @@ fn run_in<S: Source, K: Sink, D: Disk + Send, G: Gate + Sync, R: Threads + Wait 
     };
     let (traced, disk) = traced_anew(way, &script, disk, setting);
     match traced {
-        Ok(trace) => (written_in(alloc, sink, form, &trace), disk),
+        Ok(trace) => (written_in(alloc, sink, form, &script, &trace), disk),
         Err(exit) => (exit, disk),
     }
 }
@@ -146,8 +146,8 @@ fn demo_in<K: Sink, D: Disk + Send, G: Gate + Sync, R: Threads + Wait + Sync>(
 ///
 /// | words | what it does |
 /// |---|---|
-/// | `replay`, `replay --wire`, `replay --json`, `replay --summary` | reads the script from the source, formats the log on the disk, replays the script, and writes the trace in that form to the sink |
-/// | `threads H`, `threads H --summary` | reads the script, formats the log, runs the script on threads with H helpers, H from 1 to 16, and writes the trace, or its summary |
+/// | `replay`, `replay --wire`, `replay --json`, `replay --summary`, `replay --why` | reads the script from the source, formats the log on the disk, replays the script, and writes the trace in that form to the sink |
+/// | `threads H`, `threads H --summary`, `threads H --why` | reads the script, formats the log, runs the script on threads with H helpers, H from 1 to 16, and writes the trace, its summary, or why |
 /// | `make N` | writes the made script of N transactions, N from 1 to 256 |
 /// | `demo N` | formats the log, replays that script, and writes the summary |
 /// | `log` | reads the log that is on the disk, changes nothing of it, and writes a line for each slot whose gate is open, and one that says how many there are |

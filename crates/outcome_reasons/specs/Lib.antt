@@ -1,0 +1,12 @@
+pub mod First
+pub mod Moments
+pub mod Roots
+pub mod Vetoes
+pub mod Commits
+pub mod Doubts
+pub mod Promotions
+pub mod Planned
+pub mod Opens
+pub mod Owed
+pub mod Histories
+pub mod Whys
