@@ -2,7 +2,6 @@ pub mod Bools
 pub mod Histories
 pub mod Reading
 pub mod Prefixes
-pub mod Faults
 pub mod Scopes
 pub mod Digits
 pub mod Pasts

@@ -1,9 +1,9 @@
 //! What a line prints of what a run wrote.
 use crate::items::{Key, item_of, number};
 use crate::runs::Ending;
-use dtx_model::{Verdict, judge};
 use dtx_values::{Entry, Outcome, Party, Place, TxNo};
 use entry_lists::Trace;
+use history_judge::{Verdict, judge};
 use std::alloc::{AllocError, Global};
 use std::io;
 use std::str::from_utf8;

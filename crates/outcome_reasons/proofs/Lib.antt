@@ -5,3 +5,8 @@ pub mod Evident
 pub mod Spread
 pub mod Adding
 pub mod Begun
+pub mod Oldest
+pub mod Claiming
+pub mod Excuses
+pub mod Endings
+pub mod Holding

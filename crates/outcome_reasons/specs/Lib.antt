@@ -10,3 +10,4 @@ pub mod Opens
 pub mod Owed
 pub mod Histories
 pub mod Whys
+pub mod Claims

@@ -38,7 +38,7 @@ pub(crate) fn newest_line(h: &[Entry]) -> u32
 }
 
 /// The number in the trace of the entry at this place of a history; 0 where there is none.
-pub(crate) fn number_at(numbers: &[u64], place: usize) -> u64
+pub fn number_at(numbers: &[u64], place: usize) -> u64
     ensures { result ≡ number_at place (past_of numbers.now) }
 {
     match numbers.get(place) {

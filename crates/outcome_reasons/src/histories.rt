@@ -13,9 +13,9 @@ use std::marker::Model;
 
 /// The history of a transaction, and the number of each of its entries in the trace. A clause sees both newest first.
 #[derive(Drop)]
-pub(crate) struct History {
-    pub(crate) entries: Vec<Entry>,
-    pub(crate) numbers: Vec<u64>,
+pub struct History {
+    pub entries: Vec<Entry>,
+    pub numbers: Vec<u64>,
 }
 
 impl Model for History {
@@ -28,7 +28,8 @@ impl Model for History {
 }
 
 impl History {
-    fn new(alloc: Global) -> History
+    /// A history without an entry.
+    pub fn new(alloc: Global) -> History
         ensures { result ≡ record { entries = []; numbers = [] } }
     {
         History {
@@ -38,7 +39,11 @@ impl History {
     }
 
     /// Adds an entry, with its number.
-    fn add(&mut self, number: u64, x: Entry) -> Result<(), AllocError>
+    ///
+    /// # Errors
+    ///
+    /// [`AllocError`] where memory ran out.
+    pub fn add(&mut self, number: u64, x: Entry) -> Result<(), AllocError>
         ensures { OnOk result (self.new ≡ record { entries = x ∷ self.old.entries; numbers = number ∷ self.old.numbers }) }
     {
         self.entries.push(x)?;

@@ -13,6 +13,8 @@ mod promotions;
 mod said;
 mod vetoes;
 
+pub use callers::number_at;
+pub use histories::History;
 pub use lines::why;
 pub use said::{
     AbortReason, Caller, CommitReason, DoubtReason, Moment, OpenReason, PromotionReason, Root, Why,

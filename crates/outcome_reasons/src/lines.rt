@@ -1,8 +1,9 @@
 //! What is said of each transaction of a trace.
-ghost use Rattle.std.specs.Prelude.{◌≡◌, ◌++◌, IfOk, OnOk, length, map};
+ghost use Rattle.std.specs.Prelude.{◌≡◌, ◌++◌, All, IfOk, OnOk, length, map};
 ghost use Rattle.dtx_model.specs.Entries.{client_told_of};
 ghost use Rattle.dtx_model.specs.Words.{has, latest, past_of};
 ghost use Rattle.dtx_values.specs.declared.number.EnlNo.{EnlNo};
+ghost use Rattle.outcome_reasons.specs.Claims.{HaveOneEnding, Holds};
 ghost use Rattle.outcome_reasons.specs.Commits.{evident};
 ghost use Rattle.outcome_reasons.specs.Doubts.{doubtful};
 ghost use Rattle.outcome_reasons.specs.First.{first_of};
@@ -189,6 +190,8 @@ fn add_of(
 /// [`AllocError`] where memory ran out.
 pub fn why(alloc: Global, script: &Script, trace: &Trace) -> Result<Vec<(TxNo, Why)>, AllocError>
     ensures whys { IfOk result (λ v. map by_number v.items ≡ whys script.now trace.now) }
+    ensures endings { IfOk result (λ v. HaveOneEnding trace.now (map by_number v.items)) }
+    ensures holds { IfOk result (λ v. All (λ x. Holds script.now trace.now x.0 x.1) (map by_number v.items)) }
 {
     let lines = script.lines();
     let managers = managers_of(alloc, lines)?;

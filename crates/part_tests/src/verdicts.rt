@@ -1,8 +1,8 @@
 //! Verdicts on whole histories.
-use dtx_model::{Verdict, judge};
 use dtx_values::{
     Ask, Cause, Class, CloneKind, CloneNo, Conn, Dir, EnlNo, Entry, Message, Outcome, Party, Vote,
 };
+use history_judge::{Verdict, judge};
 use std::test::Fail;
 
 #[test]

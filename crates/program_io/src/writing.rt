@@ -13,6 +13,7 @@ use program_words::Form;
 use reason_text::why_text;
 use script_text::Script;
 use std::alloc::Global;
+use trace_page::page;
 use trace_text::{Trace, json_trace, print_lines, summary};
 
 /// How many lines of a trace are printed and written as one piece, at most.
@@ -98,6 +99,7 @@ pub fn written_in<K: Sink>(
         Form::Json => json_trace(alloc, trace),
         Form::Summary => summary(alloc, trace),
         Form::Why => why_text(alloc, script, trace),
+        Form::Html => page(alloc, script, trace),
     };
     match text {
         Ok(text) => written(sink, &text),

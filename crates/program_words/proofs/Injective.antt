@@ -5,7 +5,7 @@ use Rattle.std.proofs.lemmas.Bool.Decides.{nat_tests}
 use Rattle.std.proofs.lemmas.Fmt.{decimal_is_IsNumeral}
 use Rattle.program_words.specs.Commands.{Asks, form_words, is_command, is_count, is_form_on_threads, is_helpers, words_of}
 use Rattle.program_words.specs.declared.command.Form.{Form}
-use Rattle.program_words.specs.declared.command.Form.TheVariants.{Plain, Wire, Json, Summary, Why}
+use Rattle.program_words.specs.declared.command.Form.TheVariants.{Plain, Wire, Json, Summary, Why, Html}
 use Rattle.program_words.specs.declared.command.Command.{Command}
 use Rattle.program_words.specs.declared.command.Command.TheVariants.{Replay, Make, Demo, Threads, Log}
 
@@ -29,6 +29,7 @@ within Wire h k = absurd cc
 within Json h k = absurd cc
 within Summary h k = k
 within Why h k = k
+within Html h k = absurd cc
 
 -- the letter of the first word at a place
 abbrev letter : ℕ → List (List ℕ) → ℕ
@@ -40,26 +41,37 @@ forms Plain Wire e = cc
 forms Plain Json e = cc
 forms Plain Summary e = cc
 forms Plain Why e = cc
+forms Plain Html e = cc
 forms Wire Plain e = cc
 forms Wire Wire e = refl
 forms Wire Json e = let k : ◌≡◌ {A = ℕ} 119 106 = ap (letter 2) e in absurd (omega arith)
 forms Wire Summary e = let k : ◌≡◌ {A = ℕ} 119 115 = ap (letter 2) e in absurd (omega arith)
 forms Wire Why e = let k : ◌≡◌ {A = ℕ} 105 104 = ap (letter 3) e in absurd (omega arith)
+forms Wire Html e = let k : ◌≡◌ {A = ℕ} 119 104 = ap (letter 2) e in absurd (omega arith)
 forms Json Plain e = cc
 forms Json Wire e = let k : ◌≡◌ {A = ℕ} 106 119 = ap (letter 2) e in absurd (omega arith)
 forms Json Json e = refl
 forms Json Summary e = let k : ◌≡◌ {A = ℕ} 106 115 = ap (letter 2) e in absurd (omega arith)
 forms Json Why e = let k : ◌≡◌ {A = ℕ} 106 119 = ap (letter 2) e in absurd (omega arith)
+forms Json Html e = let k : ◌≡◌ {A = ℕ} 106 104 = ap (letter 2) e in absurd (omega arith)
 forms Summary Plain e = cc
 forms Summary Wire e = let k : ◌≡◌ {A = ℕ} 115 119 = ap (letter 2) e in absurd (omega arith)
 forms Summary Json e = let k : ◌≡◌ {A = ℕ} 115 106 = ap (letter 2) e in absurd (omega arith)
 forms Summary Summary e = refl
 forms Summary Why e = let k : ◌≡◌ {A = ℕ} 115 119 = ap (letter 2) e in absurd (omega arith)
+forms Summary Html e = let k : ◌≡◌ {A = ℕ} 115 104 = ap (letter 2) e in absurd (omega arith)
 forms Why Plain e = cc
 forms Why Wire e = let k : ◌≡◌ {A = ℕ} 104 105 = ap (letter 3) e in absurd (omega arith)
 forms Why Json e = let k : ◌≡◌ {A = ℕ} 119 106 = ap (letter 2) e in absurd (omega arith)
 forms Why Summary e = let k : ◌≡◌ {A = ℕ} 119 115 = ap (letter 2) e in absurd (omega arith)
 forms Why Why e = refl
+forms Why Html e = let k : ◌≡◌ {A = ℕ} 119 104 = ap (letter 2) e in absurd (omega arith)
+forms Html Plain e = cc
+forms Html Wire e = let k : ◌≡◌ {A = ℕ} 104 119 = ap (letter 2) e in absurd (omega arith)
+forms Html Json e = let k : ◌≡◌ {A = ℕ} 104 106 = ap (letter 2) e in absurd (omega arith)
+forms Html Summary e = let k : ◌≡◌ {A = ℕ} 104 115 = ap (letter 2) e in absurd (omega arith)
+forms Html Why e = let k : ◌≡◌ {A = ℕ} 104 119 = ap (letter 2) e in absurd (omega arith)
+forms Html Html e = refl
 
 first : (x y : List ℕ) → ◌≡◌ {A = List (List ℕ)} (x ∷ []) (y ∷ []) → x ≡ y
 first x y e = cc

@@ -1,7 +1,7 @@
 -- The words of each command, and no others.
 use Rattle.std.specs.Prelude.{ℕ, ◌≡◌, Bool, true, false, nat_le, ◌&&◌, List, [], ◌∷◌, codes, decimal}
 use Rattle.program_words.specs.declared.command.Form.{Form}
-use Rattle.program_words.specs.declared.command.Form.TheVariants.{Plain, Wire, Json, Summary, Why}
+use Rattle.program_words.specs.declared.command.Form.TheVariants.{Plain, Wire, Json, Summary, Why, Html}
 use Rattle.program_words.specs.declared.command.Command.{Command}
 use Rattle.program_words.specs.declared.command.Command.TheVariants.{Replay, Make, Demo, Threads, Log}
 
@@ -12,6 +12,7 @@ form_words Wire = codes "--wire" ∷ []
 form_words Json = codes "--json" ∷ []
 form_words Summary = codes "--summary" ∷ []
 form_words Why = codes "--why" ∷ []
+form_words Html = codes "--html" ∷ []
 
 -- the words of a command; its number is in decimal, without sign or leading zero
 abbrev pub words_of : Command → List (List ℕ)

@@ -13,6 +13,8 @@ pub enum Form {
     Summary,
     /// Why each transaction was promoted, and why it ended as it did.
     Why,
+    /// A page in HTML: the same, and a picture of each transaction.
+    Html,
 }
 
 /// What the words ask for.

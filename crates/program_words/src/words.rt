@@ -26,6 +26,8 @@ const SUMMARY: &[u8] = b"--summary";
 
 const WHY: &[u8] = b"--why";
 
+const HTML: &[u8] = b"--html";
+
 /// The number from 1 to 256 that this word is, in decimal without sign or leading zero.
 fn count_of(word: &[u8]) -> Option<u16>
     ensures some { IfSome result (λ n. (word.now ≡ decimal n) × (is_count n ≡ true)) }
@@ -60,6 +62,9 @@ fn form_of(word: &[u8]) -> Option<Form>
     }
     if word == WHY {
         return Some(Form::Why);
+    }
+    if word == HTML {
+        return Some(Form::Html);
     }
     None
 }

@@ -1,5 +1,5 @@
 -- Phrases after phrases.
-use Rattle.std.proofs.Common.{◌≡◌, List, ◌++◌, ℕ, Result, Ok, Err, OnOk}
+use Rattle.std.proofs.Common.{◌≡◌, List, ◌++◌, Result, Ok, Err, OnOk}
 use Rattle.std.proofs.lemmas.Grind.{flat_map-append}
 use Rattle.reason_text.specs.Phrases.{Phrase, phrase_text, phrases_text}
 

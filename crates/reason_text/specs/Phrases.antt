@@ -1,5 +1,5 @@
 -- The words of a reason: phrases, each a name or a number and the words after it.
-use Rattle.std.specs.Prelude.{ℕ, ◌∷◌, ◌++◌, [], List, Option, Some, None, codes, decimal}
+use Rattle.std.specs.Prelude.{ℕ, ◌++◌, [], List, Some, None, codes, decimal}
 use Rattle.std.specs.List.{flat_map}
 use Rattle.dtx_model.specs.Grammar.{actor_name, clone_name, connection_word, enlistment_name, scope_name, transaction_name}
 use Rattle.reason_text.specs.declared.phrases.Head.{Head}

@@ -1,5 +1,5 @@
 -- The lines that say why a transaction was promoted, and why it ended as it did.
-use Rattle.std.specs.Prelude.{ℕ, ◌==◌, Bool, true, false, ◌&&◌, List, [], ◌∷◌, ◌++◌, Option, Some, None, codes, if◌then◌else◌}
+use Rattle.std.specs.Prelude.{ℕ, ◌==◌, Bool, true, false, ◌&&◌, List, [], ◌∷◌, ◌++◌, Option, Some, codes, if◌then◌else◌}
 use Rattle.std.specs.List.{flat_map}
 use Rattle.dtx_values.specs.Ends.{same_connection}
 use Rattle.dtx_values.specs.declared.message.Conn.{Conn}
@@ -33,7 +33,7 @@ use Rattle.outcome_reasons.specs.declared.said.Root.TheVariants.{Cut, Stopped, U
 use Rattle.outcome_reasons.specs.declared.said.Why.{Why}
 use Rattle.outcome_reasons.specs.declared.said.Why.TheVariants.{Aborted, Committed, CoordinatorAborted, CoordinatorCommitted, CoordinatorUndecided, InDoubt, Open, Owes, Promoted, PromotionFailed, Unjust}
 use Rattle.reason_text.specs.Phrases.{Phrase, phrases_text}
-use Rattle.reason_text.specs.declared.phrases.Head.TheVariants.{Caller as ByCaller, Clone, Connection, Enlistment, Nothing, Number, Scope, Transaction}
+use Rattle.reason_text.specs.declared.phrases.Head.TheVariants.{Caller as ByCaller, Clone, Connection, Enlistment, Nothing, Number, Scope}
 
 -- where an entry stands: its number, and the line of its call
 abbrev pub by_line : Moment → List Phrase

@@ -7,4 +7,5 @@ mod phrases;
 mod places;
 mod printed;
 
-pub use printed::why_text;
+pub use phrases::{Head, push_phrases};
+pub use printed::{push_why, why_text};

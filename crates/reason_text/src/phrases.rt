@@ -86,7 +86,11 @@ fn push_phrase(text: &mut Vec<u8>, head: Head, words: &[u8]) -> Result<(), Alloc
 }
 
 /// Appends phrases.
-pub(crate) fn push_phrases(text: &mut Vec<u8>, phrases: &[(Head, &[u8])]) -> Result<(), AllocError>
+///
+/// # Errors
+///
+/// [`AllocError`] where memory ran out.
+pub fn push_phrases(text: &mut Vec<u8>, phrases: &[(Head, &[u8])]) -> Result<(), AllocError>
     ensures { OnOk result (text.new.items ≡ text.old.items ++ phrases_text (map (λ x. (x.0, x.1.now)) phrases.now)) }
 {
     for x in phrases {

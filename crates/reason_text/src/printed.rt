@@ -112,12 +112,23 @@ fn push_said(text: &mut Vec<u8>, why: Why) -> Result<(), AllocError>
     }
 }
 
+/// Appends what is said of a transaction, after its name.
+///
+/// # Errors
+///
+/// [`AllocError`] where memory ran out.
+pub fn push_why(text: &mut Vec<u8>, t: TxNo, why: Why) -> Result<(), AllocError>
+    ensures text { OnOk result (text.new.items ≡ text.old.items ++ (transaction_name t.value ++ said_text why)) }
+{
+    push_phrases(text, &[(Head::Transaction(t), b"")])?;
+    push_said(text, why)
+}
+
 /// Appends a line.
 fn push_line(text: &mut Vec<u8>, t: TxNo, why: Why) -> Result<(), AllocError>
     ensures { OnOk result (text.new.items ≡ text.old.items ++ why_line (t.value, why)) }
 {
-    push_phrases(text, &[(Head::Transaction(t), b"")])?;
-    push_said(text, why)?;
+    push_why(text, t, why)?;
     text.extend_from_slice(b"\n")
 }
 

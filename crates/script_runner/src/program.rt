@@ -146,7 +146,7 @@ fn demo_in<K: Sink, D: Disk + Send, G: Gate + Sync, R: Threads + Wait + Sync>(
 ///
 /// | words | what it does |
 /// |---|---|
-/// | `replay`, `replay --wire`, `replay --json`, `replay --summary`, `replay --why` | reads the script from the source, formats the log on the disk, replays the script, and writes the trace in that form to the sink |
+/// | `replay`, `replay --wire`, `replay --json`, `replay --summary`, `replay --why`, `replay --html` | reads the script from the source, formats the log on the disk, replays the script, and writes the trace in that form to the sink |
 /// | `threads H`, `threads H --summary`, `threads H --why` | reads the script, formats the log, runs the script on threads with H helpers, H from 1 to 16, and writes the trace, its summary, or why |
 /// | `make N` | writes the made script of N transactions, N from 1 to 256 |
 /// | `demo N` | formats the log, replays that script, and writes the summary |

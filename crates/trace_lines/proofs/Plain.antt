@@ -2,6 +2,7 @@
 use Rattle.std.proofs.Common.{◌≡◌, refl, ℕ, zero, suc, ◌/◌, ◌%◌, ◌<◌, ◌==◌, nat_le, nat_lt, Bool, true, false, ◌&&◌, ◌||◌, if◌then◌else◌, List, [], ◌∷◌, ◌++◌, ap, append_assoc, ◌∙◌, arith, codes, decimal, Option, Some, None}
 use Rattle.std.specs.Fmt.{digit_glyph, digits, digits_onto}
 use Rattle.std.specs.Int.{w128, to_be_bytes}
+use Rattle.std.proofs.lemmas.Bool.{eqb-true}
 use Rattle.std.proofs.lemmas.Bool.Decides.{nat_tests}
 use Rattle.std.proofs.lemmas.List.Concat.{flat_map-cons}
 use Rattle.std.proofs.lemmas.List.Folds.{list_all-append}
@@ -49,11 +50,12 @@ use Rattle.dtx_values.specs.declared.words.Outcome.TheVariants.{Committed, Abort
 use Rattle.dtx_values.specs.declared.words.Vote.{Vote}
 use Rattle.dtx_values.specs.declared.words.Vote.TheVariants.{Yes, No, Done}
 use Rattle.dtx_model.specs.Grammar.{actor_name, clone_name, connection_word, enlistment_name, image_word, iso_word, kind_word, scope_name}
-use Rattle.dtx_model.specs.TraceText.{ambient_text, answer_text, ask_text, cast_vote_text, cause_text, class_text, direction_text, entry_text, found_text, id_text, log_text, message_text, outcome_text, party_text, place_text, promote_text, request_text, scope_text, sent_text}
+use Rattle.dtx_model.specs.TraceText.{ambient_text, answer_text, ask_text, cast_vote_text, cause_text, class_text, direction_text, entry_text, found_text, id_text, log_text, message_text, outcome_text, party_text, place_text, promote_text, request_text, scope_text, sent_text, trace_line}
 use Rattle.dtx_model.specs.Traces.{Placed}
 use Rattle.dtx_model.specs.Words.{each}
 use Rattle.dtx_model.proofs.Bools.{and_both, and_left, and_right, or_false}
 use Rattle.line_tail.specs.Cut.{IsWithout}
+use Rattle.line_tail.proofs.CutLemmas.{without_append}
 use Rattle.trace_lines.specs.Forms.{object_of, object_text}
 
 -- a space, a hyphen, a digit or a lower-case letter
@@ -322,6 +324,28 @@ unquoted (c ∷ s) h =
     let here : is_plain c ≡ true = and_left (is_plain c) (are_plain s) h in
     let quote : (c == 34) ≡ false = grind (arith, nat_tests) in
     or_false (c == 34) _ quote (unquoted s (and_right (is_plain c) (are_plain s) h))
+
+-- nor a letter that is none of these
+without_other : (q : ℕ) → is_plain q ≡ false → (s : List ℕ) → are_plain s ≡ true → IsWithout q s
+without_other q other [] h = refl
+without_other q other (c ∷ s) h = or_false (c == q) _ (apart (c == q) refl) (without_other q other s (and_right (is_plain c) (are_plain s) h))
+  where
+    clash : (b : Bool) → b ≡ true → b ≡ false → ⊥
+    clash b k l = cc
+
+    apart : (b : Bool) → (c == q) ≡ b → (c == q) ≡ false
+    apart false e = e
+    apart true e = absurd (clash (is_plain c) (and_left (is_plain c) (are_plain s) h) (ap is_plain (eqb-true c q e) ∙ other))
+
+-- so a line of a trace has no angle bracket
+pub line_unbracketed : (n : ℕ) (x : Placed) → IsWithout 62 (trace_line n x)
+line_unbracketed n x =
+    let numbered : IsWithout 62 (decimal n) = without_other 62 refl (decimal n) (number n) in
+    let placed : IsWithout 62 (place_text x.0) = without_other 62 refl (place_text x.0) (place x.0) in
+    let said : IsWithout 62 (entry_text x.1) = without_other 62 refl (entry_text x.1) (entry x.1) in
+    without_append 62 (decimal n ++ codes " " ++ place_text x.0 ++ codes " " ++ entry_text x.1) (10 ∷ [])
+    (without_append 62 (decimal n ++ codes " " ++ place_text x.0 ++ codes " ") (entry_text x.1)
+    (without_append 62 (decimal n ++ codes " " ++ place_text x.0) (codes " ") (without_append 62 (decimal n ++ codes " ") (place_text x.0) (without_append 62 (decimal n) (codes " ") numbered refl) placed) refl) said) refl
 
 pub place_unquoted : (p : Place) → IsWithout 34 (place_text p)
 place_unquoted p = unquoted (place_text p) (place p)

@@ -18,7 +18,10 @@ mod tally;
 mod widths;
 mod wire;
 
+pub use answers::put_answer;
+pub use entries::put_entry;
 pub use laws::{one_trace, typed_trace};
+pub use messages::put_message;
 pub use objects::json_trace;
 pub use printer::{print_lines, print_trace, put_line};
 pub use tally::summary;

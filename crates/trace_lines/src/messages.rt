@@ -12,7 +12,7 @@ use line_tail::Tail;
 use line_words::{put_connection, put_direction};
 
 /// Puts the name of a message.
-fn put_message(tail: &mut Tail, m: Message)
+pub fn put_message(tail: &mut Tail, m: Message)
     requires { MESSAGE_ROOM + length tail.old ≤ LINE_ROOM }
     ensures text { tail.new ≡ message_text m ++ tail.old }
     ensures length { length tail.new ≤ MESSAGE_ROOM + length tail.old }

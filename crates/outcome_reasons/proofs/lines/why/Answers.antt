@@ -1,4 +1,5 @@
 use Rattle.std.proofs.Common.{◌≡◌, ◌+◌, ◌<◌, IfSome, List, [], Option, ap, arith, get_or, length, sym, subst, ◌∙◌, ◌++◌}
+use Rattle.std.specs.Prelude.{All}
 use Rattle.std.specs.List.{flat_map, range_with_len}
 use Rattle.std.proofs.lemmas.List.{take_all}
 use Rattle.std.proofs.lemmas.List.FromFn.{get_or-range_with_len, length-range_with_len}
@@ -6,10 +7,13 @@ use Rattle.dtx_values.specs.declared.number.RmNo.{RmNo}
 use Rattle.dtx_values.specs.declared.number.TxNo.{TxNo}
 use Rattle.dtx_model.specs.Words.{past_of}
 use Rattle.script_calls.specs.Managers.{AreManagers}
+use Rattle.outcome_reasons.specs.Claims.{HaveOneEnding, Holds}
 use Rattle.outcome_reasons.specs.Histories.{Numbered, all_histories, numbered}
 use Rattle.outcome_reasons.specs.Whys.{nested_lines, said_if, whys_of}
 use Rattle.outcome_reasons.proofs.Adding.{part-more}
 use Rattle.outcome_reasons.proofs.Begun.{all-said}
+use Rattle.outcome_reasons.proofs.Endings.{one_ending}
+use Rattle.outcome_reasons.proofs.Holding.{all-hold}
 use Rattle.outcome_reasons.proofs.Spread.{histories-long, history-at}
 use Rattle.outcome_reasons.proofs.lines.why.Goals as goal
 
@@ -50,4 +54,9 @@ returns c =
     let T = past_of c.args.trace.now in
     let items : c.deref-h-items.result.now ≡ all_histories T = c.deref-h-items.ensures.value ∙ c.in_ok-histories.ensures in
     let size : length c.deref-h-items.result.now ≡ 256 = ap length items ∙ histories-long T in
-    record { whys = c.loop-i.invariant ∙ ap (flat_map (whys_of s T)) (take_all c.loop-i.i (range_with_len 1 256) (omega (arith, c.loop-i-test.false, size, length-range_with_len 1 256))) ∙ all-said s c.args.trace.now }
+    let said = c.loop-i.invariant ∙ ap (flat_map (whys_of s T)) (take_all c.loop-i.i (range_with_len 1 256) (omega (arith, c.loop-i-test.false, size, length-range_with_len 1 256))) ∙ all-said s c.args.trace.now in
+    record {
+      whys = said;
+      endings = subst (HaveOneEnding c.args.trace.now) (sym said) (one_ending s c.args.trace.now);
+      holds = subst (All (λ x. Holds s c.args.trace.now x.0 x.1)) (sym said) (all-hold s c.args.trace.now);
+    }

@@ -1,4 +1,4 @@
-use Rattle.std.proofs.Common.{◌≡◌, ◌++◌, append_assoc, ap, codes, sym, ◌∙◌}
+use Rattle.std.proofs.Common.{◌++◌, append_assoc, ap, codes, sym, ◌∙◌}
 use Rattle.reason_text.specs.Phrases.{phrases_text}
 use Rattle.reason_text.specs.Sentences.{roots_said, words_said}
 use Rattle.reason_text.proofs.Joined.{joined, then-ok}

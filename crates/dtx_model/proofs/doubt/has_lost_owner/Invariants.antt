@@ -1,7 +1,0 @@
-use Rattle.std.proofs.Common.{◌≡◌, false, take}
-use Rattle.dtx_model.specs.Words.{ever, past_of}
-use Rattle.dtx_model.specs.Outcome.{is_lost_owner}
-use Rattle.dtx_model.proofs.doubt.has_lost_owner.Given as goal
-
-abbrev pub invariant-loop-i : goal.invariant-loop-i
-invariant-loop-i l = ever is_lost_owner (past_of (take l.i l.h)) ≡ false
