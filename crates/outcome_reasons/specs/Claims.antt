@@ -29,7 +29,7 @@ pub record IsFirst (test : List Entry → Bool) (t n : ℕ) (T : List Placed) : 
   pub stands : test (after t n T) ≡ true
   pub never : (k : ℕ) → k < n → test (after t k T) ≡ false
 
--- entry n is of transaction t, and a veto, before which there is no veto and stands no evidence
+-- entry n is of transaction t, and a veto before which no evidence stands, and the first such
 pub record IsVetoAt (t n : ℕ) (T : List Placed) : Type 0 where
   pub entry : Entry
   pub here : after t n T ≡ entry ∷ after t (n - 1) T

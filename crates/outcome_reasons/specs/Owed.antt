@@ -1,9 +1,8 @@
 -- Whom a transaction still owes an outcome.
-use Rattle.std.specs.Prelude.{ℕ, ◌==◌, Bool, true, false, ◌&&◌, not, List, [], ◌∷◌, Option, Some, None, if◌then◌else◌}
+use Rattle.std.specs.Prelude.{Bool, true, false, ◌&&◌, not, List, [], ◌∷◌, Option, Some, None}
 use Rattle.std.specs.List.{flat_map}
-use Rattle.dtx_values.specs.Table.{enl_number, insert_by}
 use Rattle.dtx_values.specs.declared.entry.Entry.{Entry}
-use Rattle.dtx_values.specs.declared.entry.Entry.TheVariants.{Recovered, Sent}
+use Rattle.dtx_values.specs.declared.entry.Entry.TheVariants.{Sent}
 use Rattle.dtx_values.specs.declared.message.Conn.TheVariants.{Enl}
 use Rattle.dtx_values.specs.declared.message.Dir.TheVariants.{Up}
 use Rattle.dtx_values.specs.declared.message.Message.TheVariants.{EnlistPrepared}
@@ -13,15 +12,14 @@ use Rattle.dtx_values.specs.declared.script.Line.{Line}
 use Rattle.dtx_model.specs.Caused.{calls_in}
 use Rattle.dtx_model.specs.Entries.{is_told}
 use Rattle.dtx_model.specs.Plans.{manager_of}
+use Rattle.dtx_model.specs.Replies.{with_name}
+use Rattle.dtx_model.specs.Tied.{is_recovery}
 use Rattle.dtx_model.specs.Words.{has, past_of}
 use Rattle.outcome_reasons.specs.declared.said.Why.{Why}
 use Rattle.outcome_reasons.specs.declared.said.Why.TheVariants.{Owes}
 
-abbrev pub with_one : EnlNo → List EnlNo → List EnlNo
-with_one e es = if has (λ f. e.value == f.value) es then es else insert_by enl_number e es
-
 abbrev pub prepared_after : Entry → List EnlNo → List EnlNo
-prepared_after (Sent (Enl e) Up EnlistPrepared) es = with_one e es
+prepared_after (Sent (Enl e) Up EnlistPrepared) es = with_name e es
 prepared_after _ es = es
 
 -- the enlistments that said PREPARED, by number
@@ -29,12 +27,8 @@ abbrev pub prepared : List Entry → List EnlNo
 prepared [] = []
 prepared (x ∷ past) = prepared_after x (prepared past)
 
-abbrev pub is_recovered : ℕ → Entry → Bool
-is_recovered r (Recovered q) = r == q.value
-is_recovered r _ = false
-
 abbrev pub has_recovered : Option RmNo → List Entry → Bool
-has_recovered (Some r) h = has (is_recovered r.value) h
+has_recovered (Some r) h = has (is_recovery r.value) h
 has_recovered None h = false
 
 -- it wasn't told an outcome, and its manager has not recovered

@@ -15,7 +15,7 @@ mod vetoes;
 
 pub use callers::number_at;
 pub use histories::History;
-pub use lines::why;
+pub use lines::{is_begun, why};
 pub use said::{
     AbortReason, Caller, CommitReason, DoubtReason, Moment, OpenReason, PromotionReason, Root, Why,
 };

@@ -45,9 +45,9 @@ fn is_began(x: &Entry) -> bool
     matches!(x, Entry::Began(_))
 }
 
-/// Whether the transaction was begun.
-fn is_begun(h: &[Entry]) -> bool
-    ensures { result ≡ has (λ x. is_began x) h.now }
+/// Whether the transaction of this history was begun.
+pub fn is_begun(h: &[Entry]) -> bool
+    ensures begun { result ≡ has (λ x. is_began x) h.now }
 {
     h.iter().any(|x| is_began(x))
 }

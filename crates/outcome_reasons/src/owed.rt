@@ -1,10 +1,12 @@
 //! Whom a transaction still owes an outcome.
 ghost use Rattle.std.specs.Prelude.{◌≡◌, ◌++◌, ◌==◌, IfOk, OnOk, List, length};
 ghost use Rattle.dtx_model.specs.Entries.{is_told};
+ghost use Rattle.dtx_model.specs.Replies.{with_name};
+ghost use Rattle.dtx_model.specs.Tied.{is_recovery};
 ghost use Rattle.dtx_model.specs.Words.{has, past_of};
 ghost use Rattle.dtx_values.specs.declared.number.EnlNo.{EnlNo};
 ghost use Rattle.dtx_values.specs.declared.script.Line.{Line};
-ghost use Rattle.outcome_reasons.specs.Owed.{has_recovered, is_owed, is_recovered, owed, owes_if, prepared, prepared_after, with_one};
+ghost use Rattle.outcome_reasons.specs.Owed.{has_recovered, is_owed, owed, owes_if, prepared, prepared_after};
 ghost use Rattle.script_calls.specs.Managers.{AreManagers};
 
 use crate::said::Why;
@@ -20,7 +22,7 @@ fn is_among(found: &[EnlNo], e: EnlNo) -> bool
 
 /// Adds an enlistment, unless it is there.
 fn add_one(found: &mut Vec<EnlNo>, e: EnlNo) -> Result<(), AllocError>
-    ensures { OnOk result (found.new.items ≡ with_one e found.old.items) }
+    ensures { OnOk result (found.new.items ≡ with_name e found.old.items) }
 {
     if is_among(found, e) {
         return Ok(());
@@ -64,8 +66,8 @@ fn is_told(e: EnlNo, x: &Entry) -> bool
 }
 
 /// Whether the entry says that the manager has recovered.
-fn is_recovered(r: RmNo, x: &Entry) -> bool
-    ensures { result ≡ is_recovered r.value x.now }
+fn is_recovery(r: RmNo, x: &Entry) -> bool
+    ensures { result ≡ is_recovery r.value x.now }
 {
     match *x {
         Entry::Recovered(q) => r == q,
@@ -82,9 +84,9 @@ fn has_told(h: &[Entry], e: EnlNo) -> bool
 
 /// Whether this manager has recovered.
 fn has_recovery(r: RmNo, h: &[Entry]) -> bool
-    ensures { result ≡ has (λ x. is_recovered r.value x) h.now }
+    ensures { result ≡ has (λ x. is_recovery r.value x) h.now }
 {
-    h.iter().any(|x| is_recovered(r, x))
+    h.iter().any(|x| is_recovery(r, x))
 }
 
 /// Whether there is a manager, and it has recovered.

@@ -10,11 +10,9 @@ use crate::exit::Exit;
 use crate::transfer::{WriteStop, write_all};
 use outside::Sink;
 use program_words::Form;
-use reason_text::why_text;
 use script_text::Script;
 use std::alloc::Global;
-use trace_page::page;
-use trace_text::{Trace, json_trace, print_lines, summary};
+use trace_text::{Trace, json_trace, page, print_lines, summary, why_text};
 
 /// How many lines of a trace are printed and written as one piece, at most.
 const LINES: usize = 2_048;

@@ -1,10 +1,12 @@
 //! Runs scripts: the top call of the program.
 #![tactic(auto)]
 
+mod arrows;
 mod program;
 mod running;
 mod threads;
 
+pub use arrows::each_run_has_its_arrows;
 pub use coordinator_log::LOG_BYTES;
 pub use program::run_program;
 pub use program_io::Exit;

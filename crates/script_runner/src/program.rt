@@ -25,6 +25,7 @@ ghost use Rattle.program_words.specs.Commands.{Asks, AsksNothing, is_count};
 ghost use Rattle.program_words.specs.declared.command.Form.{Form};
 ghost use Rattle.script_maker.specs.Gen.{gen};
 
+use crate::arrows::each_run_has_its_arrows;
 use crate::running::traced_anew;
 use dtx_values::Resource;
 use outside::{Disk, Gate, Sink, Source, SureSource};
@@ -82,6 +83,8 @@ fn run_in<S: Source, K: Sink, D: Disk + Send, G: Gate + Sync, R: Threads + Wait 
     reads_exactly();
     // Nor does this. It brings in that the text which is written has one trace, up to what a message's line leaves out.
     one_trace();
+    // Nor this: each message that comes has its arrow in a picture.
+    each_run_has_its_arrows();
     let alloc = setting.alloc;
     let script = match script_from(alloc, way, source) {
         Ok(script) => script,
@@ -142,7 +145,7 @@ fn demo_in<K: Sink, D: Disk + Send, G: Gate + Sync, R: Threads + Wait + Sync>(
     run_in(way, Form::Summary, &mut source, sink, disk, setting)
 }
 
-/// Runs the program on its words:
+/// Runs the program on its words: a script in the order of a replay or on threads, from the source to the text of its trace at the sink, over a log on the disk.
 ///
 /// | words | what it does |
 /// |---|---|

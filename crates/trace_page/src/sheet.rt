@@ -16,7 +16,7 @@ use crate::laws::one_page;
 use crate::style::push_style;
 use dtx_values::{Entry, Script, TxNo};
 use entry_lists::Trace;
-use outcome_reasons::{History, Why, why};
+use outcome_reasons::{History, Why, is_begun, why};
 use reason_text::{Head, push_phrases, push_why};
 use std::alloc::{AllocError, Global};
 use trace_lines::print_trace;
@@ -119,21 +119,7 @@ fn was_promoting(h: &[Entry]) -> bool
     has_promoting(h)
 }
 
-/// Whether the entry begins the transaction.
-fn is_began(x: &Entry) -> bool
-    ensures { result ≡ is_began x.now }
-{
-    matches!(x, Entry::Began(_))
-}
-
-/// Whether the transaction was begun.
-fn is_begun(h: &[Entry]) -> bool
-    ensures { result ≡ has (λ x. is_began x) h.now }
-{
-    h.iter().any(|x| is_began(x))
-}
-
-/// The same, of them newest first.
+/// Whether the transaction was begun, of its entries newest first.
 #[tactic(auto, using(dtx_model::proofs::Reading::reading))]
 fn was_begun(h: &[Entry]) -> bool
     ensures { result ≡ has (λ x. is_began x) (past_of h.now) }

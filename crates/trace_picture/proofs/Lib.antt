@@ -1,3 +1,5 @@
 pub mod Places
 pub mod Others
 pub mod OwnSent
+pub mod OwnRows
+pub mod OwnArrow

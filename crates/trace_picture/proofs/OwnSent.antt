@@ -1,4 +1,4 @@
--- What is got was sent in the row where its arrow begins.
+-- What is on the way was sent in rows that are shown, in order: those of the messages that come next.
 use Rattle.std.proofs.Common.{◌≡◌, ℕ, zero, suc, ◌+◌, ◌<◌, ◌≤◌, ◌==◌, ◌&&◌, ◌||◌, Bool, true, false, List, [], ◌∷◌, ◌++◌, append_assoc, append-nil, Option, Some, None, length, length-append, drop, take, map, slice_get, refl, ap, subst, sym, ◌∙◌, arith, inl, inr}
 use Rattle.std.proofs.lemmas.Bool.{and_parts, both_ways, cases_Bool, eq-eqb, eqb-true, ne_eqb}
 use Rattle.std.proofs.lemmas.List.{take-append-drop}
@@ -10,27 +10,26 @@ use Rattle.dtx_values.specs.declared.message.Conn.{Conn}
 use Rattle.dtx_values.specs.declared.message.Dir.{Dir}
 use Rattle.dtx_values.specs.declared.message.Dir.TheVariants.{Down, Up}
 use Rattle.dtx_values.specs.declared.message.Message.{Message}
-use Rattle.dtx_values.specs.declared.script.Line.{Line}
-use Rattle.dtx_model.specs.Wires.{MayCross, WireRun, in_transit, is_kept, is_next, is_open_wire, is_stopped, kept, loses, lost_after, lost_since, opens, transit_after, without_first}
+use Rattle.dtx_model.specs.Wires.{MayCross, in_transit, is_kept, is_next, is_open_wire, is_stopped, kept, loses, lost_after, lost_since, opens, transit_after, without_first}
 use Rattle.dtx_model.proofs.Connections.{same_is, same_way_is}
-use Rattle.trace_picture.specs.Crossings.{got_since, is_got_on, is_sent_on, origin, sent_since}
-use Rattle.trace_picture.specs.Marks.{got_mark}
-use Rattle.trace_picture.specs.OwnSent.{HasOwnArrow, in_row}
+use Rattle.trace_picture.specs.Crossings.{got_since, is_got_on, is_sent_on, sent_since}
+use Rattle.trace_picture.specs.OwnSent.{in_row, is_message}
 
 -- the rows that were sent since the connection was opened, and that didn't come yet: first those of what is on the way, and then, where the connection is lost, the others
-record Waiting (c : Conn) (d : Dir) (past : List Entry) (rows : List ℕ) (n : ℕ) (ms : List Message) (live : Bool) : Type 0 where
-  on_way : List ℕ
-  rest : List ℕ
-  split : drop n rows ≡ on_way ++ rest
-  few : n ≤ length rows
-  messages : map (λ r. in_row r past) on_way ≡ map (λ m. Some (Sent c d m)) ms
-  none_lost : live ≡ true → rest ≡ []
+pub record Waiting (c : Conn) (d : Dir) (shown : List Entry) (rows : List ℕ) (n : ℕ) (ms : List Message) (live : Bool) : Type 0 where
+  pub on_way : List ℕ
+  pub rest : List ℕ
+  pub split : drop n rows ≡ on_way ++ rest
+  pub few : n ≤ length rows
+  pub messages : map (λ r. in_row r shown) on_way ≡ map (λ m. Some (Sent c d m)) ms
+  pub none_lost : live ≡ true → rest ≡ []
 
-abbrev Waits : Conn → Dir → List Entry → Type 0
-Waits c d past = Waiting c d past (sent_since c d past) (got_since c d past) (in_transit c d past) (is_open_wire c past)
+-- those of what is shown, where this is the history
+abbrev pub Waits : Conn → Dir → List Entry → List Entry → Type 0
+Waits c d shown past = Waiting c d shown (sent_since c d shown) (got_since c d shown) (in_transit c d past) (is_open_wire c past)
 
 -- an entry stays in its row
-within : (r : ℕ) (past : List Entry) (y : Entry) → in_row r past ≡ Some y → r < length past
+pub within : (r : ℕ) (past : List Entry) (y : Entry) → in_row r past ≡ Some y → r < length past
 within r [] y k = absurd cc
 within r (x ∷ past) y k = elim (cases_Bool (r == length past)) [
   | inl now ↦ omega (arith, eqb-true r (length past) now)
@@ -81,27 +80,32 @@ lost_now c x past p q k = both_ways (is_open_wire c (x ∷ past)) (ap is_kept (l
     by (Some true) = refl
     by (Some false) = refl
 
--- an entry that neither opens, sends, gets nor loses
-inert : (c : Conn) (d : Dir) (x : Entry) (past : List Entry) → opens c x ≡ false → is_sent_on c d x ≡ false → is_got_on c d x ≡ false → in_transit c d (x ∷ past) ≡ in_transit c d past → loses c x ≡ false
-    → Waits c d past → Waits c d (x ∷ past)
-inert c d x past p q g t l w =
-    let rows : sent_since c d (x ∷ past) ≡ sent_since c d past = rw (q, p) refl in
-    let count : got_since c d (x ∷ past) ≡ got_since c d past = rw (p, g) refl in
+-- an entry that neither opens, sends nor gets, where as much is on the way as before, and the connection is live only where it was
+inert : (c : Conn) (d : Dir) (x : Entry) (shown past more : List Entry) → opens c x ≡ false → is_sent_on c d x ≡ false → is_got_on c d x ≡ false → in_transit c d more ≡ in_transit c d past
+    → (is_open_wire c more ≡ true → is_open_wire c past ≡ true) → Waits c d shown past → Waits c d (x ∷ shown) more
+inert c d x shown past more p q g t l w =
+    let rows : sent_since c d (x ∷ shown) ≡ sent_since c d shown = rw (q, p) refl in
+    let count : got_since c d (x ∷ shown) ≡ got_since c d shown = rw (p, g) refl in
     record {
       on_way = w.on_way;
       rest = w.rest;
       split = (λ j. drop (count j) (rows j)) ∙ w.split;
-      few = subst (λ n. n ≤ length (sent_since c d (x ∷ past))) (sym count) (subst (λ (rs : List ℕ). got_since c d past ≤ length rs) (sym rows) w.few);
-      messages = all_stay c d x past w.on_way (in_transit c d past) w.messages ∙ sym (ap (map (λ m. Some (Sent c d m))) t);
-      none_lost = λ live. w.none_lost (sym (open_stays c x past p l) ∙ live);
+      few = subst (λ n. n ≤ length (sent_since c d (x ∷ shown))) (sym count) (subst (λ (rs : List ℕ). got_since c d shown ≤ length rs) (sym rows) w.few);
+      messages = all_stay c d x shown w.on_way (in_transit c d past) w.messages ∙ sym (ap (map (λ m. Some (Sent c d m))) t);
+      none_lost = λ live. w.none_lost (l live);
     }
 
-drop_more : {A : Type 0} (n : ℕ) (xs ys : List A) → n ≤ length xs → drop n (xs ++ ys) ≡ drop n xs ++ ys
+-- the same of an entry of the history
+inert_there : (c : Conn) (d : Dir) (x : Entry) (shown past : List Entry) → opens c x ≡ false → is_sent_on c d x ≡ false → is_got_on c d x ≡ false → in_transit c d (x ∷ past) ≡ in_transit c d past → loses c x ≡ false
+    → Waits c d shown past → Waits c d (x ∷ shown) (x ∷ past)
+inert_there c d x shown past p q g t l w = inert c d x shown past (x ∷ past) p q g t (λ live. sym (open_stays c x past p l) ∙ live) w
+
+pub drop_more : {A : Type 0} (n : ℕ) (xs ys : List A) → n ≤ length xs → drop n (xs ++ ys) ≡ drop n xs ++ ys
 drop_more zero xs ys k = refl
 drop_more (suc n) [] ys k = absurd (omega (arith, k))
 drop_more (suc n) (x ∷ xs) ys k = drop_more n xs ys (omega (arith, k))
 
-drop_one : {A : Type 0} (n : ℕ) (xs ys : List A) (y : A) → drop n xs ≡ y ∷ ys → drop (n + 1) xs ≡ ys
+pub drop_one : {A : Type 0} (n : ℕ) (xs ys : List A) (y : A) → drop n xs ≡ y ∷ ys → drop (n + 1) xs ≡ ys
 drop_one zero [] ys y k = absurd cc
 drop_one zero (x ∷ xs) ys y k = let same : xs ≡ ys = cc in same
 drop_one (suc n) [] ys y k = absurd cc
@@ -115,7 +119,7 @@ drop_short zero (x ∷ xs) ys y k = omega arith
 drop_short (suc n) [] ys y k = absurd cc
 drop_short (suc n) (x ∷ xs) ys y k = omega (arith, drop_short n xs ys y k)
 
-drop_at : {A : Type 0} (n : ℕ) (xs ys : List A) (y : A) → drop n xs ≡ y ∷ ys → slice_get xs n ≡ Some y
+pub drop_at : {A : Type 0} (n : ℕ) (xs ys : List A) (y : A) → drop n xs ≡ y ∷ ys → slice_get xs n ≡ Some y
 drop_at zero [] ys y k = absurd cc
 drop_at zero (x ∷ xs) ys y k = let same : x ≡ y = cc in ap Some same
 drop_at (suc n) [] ys y k = absurd cc
@@ -137,10 +141,10 @@ sent_there c e d r m k =
     (λ j. Sent (sym (same_is c e both.0) j) (sym (same_way_is d r both.1) j) m)
 
 -- where it opens the connection
-opening : (c e : Conn) (d r : Dir) (m : Message) (past : List Entry) → opens c (Sent e r m) ≡ true → Waits c d (Sent e r m ∷ past)
-opening c e Down Down m past k = absurd cc
-opening c e Up Down m past k = absurd cc
-opening c e Down Up m past k =
+opening : (c e : Conn) (d r : Dir) (m : Message) (shown past : List Entry) → opens c (Sent e r m) ≡ true → Waits c d (Sent e r m ∷ shown) (Sent e r m ∷ past)
+opening c e Down Down m shown past k = absurd cc
+opening c e Up Down m shown past k = absurd cc
+opening c e Down Up m shown past k =
     let none : is_sent_on c Down (Sent e Up m) ≡ false = and_never (same_connection c e) in
     record {
       on_way = [];
@@ -154,24 +158,24 @@ opening c e Down Up m past k =
     and_never : (b : Bool) → (b && false) ≡ false
     and_never true = refl
     and_never false = refl
-opening c e Up Up m past k =
+opening c e Up Up m shown past k =
     let same : same_connection c e ≡ true = (and_parts (same_connection c e) (is_opening e m) k).0 in
     let here : is_sent_on c Up (Sent e Up m) ≡ true = rw same refl in
     elim (cases_Bool (is_stopped past)) [
       | inl stopped ↦ record {
         on_way = [];
-        rest = length past ∷ [];
+        rest = length shown ∷ [];
         split = rw (here, k) refl;
         few = rw (here, k) (omega arith);
         messages = rw (k, stopped) refl;
         none_lost = λ live. absurd (both_ways (is_open_wire c (Sent e Up m ∷ past)) (closed stopped) live);
       }
       | inr up ↦ record {
-        on_way = length past ∷ [];
+        on_way = length shown ∷ [];
         rest = [];
         split = rw (here, k) refl;
         few = rw (here, k) (omega arith);
-        messages = rw (k, up) (rw (eq-eqb (length past) (length past) refl) (ap (λ (x : Entry). Some x ∷ []) (sent_there c e Up Up m here)));
+        messages = rw (k, up) (rw (eq-eqb (length shown) (length shown) refl) (ap (λ (x : Entry). Some x ∷ []) (sent_there c e Up Up m here)));
         none_lost = λ live. refl;
       }
     ]
@@ -184,34 +188,34 @@ opening c e Up Up m past k =
         by (Some b) = rw (k, stopped) refl
 
 -- where it doesn't
-sending : (c e : Conn) (d r : Dir) (m : Message) (past : List Entry) → opens c (Sent e r m) ≡ false → Waits c d past → Waits c d (Sent e r m ∷ past)
-sending c e d r m past k w = elim (cases_Bool (same_connection c e && same_direction d r)) [
-  | inr other ↦ inert c d (Sent e r m) past k other refl (rw (k, other) refl) refl w
+sending : (c e : Conn) (d r : Dir) (m : Message) (shown past : List Entry) → opens c (Sent e r m) ≡ false → Waits c d shown past → Waits c d (Sent e r m ∷ shown) (Sent e r m ∷ past)
+sending c e d r m shown past k w = elim (cases_Bool (same_connection c e && same_direction d r)) [
+  | inr other ↦ inert_there c d (Sent e r m) shown past k other refl (rw (k, other) refl) refl w
   | inl here ↦
-      let rows : sent_since c d (Sent e r m ∷ past) ≡ sent_since c d past ++ length past ∷ [] = rw (here, k) refl in
-      let count : got_since c d (Sent e r m ∷ past) ≡ got_since c d past = rw k refl in
+      let rows : sent_since c d (Sent e r m ∷ shown) ≡ sent_since c d shown ++ length shown ∷ [] = rw (here, k) refl in
+      let count : got_since c d (Sent e r m ∷ shown) ≡ got_since c d shown = rw k refl in
       let stay = open_stays c (Sent e r m) past k refl in
-      let left : drop (got_since c d (Sent e r m ∷ past)) (sent_since c d (Sent e r m ∷ past)) ≡ w.on_way ++ (w.rest ++ length past ∷ []) =
-      (λ j. drop (count j) (rows j)) ∙ drop_more (got_since c d past) (sent_since c d past) (length past ∷ []) w.few ∙ ap (λ l. l ++ length past ∷ []) w.split ∙ append_assoc w.on_way w.rest (length past ∷ []) in
-      let few : got_since c d (Sent e r m ∷ past) ≤ length (sent_since c d (Sent e r m ∷ past)) = omega (arith, count, ap length rows, length-append (sent_since c d past) (length past ∷ []), w.few) in
-      let kept_on : map (λ q. in_row q (Sent e r m ∷ past)) w.on_way ≡ map (λ n. Some (Sent c d n)) (in_transit c d past) = all_stay c d (Sent e r m) past w.on_way (in_transit c d past) w.messages in
+      let left : drop (got_since c d (Sent e r m ∷ shown)) (sent_since c d (Sent e r m ∷ shown)) ≡ w.on_way ++ (w.rest ++ length shown ∷ []) =
+      (λ j. drop (count j) (rows j)) ∙ drop_more (got_since c d shown) (sent_since c d shown) (length shown ∷ []) w.few ∙ ap (λ l. l ++ length shown ∷ []) w.split ∙ append_assoc w.on_way w.rest (length shown ∷ []) in
+      let few : got_since c d (Sent e r m ∷ shown) ≤ length (sent_since c d (Sent e r m ∷ shown)) = omega (arith, count, ap length rows, length-append (sent_since c d shown) (length shown ∷ []), w.few) in
+      let kept_on : map (λ q. in_row q (Sent e r m ∷ shown)) w.on_way ≡ map (λ n. Some (Sent c d n)) (in_transit c d past) = all_stay c d (Sent e r m) shown w.on_way (in_transit c d past) w.messages in
       elim (cases_Bool (is_open_wire c past)) [
         | inl live ↦
             let none : w.rest ≡ [] = w.none_lost live in
             let transit : in_transit c d (Sent e r m ∷ past) ≡ in_transit c d past ++ m ∷ [] = rw (k, here, live) refl in
             record {
-              on_way = w.on_way ++ length past ∷ [];
+              on_way = w.on_way ++ length shown ∷ [];
               rest = [];
-              split = left ∙ ap (λ l. w.on_way ++ (l ++ length past ∷ [])) none ∙ sym (append-nil (w.on_way ++ length past ∷ []));
+              split = left ∙ ap (λ l. w.on_way ++ (l ++ length shown ∷ [])) none ∙ sym (append-nil (w.on_way ++ length shown ∷ []));
               few = few;
-              messages = map_more (λ q. in_row q (Sent e r m ∷ past)) w.on_way (length past ∷ []) ∙ (λ j. kept_on j ++ newest here j)
+              messages = map_more (λ q. in_row q (Sent e r m ∷ shown)) w.on_way (length shown ∷ []) ∙ (λ j. kept_on j ++ newest here j)
                   ∙ sym (map_more (λ n. Some (Sent c d n)) (in_transit c d past) (m ∷ [])) ∙ sym (ap (map (λ n. Some (Sent c d n))) transit);
               none_lost = λ o. refl;
             }
         | inr closed ↦
             record {
               on_way = w.on_way;
-              rest = w.rest ++ length past ∷ [];
+              rest = w.rest ++ length shown ∷ [];
               split = left;
               few = few;
               messages = kept_on ∙ sym (ap (map (λ n. Some (Sent c d n))) (rw (k, here, closed) refl));
@@ -220,11 +224,11 @@ sending c e d r m past k w = elim (cases_Bool (same_connection c e && same_direc
       ]
 ]
   where
-    newest : (same_connection c e && same_direction d r) ≡ true → map (λ q. in_row q (Sent e r m ∷ past)) (length past ∷ []) ≡ map (λ n. Some (Sent c d n)) (m ∷ [])
-    newest here = rw (eq-eqb (length past) (length past) refl) (ap (λ (x : Entry). Some x ∷ []) (sent_there c e d r m here))
+    newest : (same_connection c e && same_direction d r) ≡ true → map (λ q. in_row q (Sent e r m ∷ shown)) (length shown ∷ []) ≡ map (λ n. Some (Sent c d n)) (m ∷ [])
+    newest here = rw (eq-eqb (length shown) (length shown) refl) (ap (λ (x : Entry). Some x ∷ []) (sent_there c e d r m here))
 
 -- what is got is the first on the way
-first_way : (c : Conn) (d : Dir) (past : List Entry) (m : Message) (rows : List ℕ) (ms : List Message) → map (λ r. in_row r past) rows ≡ map (λ n. Some (Sent c d n)) ms → is_next m ms
+pub first_way : (c : Conn) (d : Dir) (past : List Entry) (m : Message) (rows : List ℕ) (ms : List Message) → map (λ r. in_row r past) rows ≡ map (λ n. Some (Sent c d n)) ms → is_next m ms
     → (r : ℕ) × (rs : List ℕ) × (rows ≡ r ∷ rs) × (in_row r past ≡ Some (Sent c d m)) × (map (λ q. in_row q past) rs ≡ map (λ n. Some (Sent c d n)) (without_first ms))
 first_way c d past m rows [] k w = absurd w
 first_way c d past m [] (n ∷ ms) k w = absurd cc
@@ -234,40 +238,40 @@ first_way c d past m (r ∷ rs) (n ∷ ms) k w =
     (r, rs, refl, now ∙ ap (λ i. Some (Sent c d i)) (sym w), more)
 
 -- where the connection is lost, nothing of it comes any more
-nothing_left : (c : Conn) (d : Dir) (x : Entry) (past : List Entry) → opens c x ≡ false → is_sent_on c d x ≡ false → got_since c d (x ∷ past) ≤ length (sent_since c d past) → in_transit c d (x ∷ past) ≡ [] → loses c x ≡ true
-    → Waits c d (x ∷ past)
-nothing_left c d x past p q few t l =
-    let rows : sent_since c d (x ∷ past) ≡ sent_since c d past = rw (q, p) refl in
+nothing_left : (c : Conn) (d : Dir) (x : Entry) (shown past : List Entry) → opens c x ≡ false → is_sent_on c d x ≡ false → got_since c d (x ∷ shown) ≤ length (sent_since c d shown) → in_transit c d (x ∷ past) ≡ [] → loses c x ≡ true
+    → Waits c d (x ∷ shown) (x ∷ past)
+nothing_left c d x shown past p q few t l =
+    let rows : sent_since c d (x ∷ shown) ≡ sent_since c d shown = rw (q, p) refl in
     record {
       on_way = [];
-      rest = drop (got_since c d (x ∷ past)) (sent_since c d (x ∷ past));
+      rest = drop (got_since c d (x ∷ shown)) (sent_since c d (x ∷ shown));
       split = refl;
-      few = subst (λ (rs : List ℕ). got_since c d (x ∷ past) ≤ length rs) (sym rows) few;
+      few = subst (λ (rs : List ℕ). got_since c d (x ∷ shown) ≤ length rs) (sym rows) few;
       messages = sym (ap (map (λ m. Some (Sent c d m))) t);
       none_lost = λ live. absurd (lost_now c x past p l live);
     }
 
-getting : (c e : Conn) (d r : Dir) (m : Message) (past : List Entry) → is_next m (in_transit e r past) → Waits c d past → Waits c d (Got e r m ∷ past)
-getting c e d r m past next w = elim (cases_Bool (same_connection c e)) [
-  | inr other ↦ inert c d (Got e r m) past refl refl (rw other refl) (rw other refl) (rw other refl) w
+getting : (c e : Conn) (d r : Dir) (m : Message) (shown past : List Entry) → is_next m (in_transit e r past) → Waits c d shown past → Waits c d (Got e r m ∷ shown) (Got e r m ∷ past)
+getting c e d r m shown past next w = elim (cases_Bool (same_connection c e)) [
+  | inr other ↦ inert_there c d (Got e r m) shown past refl refl (rw other refl) (rw other refl) (rw other refl) w
   | inl same ↦
       elim (cases_Bool (has_line e r m)) [
-        | inr no_line ↦ nothing_left c d (Got e r m) past refl refl (few_enough same) (rw (same, no_line) refl) (rw (same, no_line) refl)
+        | inr no_line ↦ nothing_left c d (Got e r m) shown past refl refl (few_enough same) (rw (same, no_line) refl) (rw (same, no_line) refl)
         | inl line ↦
             elim (cases_Bool (same_direction d r)) [
-              | inr another ↦ inert c d (Got e r m) past refl refl (rw (same, another) refl) (rw (same, line, another) refl) (rw (same, line) refl) w
+              | inr another ↦ inert_there c d (Got e r m) shown past refl refl (rw (same, another) refl) (rw (same, line, another) refl) (rw (same, line) refl) w
               | inl way ↦
-                  let first = first_way c d past m w.on_way (in_transit c d past) w.messages (next_here same way) in
+                  let first = first_way c d shown m w.on_way (in_transit c d past) w.messages (next_here same way) in
                   let row = first.0 in
                   let rows = first.1 in
-                  let left : drop (got_since c d past) (sent_since c d past) ≡ row ∷ (rows ++ w.rest) = w.split ∙ ap (λ (l : List ℕ). l ++ w.rest) first.2 in
-                  let count : got_since c d (Got e r m ∷ past) ≡ got_since c d past + 1 = rw (same, way) refl in
+                  let left : drop (got_since c d shown) (sent_since c d shown) ≡ row ∷ (rows ++ w.rest) = w.split ∙ ap (λ (l : List ℕ). l ++ w.rest) first.2 in
+                  let count : got_since c d (Got e r m ∷ shown) ≡ got_since c d shown + 1 = rw (same, way) refl in
                   record {
                     on_way = rows;
                     rest = w.rest;
-                    split = ap (λ n. drop n (sent_since c d past)) count ∙ drop_one (got_since c d past) (sent_since c d past) (rows ++ w.rest) row left;
-                    few = omega (arith, count, drop_short (got_since c d past) (sent_since c d past) (rows ++ w.rest) row left);
-                    messages = all_stay c d (Got e r m) past rows (without_first (in_transit c d past)) first.4 ∙ sym (ap (map (λ n. Some (Sent c d n))) (rw (same, line, way) refl));
+                    split = ap (λ n. drop n (sent_since c d shown)) count ∙ drop_one (got_since c d shown) (sent_since c d shown) (rows ++ w.rest) row left;
+                    few = omega (arith, count, drop_short (got_since c d shown) (sent_since c d shown) (rows ++ w.rest) row left);
+                    messages = all_stay c d (Got e r m) shown rows (without_first (in_transit c d past)) first.4 ∙ sym (ap (map (λ n. Some (Sent c d n))) (rw (same, line, way) refl));
                     none_lost = λ live. w.none_lost (sym (open_stays c (Got e r m) past refl (rw (same, line) refl)) ∙ live);
                   }
             ]
@@ -277,20 +281,20 @@ getting c e d r m past next w = elim (cases_Bool (same_connection c e)) [
     next_here : same_connection c e ≡ true → same_direction d r ≡ true → is_next m (in_transit c d past)
     next_here same way = subst (λ (x : Conn). is_next m (in_transit x d past)) (sym (same_is c e same)) (subst (λ (y : Dir). is_next m (in_transit e y past)) (sym (same_way_is d r way)) next)
 
-    few_enough : same_connection c e ≡ true → got_since c d (Got e r m ∷ past) ≤ length (sent_since c d past)
+    few_enough : same_connection c e ≡ true → got_since c d (Got e r m ∷ shown) ≤ length (sent_since c d shown)
     few_enough same = elim (cases_Bool (same_direction d r)) [
       | inl way ↦
-          let first = first_way c d past m w.on_way (in_transit c d past) w.messages (next_here same way) in
-          let count : got_since c d (Got e r m ∷ past) ≡ got_since c d past + 1 = rw (same, way) refl in
-          omega (arith, count, drop_short (got_since c d past) (sent_since c d past) (first.1 ++ w.rest) first.0 (w.split ∙ ap (λ (l : List ℕ). l ++ w.rest) first.2))
+          let first = first_way c d shown m w.on_way (in_transit c d past) w.messages (next_here same way) in
+          let count : got_since c d (Got e r m ∷ shown) ≡ got_since c d shown + 1 = rw (same, way) refl in
+          omega (arith, count, drop_short (got_since c d shown) (sent_since c d shown) (first.1 ++ w.rest) first.0 (w.split ∙ ap (λ (l : List ℕ). l ++ w.rest) first.2))
       | inr another ↦
-          let count : got_since c d (Got e r m ∷ past) ≡ got_since c d past = rw (same, another) refl in
+          let count : got_since c d (Got e r m ∷ shown) ≡ got_since c d shown = rw (same, another) refl in
           omega (arith, count, w.few)
     ]
 
-cutting : (c e : Conn) (d : Dir) (u v : ℕ) (past : List Entry) → Waits c d past → Waits c d (Cut e u v ∷ past)
-cutting c e d u v past w = elim (cases_Bool (same_connection c e)) [
-  | inr other ↦ inert c d (Cut e u v) past refl refl refl (rw other refl) (rw other refl) w
+cutting : (c e : Conn) (d : Dir) (u v : ℕ) (shown past : List Entry) → Waits c d shown past → Waits c d (Cut e u v ∷ shown) (Cut e u v ∷ past)
+cutting c e d u v shown past w = elim (cases_Bool (same_connection c e)) [
+  | inr other ↦ inert_there c d (Cut e u v) shown past refl refl refl (rw other refl) (rw other refl) w
   | inl same ↦
       let n : ℕ = kept d u v in
       record {
@@ -298,23 +302,36 @@ cutting c e d u v past w = elim (cases_Bool (same_connection c e)) [
         rest = drop n w.on_way ++ w.rest;
         split = w.split ∙ ap (λ (l : List ℕ). l ++ w.rest) (sym (take-append-drop n w.on_way)) ∙ append_assoc (take n w.on_way) (drop n w.on_way) w.rest;
         few = w.few;
-        messages = map_take (λ q. in_row q (Cut e u v ∷ past)) n w.on_way ∙ ap (take n) (all_stay c d (Cut e u v) past w.on_way (in_transit c d past) w.messages)
+        messages = map_take (λ q. in_row q (Cut e u v ∷ shown)) n w.on_way ∙ ap (take n) (all_stay c d (Cut e u v) shown w.on_way (in_transit c d past) w.messages)
             ∙ sym (map_take (λ i. Some (Sent c d i)) n (in_transit c d past)) ∙ sym (ap (map (λ i. Some (Sent c d i))) (rw same refl));
         none_lost = λ live. absurd (lost_now c (Cut e u v) past refl same live);
       }
 ]
 
-stopping : (c : Conn) (d : Dir) (past : List Entry) → Waits c d past → Waits c d (Stopped ∷ past)
-stopping c Up past w = nothing_left c Up Stopped past refl refl w.few refl refl
-stopping c Down past w =
+stopping : (c : Conn) (d : Dir) (shown past : List Entry) → Waits c d shown past → Waits c d (Stopped ∷ shown) (Stopped ∷ past)
+stopping c Up shown past w = nothing_left c Up Stopped shown past refl refl w.few refl refl
+stopping c Down shown past w =
     record {
       on_way = w.on_way;
       rest = w.rest;
       split = w.split;
       few = w.few;
-      messages = all_stay c Down Stopped past w.on_way (in_transit c Down past) w.messages;
+      messages = all_stay c Down Stopped shown w.on_way (in_transit c Down past) w.messages;
       none_lost = λ live. absurd (lost_now c Stopped past refl refl live);
     }
+
+-- an entry of no message neither opens, sends nor gets
+pub opens_none : (c : Conn) (x : Entry) → is_message x ≡ false → opens c x ≡ false
+opens_none c (Sent e r m) k = absurd cc
+opens_none c _ k = refl
+
+pub sends_none : (c : Conn) (d : Dir) (x : Entry) → is_message x ≡ false → is_sent_on c d x ≡ false
+sends_none c d (Sent e r m) k = absurd cc
+sends_none c d _ k = refl
+
+pub gets_none : (c : Conn) (d : Dir) (x : Entry) → is_message x ≡ false → is_got_on c d x ≡ false
+gets_none c d (Got e r m) k = absurd cc
+gets_none c d _ k = refl
 
 -- an entry that carries no message, and loses none
 abbrev is_quiet : Entry → Bool
@@ -324,17 +341,10 @@ is_quiet (Cut e u v) = false
 is_quiet Stopped = false
 is_quiet _ = true
 
-opens_none : (c : Conn) (x : Entry) → is_quiet x ≡ true → opens c x ≡ false
-opens_none c (Sent e r m) k = absurd cc
-opens_none c _ k = refl
-
-sends_none : (c : Conn) (d : Dir) (x : Entry) → is_quiet x ≡ true → is_sent_on c d x ≡ false
-sends_none c d (Sent e r m) k = absurd cc
-sends_none c d _ k = refl
-
-gets_none : (c : Conn) (d : Dir) (x : Entry) → is_quiet x ≡ true → is_got_on c d x ≡ false
-gets_none c d (Got e r m) k = absurd cc
-gets_none c d _ k = refl
+quiet_none : (x : Entry) → is_quiet x ≡ true → is_message x ≡ false
+quiet_none (Sent e r m) k = absurd cc
+quiet_none (Got e r m) k = absurd cc
+quiet_none _ k = refl
 
 loses_none : (c : Conn) (x : Entry) → is_quiet x ≡ true → loses c x ≡ false
 loses_none c (Got e r m) k = absurd cc
@@ -349,31 +359,19 @@ moves_none c d past (Cut e u v) ms k = absurd cc
 moves_none c d past Stopped ms k = absurd cc
 moves_none c d past _ ms k = refl
 
-quiet : (c : Conn) (d : Dir) (x : Entry) (past : List Entry) → is_quiet x ≡ true → Waits c d past → Waits c d (x ∷ past)
-quiet c d x past k w = inert c d x past (opens_none c x k) (sends_none c d x k) (gets_none c d x k) (moves_none c d past x (in_transit c d past) k) (loses_none c x k) w
+quiet : (c : Conn) (d : Dir) (x : Entry) (shown past : List Entry) → is_quiet x ≡ true → Waits c d shown past → Waits c d (x ∷ shown) (x ∷ past)
+quiet c d x shown past k w = inert_there c d x shown past (opens_none c x (quiet_none x k)) (sends_none c d x (quiet_none x k)) (gets_none c d x (quiet_none x k)) (moves_none c d past x (in_transit c d past) k) (loses_none c x k) w
 
-step : (c : Conn) (d : Dir) (x : Entry) (past : List Entry) → MayCross past x → Waits c d past → Waits c d (x ∷ past)
-step c d (Sent e r m) past k w = elim (cases_Bool (opens c (Sent e r m))) [
-  | inl opened ↦ opening c e d r m past opened
-  | inr not_opened ↦ sending c e d r m past not_opened w
+pub step : (c : Conn) (d : Dir) (x : Entry) (shown past : List Entry) → MayCross past x → Waits c d shown past → Waits c d (x ∷ shown) (x ∷ past)
+step c d (Sent e r m) shown past k w = elim (cases_Bool (opens c (Sent e r m))) [
+  | inl opened ↦ opening c e d r m shown past opened
+  | inr not_opened ↦ sending c e d r m shown past not_opened w
 ]
-step c d (Got e r m) past k w = getting c e d r m past k w
-step c d (Cut e u v) past k w = cutting c e d u v past w
-step c d Stopped past k w = stopping c d past w
-step c d x past k w = quiet c d x past refl w
+step c d (Got e r m) shown past k w = getting c e d r m shown past k w
+step c d (Cut e u v) shown past k w = cutting c e d u v shown past w
+step c d Stopped shown past k w = stopping c d shown past w
+step c d x shown past k w = quiet c d x shown past refl w
 
-waits : (c : Conn) (d : Dir) (past : List Entry) → WireRun past → Waits c d past
-waits c d [] run = record { on_way = []; rest = []; split = refl; few = omega arith; messages = refl; none_lost = λ live. refl }
-waits c d (x ∷ past) run = step c d x past run.0 (waits c d past run.1)
-
-pub own_arrow : (s : List Line) (came : List ℕ) (past : List Entry) (c : Conn) (d : Dir) (m : Message) → WireRun (Got c d m ∷ past) → HasOwnArrow s came past c d m
-own_arrow s came past c d m run =
-    let w = waits c d past run.1 in
-    let first = first_way c d past m w.on_way (in_transit c d past) w.messages run.0 in
-    let from : origin c d past ≡ Some first.0 =
-    drop_at (got_since c d past) (sent_since c d past) (first.1 ++ w.rest) first.0 (w.split ∙ ap (λ (l : List ℕ). l ++ w.rest) first.2) in
-    record {
-      row = first.0;
-      sent = first.3;
-      arrow = ap (λ o. Some (got_mark (length past) c d m o)) from;
-    }
+-- an entry that is shown beside the history
+pub beside : (c : Conn) (d : Dir) (x : Entry) (shown past : List Entry) → is_message x ≡ false → Waits c d shown past → Waits c d (x ∷ shown) past
+beside c d x shown past k w = inert c d x shown past past (opens_none c x k) (sends_none c d x k) (gets_none c d x k) refl (λ live. live) w

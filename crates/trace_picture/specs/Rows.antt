@@ -1,19 +1,12 @@
 -- The rows of a transaction's picture.
 use Rattle.std.specs.Prelude.{ℕ, ◌+◌, Bool, true, false, List, [], ◌∷◌, length}
 use Rattle.dtx_values.specs.declared.entry.Entry.{Entry}
-use Rattle.dtx_values.specs.declared.entry.Entry.TheVariants.{Sent}
-use Rattle.dtx_values.specs.declared.message.Conn.TheVariants.{Begin}
-use Rattle.dtx_values.specs.declared.message.Dir.TheVariants.{Up}
-use Rattle.dtx_values.specs.declared.message.Message.TheVariants.{BeginBegin}
 use Rattle.dtx_values.specs.declared.trace.Place.{Place}
 use Rattle.dtx_values.specs.declared.trace.Place.TheVariants.{Log}
+use Rattle.dtx_model.specs.Caused.{is_begin_sent}
 use Rattle.dtx_model.specs.Traces.{Placed, is_at}
 use Rattle.dtx_model.specs.Words.{has}
 use Rattle.outcome_reasons.specs.Histories.{Numbered}
-
-abbrev pub is_begin_sent : Entry → Bool
-is_begin_sent (Sent Begin Up BeginBegin) = true
-is_begin_sent _ = false
 
 -- an entry at this place has a row in the picture of transaction t, whose rows these are before it: each of its own, and each of the log once it has sent BEGIN
 abbrev pub shows : ℕ → List Entry → Place → Bool

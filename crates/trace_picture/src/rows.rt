@@ -1,7 +1,8 @@
 //! The rows of a transaction's picture.
 ghost use Rattle.std.specs.Prelude.{◌≡◌, IfOk, OnOk};
+ghost use Rattle.dtx_model.specs.Caused.{is_begin_sent};
 ghost use Rattle.dtx_model.specs.Words.{has, past_of};
-ghost use Rattle.trace_picture.specs.Rows.{is_begin_sent, rows, shows, with_row};
+ghost use Rattle.trace_picture.specs.Rows.{rows, shows, with_row};
 
 use dtx_values::{Conn, Dir, Entry, Message, Place, TxNo};
 use entry_lists::Trace;

@@ -1,4 +1,4 @@
-//! Texts of traces: reads them line by line, and hands on what prints them.
+//! Texts of traces: reads them line by line, and passes on what prints them, as lines, as JSON, as a summary, as why and as a page.
 #![tactic(auto)]
 
 mod reader;
@@ -6,4 +6,6 @@ mod reader;
 pub use dtx_values::Place;
 pub use entry_lists::{PlacedEntries, Trace};
 pub use reader::{TraceError, read_trace, reads_traces_exactly};
+pub use reason_text::why_text;
 pub use trace_lines::{json_trace, one_trace, print_lines, print_trace, summary, typed_trace};
+pub use trace_page::page;
