@@ -3,14 +3,12 @@
 #![tactic(auto)]
 
 #[cfg(test)]
-mod commits;
-#[cfg(test)]
-mod numbers;
+mod courses;
 #[cfg(test)]
 mod objects;
 #[cfg(test)]
-mod polling;
-#[cfg(test)]
 mod recovering;
 #[cfg(test)]
-mod waits;
+mod scopes;
+#[cfg(test)]
+mod succeeding;

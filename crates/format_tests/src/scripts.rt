@@ -1,7 +1,6 @@
 //! Texts of scripts: each form of a command is read, and printed as it was read, and the longest script is read. Why a text is refused is said by the runs of `fault_runs`.
 use script_text::{BadCause, ScriptError, print_script, read_script};
 use std::alloc::{AllocError, Global};
-use std::process::Abort;
 use std::test::Fail;
 
 /// How many lines the bytes have, or why they are no script.
@@ -36,21 +35,25 @@ const FORMS: &str = "a1 begin t1 default\na2 begin t2 0\na3 begin t3 4294967295\
     a1 promotable t1 e16 r1 done aborted silent\na1 tick t1 1\na1 do t1 1 1\na1 lose t1 b 0 999\n\
     a1 lose t1 v 0 0\na1 stop 5 torn\n";
 
-/// The text is a script of so many lines, and printed as it was read.
-fn is_printed(rt: &impl Abort, alloc: Global, text: &str, many: usize) -> Result<(), AllocError> {
-    let Ok(script) = read_script(alloc, text.as_bytes()) else {
-        panic!(rt; "no script: {text}");
-    };
-    assert!(rt; script.lines().len() == many, "at {text}");
-    let printed = print_script(alloc, &script)?;
-    assert!(rt; printed.as_slice() == text.as_bytes(), "at {text}");
-    Ok(())
+/// Whether the text is a script that is printed as it was read.
+fn is_printed(alloc: Global, text: &str) -> Result<bool, AllocError> {
+    match read_script(alloc, text.as_bytes()) {
+        Ok(script) => {
+            let printed = print_script(alloc, &script)?;
+            Ok(printed.as_slice() == text.as_bytes())
+        }
+        Err(_) => Ok(false),
+    }
 }
 
 #[test]
 fn prints_what_was_read(rt: HostRuntime) -> Result<(), Fail> {
     for (text, many) in [("", 0), (FORMS, 62)] {
-        is_printed(&rt, rt.alloc(), text, many)?;
+        let printed = is_printed(rt.alloc(), text)?;
+        assert!(rt;
+            printed && found(rt.alloc(), text.as_bytes()) == Ok(many),
+            "at {text}"
+        );
     }
     Ok(())
 }
@@ -109,8 +112,10 @@ fn ended(alloc: Global, left: usize, more: &str) -> Result<Vec<u8>, AllocError> 
 fn a_script_has_at_most_1048576_bytes(rt: HostRuntime) -> Result<(), Fail> {
     for (left, more, all, want) in ENDS {
         let bytes = ended(rt.alloc(), left, more)?;
-        assert!(rt; bytes.len() == all);
-        assert!(rt; found(rt.alloc(), &bytes) == want, "at {all}");
+        assert!(rt;
+            bytes.len() == all && found(rt.alloc(), &bytes) == want,
+            "at {all}"
+        );
     }
     Ok(())
 }

@@ -32,18 +32,7 @@ fn it_is_over_once_its_enlistment_is_enlisted(rt: HostRuntime) {
     assert!(rt; h.place(false, false, false) == Right::Local);
     h.start(Cause::Second, Some(e1));
     for (news, act, right) in steps {
-        assert!(rt; h.got(&news) == act, "at {news:?}");
-        assert!(rt; h.place(false, false, false) == right, "after {news:?}");
+        assert!(rt; h.got(&news) == act && h.place(false, false, false) == right);
     }
     assert!(rt; h.is_over());
-}
-
-#[test]
-fn one_that_failed_does_nothing_more(rt: HostRuntime) {
-    let mut h = Handover::new();
-    h.start(Cause::Marshal, None);
-    assert!(rt; h.got(&ProxyNews::Begun(1)) == HandoverAct::SendVoter);
-    h.fail();
-    assert!(rt; h.got(&ProxyNews::Created) == HandoverAct::Nothing);
-    assert!(rt; h.has_failed() && !h.is_over() && !h.is_under_way());
 }

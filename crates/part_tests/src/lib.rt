@@ -3,30 +3,16 @@
 #![tactic(auto)]
 
 #[cfg(test)]
-mod clones;
-#[cfg(test)]
-mod conversations;
-#[cfg(test)]
-mod decisions;
+mod full;
 #[cfg(test)]
 mod half;
 #[cfg(test)]
 mod handover;
 #[cfg(test)]
-mod owners;
-#[cfg(test)]
-mod promotables;
-#[cfg(test)]
 mod proxy;
 #[cfg(test)]
-mod scopes;
-#[cfg(test)]
-mod table;
+mod rows;
 #[cfg(test)]
 mod values;
 #[cfg(test)]
 mod verdicts;
-#[cfg(test)]
-mod volatiles;
-#[cfg(test)]
-mod waves;

@@ -1,10 +1,10 @@
 //! A run of messages, with the news of each and the connection on which a veto would say abort after it.
-use dtx_values::{Conn, EnlNo, Info, Message, Outcome, RmNo};
+use dtx_values::{Conn, Message, Outcome};
 use std::process::Abort;
 use tm_proxy::{Proxy, ProxyNews};
 
 /// What happens at the local side.
-#[derive(Clone, Copy, Debug)]
+#[derive(Clone, Copy)]
 enum Step {
     Sent(Conn, Message),
     Got(Conn, Message, ProxyNews),
@@ -59,51 +59,24 @@ fn send(rt: &impl Abort, p: &mut Proxy, c: Conn, m: &Message) {
     if p.has_room(c, m) {
         p.sent(c, m);
     } else {
-        panic!(rt; "no room on {c:?}");
+        panic!(rt; "no room");
+    }
+}
+
+/// Does the steps.
+fn goes_on(rt: &impl Abort, p: &mut Proxy) {
+    for (at, (step, abort_on)) in RUN.iter().enumerate() {
+        match *step {
+            Step::Sent(c, m) => send(rt, p, c, &m),
+            Step::Got(c, m, news) => assert!(rt; p.got(c, m) == news, "at {at}"),
+            Step::Down(c, news) => assert!(rt; p.down(c) == news, "at {at}"),
+        }
+        assert!(rt; p.may_send_abort() == *abort_on, "after {at}");
     }
 }
 
 #[test]
 fn a_run(rt: HostRuntime) {
     let mut p = Proxy::new();
-    for (step, abort_on) in RUN {
-        match step {
-            Step::Sent(c, m) => send(&rt, &mut p, c, &m),
-            Step::Got(c, m, news) => assert!(rt; p.got(c, m) == news, "at {step:?}"),
-            Step::Down(c, news) => assert!(rt; p.down(c) == news, "at {step:?}"),
-        }
-        assert!(rt; p.may_send_abort() == abort_on, "after {step:?}");
-    }
-}
-
-#[test]
-fn an_opening_forgets_the_one_before(rt: HostRuntime) {
-    let e1 = EnlNo::new(1).expect(&rt, "no such number");
-    let e2 = EnlNo::new(2).expect(&rt, "no such number");
-    let info = Info {
-        id: 7,
-        rm: RmNo::new(1).expect(&rt, "no such number"),
-        enl: e1,
-    };
-    let mut p = Proxy::new();
-    send(
-        &rt,
-        &mut p,
-        Conn::Again(e1),
-        &Message::ReenlistReenlist(info),
-    );
-    send(&rt, &mut p, Conn::Enl(e2), &Message::EnlistEnlist(info));
-    send(&rt, &mut p, Conn::Enl(e1), &Message::EnlistEnlist(info));
-    let order = [Conn::Enl(e1), Conn::Enl(e2), Conn::Again(e1)];
-    assert!(rt; p.ends().len() == order.len());
-    for (n, c) in p.ends().iter().zip(order) {
-        assert!(rt; n.connection == c);
-    }
-    assert!(rt; p.got(Conn::Enl(e1), Message::VoterAsk) == ProxyNews::Unfit);
-    assert!(rt; p.saw_end(Conn::Enl(e1)) && p.knows(Conn::Enl(e2)));
-    send(&rt, &mut p, Conn::Enl(e1), &Message::EnlistNo);
-    assert!(rt; p.was_sent(Conn::Enl(e1), &Message::EnlistNo));
-    send(&rt, &mut p, Conn::Enl(e1), &Message::EnlistEnlist(info));
-    assert!(rt; !p.was_sent(Conn::Enl(e1), &Message::EnlistNo));
-    assert!(rt; p.knows(Conn::Enl(e1)) && p.ends().len() == 3);
+    goes_on(&rt, &mut p);
 }

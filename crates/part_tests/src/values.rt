@@ -1,23 +1,7 @@
-//! Outboxes, identifiers and recovery information.
-use dtx_values::{
-    BadInfo, Conn, Dir, EnlNo, Entry, Info, Message, Outbox, RmNo, is_identifier, parse_info,
-    write_info,
-};
-use std::test::Fail;
+//! Identifiers and recovery information.
+use dtx_values::{BadInfo, EnlNo, Info, RmNo, is_identifier, parse_info, write_info};
 
-#[test]
-fn an_outbox_has_its_room_again(rt: HostRuntime) -> Result<(), Fail> {
-    let mut out = Outbox::with_room(rt.alloc())?;
-    out.put(Entry::Sealed);
-    out.send(Conn::Begin, Dir::Up, Message::BeginBegin);
-    assert!(rt; out.entries().len() == 1);
-    assert!(rt; out.sends().len() == 1);
-    out.clear();
-    assert!(rt; out.entries().is_empty() && out.sends().is_empty());
-    Ok(())
-}
-
-/// A number, and whether it is an identifier.
+/// A number, and whether it is an identifier: it has two halves that are more than 0.
 const IDENTIFIERS: [(u128, bool); 5] = [
     (0, false),
     (1, false),
@@ -26,30 +10,11 @@ const IDENTIFIERS: [(u128, bool); 5] = [
     (u128::MAX, true),
 ];
 
-#[test]
-fn an_identifier_has_two_halves_that_are_more_than_0(rt: HostRuntime) {
-    for (n, is) in IDENTIFIERS {
-        assert!(rt; is_identifier(n) == is);
-    }
-}
-
 /// The information of enlistment 9,999 of manager 16 in transaction 512 of node 1, as bytes.
 const BYTES: [u8; 36] = [
     0, 0, 0, 0, 0, 0, 0, 1, 0, 0, 0, 0, 0, 0, 2, 0, 0, 0, 0, 0, 0, 0, 0, 0, 0, 0, 0, 0, 0, 0, 0,
     16, 0x0f, 0x27, 0, 0,
 ];
-
-#[test]
-fn information_is_read_as_it_was_written(rt: HostRuntime) -> Result<(), Fail> {
-    let i = Info {
-        id: (1 << 64) + 512,
-        rm: RmNo::new(16).expect(&rt, "no such number"),
-        enl: EnlNo::new(9999).expect(&rt, "no such number"),
-    };
-    assert!(rt; write_info(&i) == BYTES);
-    assert!(rt; parse_info(&BYTES) == Ok(i));
-    Ok(())
-}
 
 /// The place of a byte, what stands there in place of what the information has, and the place of the field that is bad then.
 const BAD_BYTES: [(usize, u8, u8); 6] = [
@@ -71,12 +36,20 @@ fn with_byte(at: usize, byte: u8) -> [u8; 36] {
 }
 
 #[test]
-fn bad_information_is_refused(rt: HostRuntime) {
+fn information_is_read_as_it_was_written(rt: HostRuntime) {
+    for (n, is) in IDENTIFIERS {
+        assert!(rt; is_identifier(n) == is);
+    }
+    let i = Info {
+        id: (1 << 64) + 512,
+        rm: RmNo::new(16).expect(&rt, "no such number"),
+        enl: EnlNo::new(9999).expect(&rt, "no such number"),
+    };
+    assert!(rt; write_info(&i) == BYTES && parse_info(&BYTES) == Ok(i));
     assert!(rt; parse_info(&BYTES[..35]) == Err(BadInfo::Length(35)));
     assert!(rt; parse_info(&[0; 37]) == Err(BadInfo::Length(37)));
     assert!(rt; parse_info(&[0; 36]) == Err(BadInfo::Value(0)));
     for (at, byte, field) in BAD_BYTES {
-        let bytes = with_byte(at, byte);
-        assert!(rt; parse_info(&bytes) == Err(BadInfo::Value(field)));
+        assert!(rt; parse_info(&with_byte(at, byte)) == Err(BadInfo::Value(field)));
     }
 }

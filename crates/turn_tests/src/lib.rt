@@ -6,12 +6,8 @@ mod flags;
 mod scripts;
 
 pub use flags::looked;
-pub use scripts::{empty_log, is_await, sure_log, threadable};
+pub use scripts::{empty_log, sure_log, threadable};
 
-#[cfg(test)]
-mod boards;
-#[cfg(test)]
-mod gates;
 #[cfg(test)]
 mod slow_disk;
 #[cfg(test)]

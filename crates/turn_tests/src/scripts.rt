@@ -4,7 +4,6 @@ ghost use Rattle.coordinator_log.specs.declared.layout.TheConstants.{LOG_BYTES};
 ghost use Rattle.dtx_model.specs.Words.{has};
 ghost use Rattle.tx_cells.specs.Fresh.{IsFresh};
 ghost use Rattle.tx_cells.specs.Cell.{IsThreadable, is_do_line};
-ghost use Rattle.tx_threads.specs.Turning.{is_await_at};
 
 use coordinator_log::{LOG_BYTES, Log};
 use dtx_values::{Body, Line, Script};
@@ -18,19 +17,6 @@ fn has_do(lines: &[Line]) -> bool
     ensures { result ≡ has (λ l. is_do_line l.body) lines.now }
 {
     lines.iter().any(|l| matches!(l.body, Body::Do(_, _, _)))
-}
-
-/// Whether a line is an `await`.
-pub fn is_await(lines: &[Line], line: u32) -> bool
-    ensures { result ≡ is_await_at lines.now line }
-{
-    if line == 0 {
-        return false;
-    }
-    match lines.get(line as usize - 1) {
-        Some(l) => matches!(l.body, Body::Await(_)),
-        None => false,
-    }
 }
 
 /// The script of a text that can run on threads.
