@@ -1,6 +1,7 @@
 //! Openings, losses and ends, by cases whose answers were worked out by hand.
-use dtx_values::{Conn, Dir, EnlNo, Message, ROOM};
+use dtx_values::{Conn, Dir, EnlNo, Info, Message, ROOM, RmNo};
 use oletx_session::{Delivered, Session, SessionRefusal, is_valid};
+use std::alloc::Global;
 use std::process::Abort;
 use std::test::Fail;
 
@@ -163,42 +164,65 @@ const STOPPED: [Step; 18] = [
     Step::Start(V, Err(SessionRefusal::Taken(V))),
 ];
 
+/// How many bytes cross at once: each byte alone, pieces that don't fit a frame, the longest frame whole, and more than that.
+const SIZES: [u8; 5] = [1, 3, 7, 40, 255];
+
+/// A session with pieces of this size.
+fn session(rt: &impl Abort, alloc: Global, size: u8) -> Result<Session, Fail> {
+    assert_ne!(rt; size, 0);
+    Ok(Session::with_piece(alloc, size)?)
+}
+
 #[test]
 fn calls_are_answered_as_by_hand(rt: HostRuntime) -> Result<(), Fail> {
     let runs: [&[Step]; 6] = [&STARTED, &CUT, &DROPPED, &TAKEN, &APART, &STOPPED];
-    for run in runs {
-        let mut s = Session::new(rt.alloc())?;
-        for step in run {
-            takes(&rt, &mut s, *step);
+    for size in SIZES {
+        for run in runs {
+            let mut s = session(&rt, rt.alloc(), size)?;
+            for step in run {
+                takes(&rt, &mut s, *step);
+            }
         }
     }
     Ok(())
 }
 
+/// Recovery information, whose message has the longest frame.
+fn information(rt: &impl Abort, n: u32) -> Info {
+    Info {
+        id: ID,
+        rm: RmNo::new(1).expect(rt, "no such number"),
+        enl: EnlNo::new(n).expect(rt, "no such number"),
+    }
+}
+
 #[test]
 fn there_is_room_for_so_many_starts_and_messages(rt: HostRuntime) -> Result<(), Fail> {
-    let mut s = Session::new(rt.alloc())?;
-    takes(&rt, &mut s, Step::Start(B, Ok(())));
-    takes(
-        &rt,
-        &mut s,
-        Step::Send(B, Dir::Up, Message::BeginBegin, Ok(())),
-    );
-    s.reserve()?;
-    for n in 1..=ROOM as u32 {
-        let e = Conn::Enl(EnlNo::new(n).expect(&rt, "no such number"));
-        takes(&rt, &mut s, Step::Start(e, Ok(())));
+    for size in SIZES {
+        let mut s = session(&rt, rt.alloc(), size)?;
+        takes(&rt, &mut s, Step::Start(B, Ok(())));
         takes(
             &rt,
             &mut s,
-            Step::Send(e, Dir::Up, Message::EnlistPrepared, Ok(())),
+            Step::Send(B, Dir::Up, Message::BeginBegin, Ok(())),
         );
-    }
-    for n in 1..=ROOM as u32 {
-        let e = Conn::Enl(EnlNo::new(n).expect(&rt, "no such number"));
-        let prepared = Some(Delivered::Msg(Message::EnlistPrepared));
-        takes(&rt, &mut s, Step::Deliver(e, Dir::Up, prepared));
-        takes(&rt, &mut s, Step::Deliver(e, Dir::Up, None));
+        s.reserve()?;
+        for n in 1..=ROOM as u32 {
+            let m = Message::EnlistEnlist(information(&rt, n));
+            let e = Conn::Enl(EnlNo::new(n).expect(&rt, "no such number"));
+            takes(&rt, &mut s, Step::Start(e, Ok(())));
+            takes(&rt, &mut s, Step::Send(e, Dir::Up, m, Ok(())));
+        }
+        for n in 1..=ROOM as u32 {
+            let m = Message::EnlistEnlist(information(&rt, n));
+            let e = Conn::Enl(EnlNo::new(n).expect(&rt, "no such number"));
+            takes(
+                &rt,
+                &mut s,
+                Step::Deliver(e, Dir::Up, Some(Delivered::Msg(m))),
+            );
+            takes(&rt, &mut s, Step::Deliver(e, Dir::Up, None));
+        }
     }
     Ok(())
 }

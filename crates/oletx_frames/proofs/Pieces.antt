@@ -82,19 +82,19 @@ frame_is BeginBegin = refl
 frame_is _ = refl
 
 -- what a body is
-abbrev kind_in : Body → BodyKind
+abbrev pub kind_in : Body → BodyKind
 kind_in Empty = kind.Empty
 kind_in (Identifier u) = kind.Identifier
 kind_in (Information i) = kind.Information
 kind_in (Reason cause) = kind.Reason
 
 -- the table has a message's type and tag, with its body
-kind_is : (m : Message) → body_kind (pieces_of m).type (pieces_of m).tag ≡ Some (kind_in (pieces_of m).body)
+pub kind_is : (m : Message) → body_kind (pieces_of m).type (pieces_of m).tag ≡ Some (kind_in (pieces_of m).body)
 kind_is BeginBegin = refl
 kind_is _ = refl
 
 -- its type is one of the four
-type_is : (m : Message) → is_from_one 4 (pieces_of m).type ≡ true
+pub type_is : (m : Message) → is_from_one 4 (pieces_of m).type ≡ true
 type_is BeginBegin = refl
 type_is _ = refl
 
@@ -106,7 +106,7 @@ is_valid_body (Information i) = is_id i.id
 is_valid_body (Reason cause) = is_from_one 2 cause
 
 -- a message is valid exactly where its body is
-valid_is : (m : Message) → is_valid m ≡ is_valid_body (pieces_of m).body
+pub valid_is : (m : Message) → is_valid m ≡ is_valid_body (pieces_of m).body
 valid_is BeginBegin = refl
 valid_is _ = refl
 
@@ -119,7 +119,7 @@ length_is (Information i) = refl
 length_is (Reason cause) = refl
 
 -- a body has at most 36 bytes
-body_small : (x : Body) → length (body_bytes x) ≤ 36
+pub body_small : (x : Body) → length (body_bytes x) ≤ 36
 body_small x = omega (arith, length_is x, length_small (kind_in x))
 
 -- a valid body has no bad field

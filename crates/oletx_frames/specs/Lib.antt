@@ -1,3 +1,4 @@
 pub mod Bodies
+pub mod Feeding
 pub mod Refusals
 pub mod Shapes

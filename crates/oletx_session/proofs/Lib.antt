@@ -1,7 +1,13 @@
 pub mod Links
-pub mod Packets
+pub mod Cutting
+pub mod Receiving
+pub mod Putting
+pub mod Rooms
+pub mod Counting
+pub mod Pieces
 pub mod Views
 pub mod Reading
 pub mod Moves
 pub mod Histories
 pub mod Stops
+pub mod Alike

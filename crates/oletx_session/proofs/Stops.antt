@@ -1,5 +1,5 @@
 -- A stop loses every connection: nothing upward is kept and all downward is, and the coordinator sees no end of it any more.
-use Rattle.std.proofs.Common.{◌≡◌, true, false, List, [], ◌∷◌, map, filter, Option, Some, None, refl, ap, sym, subst, ◌∙◌, cond, inl, inr}
+use Rattle.std.proofs.Common.{◌≡◌, ℕ, true, false, List, [], ◌∷◌, map, filter, Option, Some, None, refl, ap, sym, subst, ◌∙◌, cond, inl, inr}
 use Rattle.std.specs.List.{flat_map}
 use Rattle.std.specs.Option.{option_map}
 use Rattle.std.proofs.lemmas.Bool.{and_right, cases_Bool, cond-false, cond-true, or_right}
@@ -10,15 +10,16 @@ use Rattle.dtx_values.specs.declared.message.Dir.{Dir}
 use Rattle.dtx_values.specs.declared.message.Dir.TheVariants.{Up, Down}
 use Rattle.dtx_model.specs.Wires.{lost_after, same_connection, same_direction}
 use Rattle.oletx_session.specs.declared.link.Link.{Link}
-use Rattle.oletx_session.specs.declared.packet.Packet.{Packet}
-use Rattle.oletx_session.specs.Queues.{HasNoStray, frame_in, goes, is_of, is_on, link_of, on_way, stopped_link, wire_in, wires_in}
+use Rattle.oletx_session.specs.declared.piece.Piece.{Piece}
+use Rattle.oletx_session.specs.Crossing.{AreCutUp, AreKept}
+use Rattle.oletx_session.specs.Queues.{bytes_in, goes, is_of, is_on, link_of, on_way, stopped_link, wire_in, wires_in}
 use Rattle.oletx_session.specs.Traffic.{Wire, stopped_wire, wire_of}
 use Rattle.oletx_session.specs.Carries.{Carries, IsLane, IsWire}
 use Rattle.dtx_model.proofs.Connections.{same_way_is}
 use Rattle.oletx_session.proofs.Views.{made}
 
--- of the packets that go in one direction none on a lane in this direction is missing
-way_kept : (c : Conn) (d : Dir) (ps : List Packet) → on_way c d (filter (goes d) ps) ≡ on_way c d ps
+-- of the pieces that go in one direction none on a lane in this direction is missing
+way_kept : (c : Conn) (d : Dir) (ps : List Piece) → on_way c d (filter (goes d) ps) ≡ on_way c d ps
 way_kept c d [] = refl
 way_kept c d (p ∷ ps) =
     let rest = filter (goes d) ps in
@@ -29,7 +30,7 @@ way_kept c d (p ∷ ps) =
     ]
 
 -- and none is on a lane in the other
-way_dropped : (c : Conn) (d e : Dir) (ps : List Packet) → same_direction e d ≡ false → on_way c e (filter (goes d) ps) ≡ []
+way_dropped : (c : Conn) (d e : Dir) (ps : List Piece) → same_direction e d ≡ false → on_way c e (filter (goes d) ps) ≡ []
 way_dropped c d e [] other = refl
 way_dropped c d e (p ∷ ps) other =
     let rest = filter (goes d) ps in
@@ -57,31 +58,39 @@ none_before None h = refl
 none_before (Some l) h = absurd cc
 
 -- where nothing was on the way on a lane, nothing is
-lane_free : (c : Conn) (d : Dir) (ps : List Packet) → on_way c d ps ≡ [] → on_way c d (filter (goes Down) ps) ≡ []
+lane_free : (c : Conn) (d : Dir) (ps : List Piece) → on_way c d ps ≡ [] → on_way c d (filter (goes Down) ps) ≡ []
 lane_free c Up ps none = way_dropped c Down Up ps refl
 lane_free c Down ps none = way_kept c Down ps ∙ none
 
--- still nothing is on the way on a connection that was never started
-pub no_stray_stopped : (ps qs : List Packet) (ls ks : List Link) → ks ≡ map stopped_link ls → qs ≡ filter (goes Down) ps → HasNoStray ls ps → HasNoStray ks qs
-no_stray_stopped ps qs ls ks links packets none c d missing =
-    ap (on_way c d) packets ∙ lane_free c d ps (none c d (none_before (link_of c ls) (sym (link_stopped c ls) ∙ ap (link_of c) (sym links) ∙ missing)))
+-- whole frames are left on each lane
+whole_free : (c : Conn) (d : Dir) (n : ℕ) (ps : List Piece) → AreCutUp n (on_way c d ps) → AreCutUp n (on_way c d (filter (goes Down) ps))
+whole_free c Up n ps whole = record { messages = []; valid = refl; pieces = ap (map bytes_in) (way_dropped c Down Up ps refl) }
+whole_free c Down n ps whole = (let P : List Piece → Type 0 = λ xs. AreCutUp n xs in subst P (sym (way_kept c Down ps)) whole)
+
+-- still nothing is on the way on a connection that was never started, and all is kept as it was
+pub kept_stopped : (n : ℕ) (ps qs : List Piece) (ls ks : List Link) → ks ≡ map stopped_link ls → qs ≡ filter (goes Down) ps → AreKept n ls ps → AreKept n ks qs
+kept_stopped n ps qs ls ks links pieces kept = record {
+  some = kept.some;
+  stray = λ c d missing. ap (on_way c d) pieces ∙ lane_free c d ps (kept.stray c d (none_before (link_of c ls) (sym (link_stopped c ls) ∙ ap (link_of c) (sym links) ∙ missing)));
+  whole = λ c d. (let P : List Piece → Type 0 = λ xs. AreCutUp n (on_way c d xs) in subst P (sym pieces) (whole_free c d n ps (kept.whole c d)));
+}
 
 -- what is seen of a link after the stop
-wire_stopped : (ps : List Packet) (l : Link) → wire_in (filter (goes Down) ps) (stopped_link l) ≡ stopped_wire (wire_in ps l)
+wire_stopped : (ps : List Piece) (l : Link) → wire_in (filter (goes Down) ps) (stopped_link l) ≡ stopped_wire (wire_in ps l)
 wire_stopped ps l =
-    λ k. made (stopped_link l) (flat_map frame_in (way_dropped l.connection Down Up ps refl k)) (flat_map frame_in (way_kept l.connection Down ps k))
+    λ k. made (stopped_link l) (flat_map bytes_in (way_dropped l.connection Down Up ps refl k)) (flat_map bytes_in (way_kept l.connection Down ps k))
 
 -- and of all links
-wires_stopped : (ps : List Packet) (ls : List Link) → wires_in (filter (goes Down) ps) (map stopped_link ls) ≡ map stopped_wire (wires_in ps ls)
+wires_stopped : (ps : List Piece) (ls : List Link) → wires_in (filter (goes Down) ps) (map stopped_link ls) ≡ map stopped_wire (wires_in ps ls)
 wires_stopped ps [] = refl
 wires_stopped ps (l ∷ ls) = λ k. wire_stopped ps l k ∷ wires_stopped ps ls k
 
 -- the same, where the lists after it are named
-pub stopped : (ps qs : List Packet) (ls ks : List Link) (ws : List Wire) → wires_in ps ls ≡ ws → ks ≡ map stopped_link ls → qs ≡ filter (goes Down) ps → wires_in qs ks ≡ map stopped_wire ws
-stopped ps qs ls ks ws seen links packets = (λ k. wires_in (packets k) (links k)) ∙ wires_stopped ps ls ∙ ap (map stopped_wire) seen
+pub stopped : (ps qs : List Piece) (ls ks : List Link) (ws : List Wire) → wires_in ps ls ≡ ws → ks ≡ map stopped_link ls → qs ≡ filter (goes Down) ps → wires_in qs ks ≡ map stopped_wire ws
+stopped ps qs ls ks ws seen links pieces = (λ k. wires_in (pieces k) (links k)) ∙ wires_stopped ps ls ∙ ap (map stopped_wire) seen
 
 -- a connection's wire after the stop
-wire_after : (c : Conn) (ws : List Wire) → wire_of c (map stopped_wire ws) ≡ option_map stopped_wire (wire_of c ws)
+pub wire_after : (c : Conn) (ws : List Wire) → wire_of c (map stopped_wire ws) ≡ option_map stopped_wire (wire_of c ws)
 wire_after c [] = refl
 wire_after c (w ∷ ws) =
     let is = same_connection c w.connection in

@@ -1,5 +1,6 @@
 pub mod Traffic
 pub mod Carries
-pub mod Framed
+pub mod Crossing
 pub mod Queues
 pub mod Calls
+pub mod Alike

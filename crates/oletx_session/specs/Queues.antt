@@ -1,4 +1,4 @@
--- The packets on the way, and what is seen of them.
+-- The pieces on the way, and what is seen of them.
 use Rattle.std.specs.Prelude.{◌≡◌, ℕ, Bool, true, false, ◌&&◌, not, List, [], map, filter, take, Option, Some, None}
 use Rattle.std.specs.List.{find, flat_map}
 use Rattle.dtx_values.specs.declared.message.Conn.{Conn}
@@ -6,28 +6,28 @@ use Rattle.dtx_values.specs.declared.message.Dir.{Dir}
 use Rattle.dtx_values.specs.declared.message.Dir.TheVariants.{Up, Down}
 use Rattle.dtx_model.specs.Wires.{same_connection, same_direction}
 use Rattle.oletx_session.specs.declared.link.Link.{Link}
-use Rattle.oletx_session.specs.declared.packet.Packet.{Packet}
+use Rattle.oletx_session.specs.declared.piece.Piece.{Piece}
 use Rattle.oletx_session.specs.Traffic.{Wire}
 
--- the packet is on this connection in this direction
-abbrev pub is_on : Conn → Dir → Packet → Bool
+-- the piece is on this connection in this direction
+abbrev pub is_on : Conn → Dir → Piece → Bool
 is_on c d p = same_connection c p.connection && same_direction d p.direction
 
--- the packet goes in this direction
-abbrev pub goes : Dir → Packet → Bool
+-- the piece goes in this direction
+abbrev pub goes : Dir → Piece → Bool
 goes d p = same_direction d p.direction
 
--- the packets on this connection in this direction, in order
-abbrev pub on_way : Conn → Dir → List Packet → List Packet
+-- the pieces on this connection in this direction, in order
+abbrev pub on_way : Conn → Dir → List Piece → List Piece
 on_way c d ps = filter (is_on c d) ps
 
--- the frame that a packet holds
-abbrev pub frame_in : Packet → List ℕ
-frame_in p = take p.length p.bytes
+-- the bytes that a piece holds
+abbrev pub bytes_in : Piece → List ℕ
+bytes_in p = take p.length p.bytes
 
 -- the bytes on the way on this connection in this direction
-abbrev pub bytes_on : Conn → Dir → List Packet → List ℕ
-bytes_on c d ps = flat_map frame_in (on_way c d ps)
+abbrev pub bytes_on : Conn → Dir → List Piece → List ℕ
+bytes_on c d ps = flat_map bytes_in (on_way c d ps)
 
 -- the link is that of the connection
 abbrev pub is_of : Conn → Link → Bool
@@ -38,7 +38,7 @@ abbrev pub link_of : Conn → List Link → Option Link
 link_of c ls = find (is_of c) ls
 
 -- what is seen of a link
-abbrev pub wire_in : List Packet → Link → Wire
+abbrev pub wire_in : List Piece → Link → Wire
 wire_in ps l =
     record {
       connection = l.connection;
@@ -48,15 +48,15 @@ wire_in ps l =
     }
 
 -- what is seen of all links
-abbrev pub wires_in : List Packet → List Link → List Wire
+abbrev pub wires_in : List Piece → List Link → List Wire
 wires_in ps ls = map (wire_in ps) ls
 
 -- nothing is on the way on a connection that was never started
-abbrev pub HasNoStray : List Link → List Packet → Type 0
+abbrev pub HasNoStray : List Link → List Piece → Type 0
 HasNoStray ls ps = (c : Conn) (d : Dir) → link_of c ls ≡ None → on_way c d ps ≡ []
 
 -- these lists differ on this connection in this direction alone
-abbrev pub AreSameElse : Conn → Dir → List Packet → List Packet → Type 0
+abbrev pub AreSameElse : Conn → Dir → List Piece → List Piece → Type 0
 AreSameElse c d old new = (x : Conn) (e : Dir) → (same_connection x c && same_direction e d) ≡ false → on_way x e new ≡ on_way x e old
 
 -- the link of a connection that was just started

@@ -10,16 +10,16 @@ ghost use Rattle.dtx_values.specs.Lines.{has_line};
 ghost use Rattle.dtx_model.specs.Wires.{MayCross, is_stopped, opens};
 ghost use Rattle.oletx_frames.specs.declared.refusal.FrameRefusal.{FrameRefusal};
 ghost use Rattle.oletx_session.specs.Traffic.{Becomes, Delivers, Ends, IsCut, Spells, fresh, has_left, is_open, is_taken, lane, lost_at_once, may_send, opposite, sent_on, stopped_wire, wire_of};
-ghost use Rattle.oletx_session.specs.Queues.{frame_in};
 ghost use Rattle.oletx_session.specs.Carries.{Carries, IsStarted, IsStartedLost};
 ghost use Rattle.oletx_session.specs.Calls.{AnswersStart, KeepsRoom};
 
+use crate::crossing::{LONGEST, cut, most_pieces, put_frame, take_message};
 use crate::link::{Link, link_of, put, replace, stop_all};
-use crate::packet::Packet;
-use crate::queue::{cut, is_any_on, keep_direction, take_first};
+use crate::piece::Piece;
+use crate::queue::{is_any_on, keep_direction};
 use crate::refusal::SessionRefusal;
 use dtx_values::{Conn, Dir, Message, ROOM};
-use oletx_frames::FrameRefusal;
+use oletx_frames::{FrameRefusal, encode};
 use std::alloc::{AllocError, Global};
 use std::marker::Model;
 
@@ -39,24 +39,27 @@ pub enum Delivered {
 /// A clause sees the connections that were started, each with the bytes on the way in both directions, and the room for calls of `start` and `send`.
 #[derive(Drop)]
 pub struct Session {
+    /// The most bytes of a piece.
+    size: u8,
     links: Vec<Link>,
     /// What is on the way on all connections, in the order in which it was sent.
-    packets: Vec<Packet>,
+    pieces: Vec<Piece>,
 }
 
 impl Model for Session {
-    ghost use Rattle.std.specs.Prelude.{◌-◌, vec_capacity, vec_len};
-    ghost use Rattle.oletx_session.specs.Queues.{HasNoStray, wires_in};
+    ghost use Rattle.std.specs.Prelude.{◌-◌, ◌/◌, vec_capacity, vec_len};
+    ghost use Rattle.oletx_session.specs.Crossing.{AreKept, most_pieces};
+    ghost use Rattle.oletx_session.specs.Queues.{wires_in};
     ghost use Rattle.oletx_session.specs.Traffic.{Traffic};
 
     ghost Value = { Traffic };
 
-    ghost invariant = { λ s. HasNoStray s.links.items s.packets.items };
+    ghost invariant = { λ s. AreKept s.size s.links.items s.pieces.items };
 
     ghost view = { λ s. record {
-      wires = wires_in s.packets.items s.links.items;
+      wires = wires_in s.pieces.items s.links.items;
       start_room = vec_capacity s.links - vec_len s.links;
-      send_room = vec_capacity s.packets - vec_len s.packets;
+      send_room = (vec_capacity s.pieces - vec_len s.pieces) / most_pieces s.size;
     } };
 }
 
@@ -70,39 +73,53 @@ fn opposite(d: Dir) -> Dir
     }
 }
 
-/// What is delivered with a packet.
-fn content_of(packet: &Packet) -> Delivered
-    ensures message { (m : Message) → result ≡ Delivered.Msg m → IsFrame (frame_in packet.now) m }
-    ensures never { (e : FrameRefusal) → result ≢ Delivered.BadFrame e }
-    ensures more { result ≢ Delivered.End }
+/// What is delivered where a message or a refusal came.
+fn content_of(came: Result<Message, FrameRefusal>) -> Delivered
+    ensures message { IfOk came (λ m. result ≡ Delivered.Msg m) }
+    ensures refused { IfErr came (λ e. result ≡ Delivered.BadFrame e) }
 {
-    match packet.message() {
+    match came {
         Ok(m) => Delivered::Msg(m),
         Err(refusal) => Delivered::BadFrame(refusal),
     }
 }
 
 impl Session {
-    /// No connection was started, and there is no room before [`Session::reserve`] makes it: until then it takes no memory.
-    pub fn without_room(alloc: Global) -> Session
+    /// No connection was started, and there is no room before [`Session::reserve`] makes it: until then it takes no memory. The bytes cross in pieces of `n`, as those of
+    /// [`Session::with_piece`] do.
+    pub fn without_room(alloc: Global, n: u8) -> Session
+        requires { n ≢ 0 }
         ensures none { result.wires ≡ [] }
         ensures carries { Carries result.wires [] }
     {
         Session {
+            size: n,
             links: Vec::new(alloc),
-            packets: Vec::new(alloc),
+            pieces: Vec::new(alloc),
         }
     }
 
-    /// No connection was started, and there is room for [`ROOM`] (64) calls of `start` and as many of `send`.
+    /// As [`Session::with_piece`] makes it with pieces of 40 bytes: each frame crosses whole.
     pub fn new(alloc: Global) -> Result<Session, AllocError>
         ensures none { IfOk result (λ s. s.wires ≡ []) }
         ensures room { IfOk result (λ s. (64 ≤ s.start_room) × (64 ≤ s.send_room)) }
         ensures carries { IfOk result (λ s. Carries s.wires []) }
     {
+        Session::with_piece(alloc, LONGEST)
+    }
+
+    /// No connection was started, and there is room for [`ROOM`] (64) calls of `start` and as many of `send`. The bytes of a frame cross in pieces of `n`, the last one
+    /// shorter. No answer tells how many they are.
+    pub fn with_piece(alloc: Global, n: u8) -> Result<Session, AllocError>
+        requires { n ≢ 0 }
+        ensures none { IfOk result (λ s. s.wires ≡ []) }
+        ensures room { IfOk result (λ s. (64 ≤ s.start_room) × (64 ≤ s.send_room)) }
+        ensures carries { IfOk result (λ s. Carries s.wires []) }
+    {
         Ok(Session {
+            size: n,
             links: Vec::with_capacity(alloc, ROOM)?,
-            packets: Vec::with_capacity(alloc, ROOM)?,
+            pieces: Vec::with_capacity(alloc, ROOM * most_pieces(n))?,
         })
     }
 
@@ -113,7 +130,7 @@ impl Session {
         ensures keeps { KeepsRoom self.old self.new }
     {
         self.links.reserve(ROOM)?;
-        self.packets.reserve(ROOM)
+        self.pieces.reserve(ROOM * most_pieces(self.size))
     }
 
     /// Starts a connection. Nothing is on the way yet.
@@ -184,7 +201,9 @@ impl Session {
         if !self.is_open(c) {
             return Ok(());
         }
-        let Ok(()) = self.packets.push(Packet::new(c, d, m)) else {
+        let mut frame = [0; 40];
+        let length = encode(m, &mut frame);
+        let Ok(()) = put_frame(&mut self.pieces, c, d, &frame[..length], self.size) else {
             return Err(SessionRefusal::Memory);
         };
         Ok(())
@@ -205,8 +224,8 @@ impl Session {
         ensures down { (h : List Entry) → result ≡ Some Delivered.End → Carries self.old.wires h → MayCross h (End c d) × Carries self.new.wires (End c d ∷ h) }
     {
         let link = link_of(&self.links, c)?;
-        if let Some(packet) = take_first(&mut self.packets, c, d) {
-            return Some(content_of(&packet));
+        if let Some(came) = take_message(&mut self.pieces, c, d) {
+            return Some(content_of(came));
         }
         if !link.is_ending(d) {
             return None;
@@ -223,7 +242,7 @@ impl Session {
         ensures frames { IfSome (wire_of c self.now.wires) (λ w. (ms : List Message) × Spells (lane d w).bytes ms) }
     {
         match link_of(&self.links, c) {
-            Some(link) => is_any_on(&self.packets, c, d) || link.is_ending(d),
+            Some(link) => is_any_on(&self.pieces, c, d) || link.is_ending(d),
             None => false,
         }
     }
@@ -254,8 +273,8 @@ impl Session {
         }
         // The connection is there, since `link_of` found it. So it is replaced.
         let _ = replace(&mut self.links, link.lost());
-        let up = cut(&mut self.packets, c, Dir::Up, up);
-        let down = cut(&mut self.packets, c, Dir::Down, down);
+        let up = cut(&mut self.pieces, c, Dir::Up, up);
+        let down = cut(&mut self.pieces, c, Dir::Down, down);
         Some((up, down))
     }
 
@@ -266,7 +285,7 @@ impl Session {
         ensures carries { (h : List Entry) → Carries self.old.wires h → Carries self.new.wires (Stopped ∷ h) }
     {
         stop_all(&mut self.links);
-        keep_direction(&mut self.packets, Dir::Down);
+        keep_direction(&mut self.pieces, Dir::Down);
     }
 
     /// Whether the side that sends in this direction may: the connection was started, and the side didn't see its end.

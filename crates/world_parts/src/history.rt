@@ -29,6 +29,9 @@ const FIRST_ROOM: usize = 4 * (ROOM + 2);
 /// The room for a step that sends nothing, in entries: it writes at most four, and a stop after them.
 const FEW_ENTRIES: usize = 6;
 
+/// How many bytes of a frame cross a connection at once. No answer depends on it.
+const PIECE: u8 = 7;
+
 /// The history of one transaction, and its connections. What is on the way there is what the history says.
 #[derive(Drop)]
 pub struct History {
@@ -141,7 +144,7 @@ impl History {
     {
         Ok(History {
             entries: Entries::with_capacity(alloc, FIRST_ROOM)?,
-            session: Session::without_room(alloc),
+            session: Session::without_room(alloc, PIECE),
         })
     }
 

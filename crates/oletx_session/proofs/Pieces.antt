@@ -1,4 +1,4 @@
--- Packets in a list.
+-- Pieces in a list.
 use Rattle.std.proofs.Common.{◌≡◌, ℕ, zero, suc, ◌+◌, ◌<◌, ◌≤◌, min, Bool, true, false, ◌&&◌, List, [], ◌∷◌, ◌++◌, length, get_or, take, drop, position, filter, Some, None, refl, ap, sym, subst, ◌∙◌, arith, drop-cons}
 use Rattle.std.specs.List.{remove}
 use Rattle.std.proofs.lemmas.Bool.{and_parts, cond-false, cond-true}
@@ -11,7 +11,7 @@ use Rattle.std.proofs.lemmas.List.Quantifiers.{position-Some}
 use Rattle.dtx_values.specs.declared.message.Conn.{Conn}
 use Rattle.dtx_values.specs.declared.message.Dir.{Dir}
 use Rattle.dtx_model.specs.Wires.{same_connection, same_direction}
-use Rattle.oletx_session.specs.declared.packet.Packet.{Packet}
+use Rattle.oletx_session.specs.declared.piece.Piece.{Piece}
 use Rattle.oletx_session.specs.Queues.{AreSameElse, is_on, on_way}
 use Rattle.dtx_model.proofs.Connections.{same_is, same_way_is}
 use Rattle.oletx_session.proofs.Links.{no_place}
@@ -63,27 +63,27 @@ module _ {X : Type 0} where
       filter_split p xs i x first.0 is passes ∙ ap (λ ys. ys ++ x ∷ filter p (drop (suc i) xs)) none
       ∙ sym (ap (λ ys. x ∷ ys) (filter_remove p xs i ∙ ap (λ ys. ys ++ filter p (drop (suc i) xs)) none))
 
--- a packet on one lane is on no other
-not_on : (c : Conn) (d : Dir) (x : Conn) (e : Dir) (p : Packet) → is_on c d p ≡ true → (same_connection x c && same_direction e d) ≡ false → is_on x e p ≡ false
+-- a piece on one lane is on no other
+pub not_on : (c : Conn) (d : Dir) (x : Conn) (e : Dir) (p : Piece) → is_on c d p ≡ true → (same_connection x c && same_direction e d) ≡ false → is_on x e p ≡ false
 not_on c d x e p on other =
     let both = and_parts (same_connection c p.connection) (same_direction d p.direction) on in
     let P : Conn → Type 0 = λ y. (same_connection x y && same_direction e p.direction) ≡ false in
     let Q : Dir → Type 0 = λ f. (same_connection x c && same_direction e f) ≡ false in
     subst P (same_is c p.connection both.0) (subst Q (same_way_is d p.direction both.1) other)
 
--- without a packet of one lane the others are as before
-else_remove : (c : Conn) (d : Dir) (ps : List Packet) (i : ℕ) (p : Packet) → i < length ps → p ≡ get_or ps i p → is_on c d p ≡ true → AreSameElse c d ps (remove ps i)
+-- without a piece of one lane the others are as before
+else_remove : (c : Conn) (d : Dir) (ps : List Piece) (i : ℕ) (p : Piece) → i < length ps → p ≡ get_or ps i p → is_on c d p ≡ true → AreSameElse c d ps (remove ps i)
 else_remove c d ps i p within is on x e other = filter_remove_other (is_on x e) ps i p within is (not_on c d x e p on other)
 
--- without the first packet of one lane, too
-pub else_first : (c : Conn) (d : Dir) (ps : List Packet) (i : ℕ) (p : Packet) → position (is_on c d) ps ≡ Some i → p ≡ get_or ps i p → AreSameElse c d ps (remove ps i)
+-- without the first piece of one lane, too
+pub else_first : (c : Conn) (d : Dir) (ps : List Piece) (i : ℕ) (p : Piece) → position (is_on c d) ps ≡ Some i → p ≡ get_or ps i p → AreSameElse c d ps (remove ps i)
 else_first c d ps i p at is =
     let first = position-Some (is_on c d) ps i p at in
-    let P : Packet → Type 0 = λ q. is_on c d q ≡ true in
+    let P : Piece → Type 0 = λ q. is_on c d q ≡ true in
     else_remove c d ps i p first.0 is (subst P (sym is) first.1)
 
 -- the list is cut up to a place: what was passed there on the lane is counted and not more than is kept, and what is kept in the end and the other lanes are as before
-pub record CutTo (c : Conn) (d : Dir) (keep kept place : ℕ) (old new : List Packet) : Type 0 where
+pub record CutTo (c : Conn) (d : Dir) (keep kept place : ℕ) (old new : List Piece) : Type 0 where
   pub within : place ≤ length new
   pub counted : length (on_way c d (take place new)) ≡ kept
   pub few : kept ≤ keep
@@ -91,14 +91,14 @@ pub record CutTo (c : Conn) (d : Dir) (keep kept place : ℕ) (old new : List Pa
   pub others : AreSameElse c d old new
 
 -- before the first step
-pub cut_start : (c : Conn) (d : Dir) (keep : ℕ) (ps : List Packet) → CutTo c d keep 0 0 ps ps
+pub cut_start : (c : Conn) (d : Dir) (keep : ℕ) (ps : List Piece) → CutTo c d keep 0 0 ps ps
 cut_start c d keep ps = record { within = omega arith; counted = refl; few = omega arith; same = refl; others = λ x e other. refl }
 
--- a packet of another lane is passed
-pub cut_past : (c : Conn) (d : Dir) (keep kept place : ℕ) (old new : List Packet) (p : Packet) → CutTo c d keep kept place old new → place < length new → p ≡ get_or new place p
+-- a piece of another lane is passed
+pub cut_past : (c : Conn) (d : Dir) (keep kept place : ℕ) (old new : List Piece) (p : Piece) → CutTo c d keep kept place old new → place < length new → p ≡ get_or new place p
     → is_on c d p ≡ false → CutTo c d keep kept (place + 1) old new
 cut_past c d keep kept place old new p so_far within is off =
-    let P : Packet → Type 0 = λ q. is_on c d q ≡ false in
+    let P : Piece → Type 0 = λ q. is_on c d q ≡ false in
     let none = cond-false {A = ℕ} (is_on c d (get_or new place p)) 1 0 (subst P is off) in
     record {
       within = omega arith;
@@ -108,11 +108,11 @@ cut_past c d keep kept place old new p so_far within is off =
       others = so_far.others;
     }
 
--- a packet of the lane is kept
-pub cut_kept : (c : Conn) (d : Dir) (keep kept place : ℕ) (old new : List Packet) (p : Packet) → CutTo c d keep kept place old new → place < length new → p ≡ get_or new place p
+-- a piece of the lane is kept
+pub cut_kept : (c : Conn) (d : Dir) (keep kept place : ℕ) (old new : List Piece) (p : Piece) → CutTo c d keep kept place old new → place < length new → p ≡ get_or new place p
     → is_on c d p ≡ true → kept < keep → CutTo c d keep (kept + 1) (place + 1) old new
 cut_kept c d keep kept place old new p so_far within is on more =
-    let P : Packet → Type 0 = λ q. is_on c d q ≡ true in
+    let P : Piece → Type 0 = λ q. is_on c d q ≡ true in
     let one = cond-true {A = ℕ} (is_on c d (get_or new place p)) 1 0 (subst P is on) in
     record {
       within = omega arith;
@@ -122,8 +122,8 @@ cut_kept c d keep kept place old new p so_far within is on more =
       others = so_far.others;
     }
 
--- a packet of the lane beyond those that are kept is taken out
-pub cut_out : (c : Conn) (d : Dir) (keep kept place : ℕ) (old new : List Packet) (p : Packet) → CutTo c d keep kept place old new → place < length new → p ≡ get_or new place p
+-- a piece of the lane beyond those that are kept is taken out
+pub cut_out : (c : Conn) (d : Dir) (keep kept place : ℕ) (old new : List Piece) (p : Piece) → CutTo c d keep kept place old new → place < length new → p ≡ get_or new place p
     → is_on c d p ≡ true → keep ≤ kept → CutTo c d keep kept place old (remove new place)
 cut_out c d keep kept place old new p so_far within is on enough =
     let on_lane = is_on c d in
@@ -141,13 +141,13 @@ cut_out c d keep kept place old new p so_far within is on enough =
       others = λ x e other. else_remove c d new place p within is on x e other ∙ so_far.others x e other;
     }
 
--- behind the last packet so many are left as there were or as are to be kept
-pub cut_left : (c : Conn) (d : Dir) (keep kept place : ℕ) (old new : List Packet) → CutTo c d keep kept place old new → length new ≤ place → on_way c d new ≡ take keep (on_way c d old)
+-- behind the last piece so many are left as there were or as are to be kept
+pub cut_left : (c : Conn) (d : Dir) (keep kept place : ℕ) (old new : List Piece) → CutTo c d keep kept place old new → length new ≤ place → on_way c d new ≡ take keep (on_way c d old)
 cut_left c d keep kept place old new so_far end =
     let all = ap (λ xs. length (on_way c d xs)) (take_all place new end) in
     sym (take_all keep (on_way c d new) (omega (arith, all, so_far.counted, so_far.few))) ∙ so_far.same
 
 -- and their number was counted
-pub cut_count : (c : Conn) (d : Dir) (keep kept place : ℕ) (old new : List Packet) → CutTo c d keep kept place old new → length new ≤ place → kept ≡ min keep (length (on_way c d old))
+pub cut_count : (c : Conn) (d : Dir) (keep kept place : ℕ) (old new : List Piece) → CutTo c d keep kept place old new → length new ≤ place → kept ≡ min keep (length (on_way c d old))
 cut_count c d keep kept place old new so_far end =
     sym so_far.counted ∙ ap (λ xs. length (on_way c d xs)) (take_all place new end) ∙ ap length (cut_left c d keep kept place old new so_far end) ∙ length-take keep (on_way c d old)
