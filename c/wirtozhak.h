@@ -140,7 +140,7 @@ enum wz_kinds {
     WZ_PREPARE = 2,      /* make the work ready to commit. WZ_YES, WZ_NO or WZ_DONE */
     WZ_PROMOTE = 3,      /* to a promotable: promote. WZ_PROMOTED or WZ_NOT_PROMOTED */
     WZ_HAND = 4,         /* the decision is handed to you: decide it. WZ_OWN_... */
-    WZ_SINGLE = 5,       /* commit in a single phase: you alone decide. WZ_OWN_... */
+    WZ_SINGLE = 5,       /* to a promotable that was promoted: is it to commit? WZ_OWN_... */
     WZ_TOLD = 6          /* this is the outcome. WZ_ACK, of a durable that is told committed */
 };
 
@@ -183,8 +183,9 @@ int32_t wz_open(wz *handle, const uint8_t *log, size_t length);
 
 /*
  * What the log says of an enlistment of an earlier life: committed exactly where a record names it,
- * and else aborted, since no record means abort. To be asked before wz_recovered of its resource
- * manager. Of a transaction that goes on it says nothing: its record may be to come.
+ * and else aborted, since to who had prepared no record means abort. Who was handed the commit
+ * (WZ_HAND) hadn't, and doesn't ask: it knows what it decided. To be asked before wz_recovered of
+ * its resource manager. Of a transaction that goes on it says nothing: its record may be to come.
  * WZ_OK, WZ_DISK, WZ_NO_SUCH (no enlistment can have this number).
  */
 int32_t wz_outcome(wz *handle, uint64_t tx, uint32_t enlistment, uint32_t *outcome);

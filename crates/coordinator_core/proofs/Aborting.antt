@@ -8,8 +8,8 @@ use Rattle.dtx_values.specs.declared.message.Message.TheVariants.{BeginCommit, E
 use Rattle.dtx_values.specs.declared.number.EnlNo.{EnlNo}
 use Rattle.dtx_model.specs.declared.desk.Ballot.TheVariants.{Refused}
 use Rattle.dtx_model.specs.declared.desk.Stage.{Stage}
-use Rattle.dtx_model.specs.declared.desk.Stage.TheVariants.{Idle, Active, Aborted, Recorded, Over, Unknown}
-use Rattle.dtx_model.specs.Coordinated.{Coordinated, abort_if, abort_sends, core_down, core_got, follow, follow_all, is_active, is_early, is_undecided, waits_after, without}
+use Rattle.dtx_model.specs.declared.desk.Stage.TheVariants.{Idle, Active, Sole, Given, Answered, Aborted, Recorded, Over, Unknown}
+use Rattle.dtx_model.specs.Coordinated.{Coordinated, abort_if, abort_sends, core_got, follow, follow_all, is_active, is_going, is_undecided, waits_after, without}
 use Rattle.coordinator_core.specs.Kept.{Kept, abort_block, aborted_if, after_got, answers, voted}
 use Rattle.coordinator_core.proofs.Following.{after_ask, after_none}
 
@@ -32,17 +32,8 @@ abbrev pub ended : Conn → Coordinated → Coordinated
 ended c k =
     record { stage = k.stage; commit = k.commit; yes = k.yes; no = k.no; desks = k.desks; known = without c k.known; waits = waits_after (End c Up) k.waits; recovered = k.recovered; stopped = k.stopped }
 
--- what an end makes of what is kept, and what is written
-pub ended_all : (k : Coordinated) (c : Conn) → follow_all (aborted_if (is_early k c) (ended c k)) (abort_block (is_early k c) (ended c k)) ≡ follow_all k (End c Up ∷ core_down k c)
-unfolding follow follow_all core_down
-ended_all k c = refl
-
-pub ended_block : (k : Coordinated) (c : Conn) → abort_block (is_early k c) (ended c k) ≡ core_down k c
-unfolding follow core_down
-ended_block k c = refl
-
 -- a test that is noted comes before or after what stood
-either_way : (a b : Bool) → (a || b) ≡ (b || a)
+pub either_way : (a b : Bool) → (a || b) ≡ (b || a)
 either_way true true = refl
 either_way true false = refl
 either_way false true = refl
@@ -78,13 +69,13 @@ commit_all s =
     before ∙ (λ i. record { transaction = s.transaction; state = sym (after_ask (with_commit s (is_active k.stage || k.commit)).state k) i })
 
 -- what the voter's NO makes of what is kept, and what is written
-pub no_all : (s : Kept) → follow_all (aborted_if true (refused (is_active s.state.stage) s.state)) (abort_block true (refused (is_active s.state.stage) s.state)) ≡ (after_got s Voter VoterNo).state
+pub no_all : (s : Kept) → follow_all (aborted_if true (refused (is_going s.state.stage) s.state)) (abort_block true (refused (is_going s.state.stage) s.state)) ≡ (after_got s Voter VoterNo).state
 unfolding follow follow_all core_got
-no_all s = ap (λ (b : Bool). follow_all (aborted_if true (with_no b s.state)) (abort_block true (with_no b s.state))) (either_way s.state.no (is_active s.state.stage))
+no_all s = ap (λ (b : Bool). follow_all (aborted_if true (with_no b s.state)) (abort_block true (with_no b s.state))) (either_way s.state.no (is_going s.state.stage))
 
-pub no_block : (s : Kept) → abort_block true (refused (is_active s.state.stage) s.state) ≡ answers s Voter VoterNo
+pub no_block : (s : Kept) → abort_block true (refused (is_going s.state.stage) s.state) ≡ answers s Voter VoterNo
 unfolding follow core_got
-no_block s = ap (λ (b : Bool). abort_block true (with_no b s.state)) (either_way s.state.no (is_active s.state.stage))
+no_block s = ap (λ (b : Bool). abort_block true (with_no b s.state)) (either_way s.state.no (is_going s.state.stage))
 
 -- what an enlistment's NO makes of what is kept, and what is written
 pub refusal_all : (s : Kept) (e : EnlNo) → follow_all (aborted_if true (voted e.value Refused s.state)) (abort_block true (voted e.value Refused s.state)) ≡ (after_got s (Enl e) EnlistNo).state
@@ -107,6 +98,9 @@ full_all k active = λ i. follow_all (here i) (abort_sends (here i))
     by : (s : Stage) → is_active s ≡ true → Aborted ≡ abort_if true s
     by Active held = refl
     by Idle held = refl
+    by Sole held = absurd cc
+    by Given held = absurd cc
+    by Answered held = absurd cc
     by Aborted held = absurd cc
     by Recorded held = absurd cc
     by Over held = absurd cc

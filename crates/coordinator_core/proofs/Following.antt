@@ -6,7 +6,7 @@ use Rattle.dtx_values.specs.declared.entry.Entry.TheVariants.{Sent}
 use Rattle.dtx_values.specs.declared.message.Conn.TheVariants.{Begin, Voter, Enl, Again}
 use Rattle.dtx_values.specs.declared.message.Dir.TheVariants.{Down}
 use Rattle.dtx_values.specs.declared.message.Message.{Message}
-use Rattle.dtx_values.specs.declared.message.Message.TheVariants.{BeginAborted, BeginCommitted, EnlistAbort, EnlistCommit, EnlistPrepare, ReenlistAborted, ReenlistCommitted, VoterAbort, VoterAsk, VoterCommit}
+use Rattle.dtx_values.specs.declared.message.Message.TheVariants.{BeginAborted, BeginCommitted, EnlistAbort, EnlistCommit, EnlistPrepare, EnlistSingle, ReenlistAborted, ReenlistCommitted, VoterAbort, VoterAsk, VoterCommit}
 use Rattle.dtx_values.specs.declared.number.EnlNo.{EnlNo}
 use Rattle.dtx_values.specs.Ends.{same_connection}
 use Rattle.dtx_model.specs.declared.desk.Desk.{Desk}
@@ -30,7 +30,7 @@ pub after_none : (k : Coordinated) → follow_all k [] ≡ k
 unfolding follow_all
 after_none k = refl
 
--- a message on b, on v or to an enlistment changes nothing
+-- a message on b or on v changes nothing, nor one to an enlistment but SINGLE
 quiet_begin : (k : Coordinated) (m : Message) → follow k (Sent Begin Down m) ≡ k
 unfolding follow
 quiet_begin k m = refl
@@ -39,9 +39,15 @@ quiet_voter : (k : Coordinated) (m : Message) → follow k (Sent Voter Down m) �
 unfolding follow
 quiet_voter k m = refl
 
-quiet_enlist : (k : Coordinated) (e : EnlNo) (m : Message) → follow k (Sent (Enl e) Down m) ≡ k
+-- the message isn't SINGLE
+abbrev pub is_no_single : Message → Bool
+is_no_single EnlistSingle = false
+is_no_single _ = true
+
+quiet_enlist : (k : Coordinated) (e : EnlNo) (m : Message) → is_no_single m ≡ true → follow k (Sent (Enl e) Down m) ≡ k
 unfolding follow
-quiet_enlist k e m = refl
+quiet_enlist k e EnlistSingle other = absurd cc
+quiet_enlist k e m other = refl
 
 quiet_if : (b : Bool) (k : Coordinated) (x : Entry) → follow k x ≡ k → follow_all k (if b then x ∷ [] else []) ≡ k
 unfolding follow_all
@@ -54,18 +60,18 @@ after_begin k j m = quiet_if (has (same_connection Begin) j.known) k (Sent Begin
 pub after_voter : (k j : Coordinated) (m : Message) → follow_all k (to j Voter m) ≡ k
 after_voter k j m = quiet_if (has (same_connection Voter) j.known) k (Sent Voter Down m) (quiet_voter k m)
 
-pub after_enlist : (k j : Coordinated) (e : EnlNo) (m : Message) → follow_all k (to j (Enl e) m) ≡ k
-after_enlist k j e m = quiet_if (has (same_connection (Enl e)) j.known) k (Sent (Enl e) Down m) (quiet_enlist k e m)
+pub after_enlist : (k j : Coordinated) (e : EnlNo) (m : Message) → is_no_single m ≡ true → follow_all k (to j (Enl e) m) ≡ k
+after_enlist k j e m other = quiet_if (has (same_connection (Enl e)) j.known) k (Sent (Enl e) Down m) (quiet_enlist k e m other)
 
-pub after_each : (k j : Coordinated) (m : Message) (ds : List Desk) → follow_all k (to_each j m ds) ≡ k
-after_each k j m [] = after_none k
-after_each k j m (d ∷ ds) = after_quiet k (to j (Enl d.enlistment) m) (to_each j m ds) (after_enlist k j d.enlistment m) ∙ after_each k j m ds
+pub after_each : (k j : Coordinated) (m : Message) (ds : List Desk) → is_no_single m ≡ true → follow_all k (to_each j m ds) ≡ k
+after_each k j m [] other = after_none k
+after_each k j m (d ∷ ds) other = after_quiet k (to j (Enl d.enlistment) m) (to_each j m ds) (after_enlist k j d.enlistment m other) ∙ after_each k j m ds other
 
 after_unless : (b : Bool) (k : Coordinated) (xs : List Entry) → follow_all k xs ≡ k → follow_all k (if b then [] else xs) ≡ k
 after_unless true k xs same = after_none k
 after_unless false k xs same = same
 
-after_if : (b : Bool) (k : Coordinated) (xs : List Entry) → follow_all k xs ≡ k → follow_all k (if b then xs else []) ≡ k
+pub after_if : (b : Bool) (k : Coordinated) (xs : List Entry) → follow_all k xs ≡ k → follow_all k (if b then xs else []) ≡ k
 after_if true k xs same = same
 after_if false k xs same = after_none k
 
@@ -73,7 +79,7 @@ after_if false k xs same = after_none k
 pub after_ask : (k j : Coordinated) → follow_all k (if is_active j.stage then to j Voter VoterAsk ++ to_each j EnlistPrepare j.desks else []) ≡ k
 after_ask k j =
     after_if (is_active j.stage) k (to j Voter VoterAsk ++ to_each j EnlistPrepare j.desks)
-    (after_quiet k (to j Voter VoterAsk) (to_each j EnlistPrepare j.desks) (after_voter k j VoterAsk) ∙ after_each k j EnlistPrepare j.desks)
+    (after_quiet k (to j Voter VoterAsk) (to_each j EnlistPrepare j.desks) (after_voter k j VoterAsk) ∙ after_each k j EnlistPrepare j.desks refl)
 
 -- three blocks that change nothing, before one that may
 after_three : (k : Coordinated) (a b c d : List Entry) → follow_all k a ≡ k → follow_all k b ≡ k → follow_all k c ≡ k → follow_all k (a ++ b ++ c ++ d) ≡ follow_all k d
@@ -84,13 +90,13 @@ after_three k a b c d p q r =
 pub after_abort : (k : Coordinated) → follow_all k (abort_sends k) ≡ follow_all k (to_waiting k ReenlistAborted)
 after_abort k =
     after_three k (to k Begin BeginAborted) (if k.no then [] else to k Voter VoterAbort) (to_each k EnlistAbort (filter (λ d. still_hears d.ballot) k.desks)) (to_waiting k ReenlistAborted)
-    (after_begin k k BeginAborted) (after_unless k.no k (to k Voter VoterAbort) (after_voter k k VoterAbort)) (after_each k k EnlistAbort (filter (λ d. still_hears d.ballot) k.desks))
+    (after_begin k k BeginAborted) (after_unless k.no k (to k Voter VoterAbort) (after_voter k k VoterAbort)) (after_each k k EnlistAbort (filter (λ d. still_hears d.ballot) k.desks) refl)
 
 -- so it is with telling the commit
 pub after_commit : (k : Coordinated) → follow_all k (commit_sends k) ≡ follow_all k (to_waiting k ReenlistCommitted)
 after_commit k =
     after_three k (to k Begin BeginCommitted) (to k Voter VoterCommit) (to_each k EnlistCommit (filter (λ d. is_prepared d.ballot) k.desks)) (to_waiting k ReenlistCommitted)
-    (after_begin k k BeginCommitted) (after_voter k k VoterCommit) (after_each k k EnlistCommit (filter (λ d. is_prepared d.ballot) k.desks))
+    (after_begin k k BeginCommitted) (after_voter k k VoterCommit) (after_each k k EnlistCommit (filter (λ d. is_prepared d.ballot) k.desks) refl)
 
 -- with these waiting
 abbrev pub with_waits : List EnlNo → Coordinated → Coordinated

@@ -6,3 +6,4 @@ pub mod Loops
 pub mod Aborting
 pub mod Room
 pub mod Causes
+pub mod Single

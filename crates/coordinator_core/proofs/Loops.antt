@@ -1,14 +1,14 @@
 -- Steps of loops: what was written so far, with what the rest writes, is the whole.
-use Rattle.std.proofs.Common.{◌≡◌, ◌∙◌, ◌<◌, ◌≤◌, ◌+◌, ℕ, Bool, true, false, cond, List, [], ◌∷◌, ◌++◌, drop, filter, get_or, length, map, refl, ap, sym, append_assoc, if◌then◌else◌}
+use Rattle.std.proofs.Common.{◌≡◌, ◌∙◌, ◌<◌, ◌≤◌, ◌+◌, ℕ, Bool, true, false, cond, List, [], ◌∷◌, ◌++◌, drop, filter, get_or, length, map, Option, refl, ap, sym, append_assoc, if◌then◌else◌}
 use Rattle.std.proofs.lemmas.List.{append-nil, at_drop_all, at_drop_more}
 use Rattle.std.specs.List.{flat_map}
 use Rattle.dtx_values.specs.declared.entry.Entry.{Entry}
 use Rattle.dtx_values.specs.declared.message.Conn.TheVariants.{Enl, Again}
 use Rattle.dtx_values.specs.declared.message.Message.{Message}
-use Rattle.dtx_values.specs.declared.message.Message.TheVariants.{EnlistPrepare}
 use Rattle.dtx_values.specs.declared.number.EnlNo.{EnlNo}
 use Rattle.dtx_values.specs.Outgoing.{Outgoing, written}
 use Rattle.dtx_values.specs.RecoveryInfo.{pair_of}
+use Rattle.dtx_model.specs.declared.desk.Ballot.{Ballot}
 use Rattle.dtx_model.specs.declared.desk.Desk.{Desk}
 use Rattle.dtx_model.specs.Coordinated.{Coordinated, is_prepared, to, to_each}
 use Rattle.coordinator_core.specs.Hearing.{hears, told}
@@ -22,13 +22,13 @@ to_these k m es = flat_map (λ e. to k (Again e) m) es
 abbrev pub pairs_of : List Desk → List (ℕ × ℕ)
 pairs_of ds = map (λ d. pair_of (d.manager, d.enlistment)) (filter (λ d. is_prepared d.ballot) ds)
 
--- each hears PREPARE
-all_hear : (ds : List Desk) → filter (λ d. hears EnlistPrepare d.ballot) ds ≡ ds
-all_hear [] = refl
-all_hear (d ∷ ds) = ap (λ (xs : List Desk). d ∷ xs) (all_hear ds)
+-- a message that each hears is sent to each
+all_hear : (m : Message) → ((b : Option Ballot) → hears m b ≡ true) → (ds : List Desk) → filter (λ d. hears m d.ballot) ds ≡ ds
+all_hear m each [] = refl
+all_hear m each (d ∷ ds) = let rest = all_hear m each ds in λ i. cond (each d.ballot i) (d ∷ rest i) (rest i)
 
-pub told_each : (k : Coordinated) (ds : List Desk) → told k EnlistPrepare ds ≡ to_each k EnlistPrepare ds
-told_each k ds = ap (λ (xs : List Desk). to_each k EnlistPrepare xs) (all_hear ds)
+pub told_each : (k : Coordinated) (m : Message) → ((b : Option Ballot) → hears m b ≡ true) → (ds : List Desk) → told k m ds ≡ to_each k m ds
+told_each k m each ds = ap (λ (xs : List Desk). to_each k m xs) (all_hear m each ds)
 
 -- one that hears the message comes first in the block
 first_told : (k : Coordinated) (m : Message) (d : Desk) (ds : List Desk) → (if hears m d.ballot then to k (Enl d.enlistment) m else []) ++ told k m ds ≡ told k m (d ∷ ds)

@@ -1,5 +1,5 @@
 -- For how much there is room.
-use Rattle.std.proofs.Common.{◌≡◌, ◌∙◌, ◌≤◌, ◌<◌, ◌&&◌, ℕ, suc, Bool, true, false, List, length, map, nat_le, None, refl, ap, sym, arith, if◌then◌else◌}
+use Rattle.std.proofs.Common.{◌≡◌, ◌∙◌, ◌≤◌, ◌<◌, ◌&&◌, ℕ, suc, Bool, true, false, List, length, map, nat_le, None, Some, refl, ap, sym, arith, if◌then◌else◌}
 use Rattle.std.proofs.lemmas.Bool.{and_from, and_parts, le-leb, leb-true}
 use Rattle.std.proofs.lemmas.List.{length-map}
 use Rattle.dtx_values.specs.declared.entry.Entry.{Entry}
@@ -10,12 +10,13 @@ use Rattle.dtx_values.specs.declared.message.Conn.TheVariants.{Begin, Voter, Enl
 use Rattle.dtx_values.specs.declared.message.Dir.TheVariants.{Up}
 use Rattle.dtx_values.specs.declared.message.Info.{Info}
 use Rattle.dtx_values.specs.declared.message.Message.{Message}
-use Rattle.dtx_values.specs.declared.message.Message.TheVariants.{BeginBegin, VoterVoter, EnlistEnlist, EnlistAck, ReenlistReenlist, ReenlistAck}
+use Rattle.dtx_values.specs.declared.message.Message.TheVariants.{BeginBegin, VoterVoter, EnlistEnlist, EnlistAck, EnlistOneAborted, ReenlistReenlist, ReenlistAck}
 use Rattle.dtx_values.specs.declared.number.EnlNo.{EnlNo}
 use Rattle.dtx_values.specs.Ends.{order_of}
 use Rattle.dtx_values.specs.Table.{enl_number, insert_by}
+use Rattle.dtx_model.specs.declared.desk.Ballot.TheVariants.{Refused}
 use Rattle.dtx_model.specs.declared.desk.Desk.{Desk}
-use Rattle.dtx_model.specs.Coordinated.{Coordinated, accepts, ballot_of, but, desk_number, desks_after, follow, is_active, is_enlisting, known_after, waits_after, with_ack, with_ballot, without}
+use Rattle.dtx_model.specs.Coordinated.{Coordinated, accepts, ballot_of, but, desk_number, desks_after, follow, hears_one, is_active, is_enlisting, known_after, waits_after, with_ack, with_ballot, without}
 use Rattle.dtx_model.proofs.Counts.{length-insert_by}
 use Rattle.coordinator_core.specs.Kept.{IsFew}
 
@@ -89,6 +90,7 @@ desks_same k (Enl e) (EnlistEnlist i) fails = by (accepts k) fails
     by true failed = absurd cc
     by false failed = refl
 desks_same k (Enl e) EnlistAck fails = length-map k.desks (with_ack e.value)
+desks_same k (Enl e) EnlistOneAborted fails = same_long (hears_one k e.value) (with_ballot e.value (Some Refused)) k.desks
 desks_same k (Enl e) m fails = same_long (is_active k.stage) (with_ballot e.value (ballot_of m)) k.desks
 
 -- how many wait after one came back

@@ -1,7 +1,7 @@
 -- Who hears a message, and what is answered to who opens a connection.
 use Rattle.std.specs.Prelude.{ℕ, Bool, true, false, List, filter, Option}
 use Rattle.dtx_values.specs.declared.message.Message.{Message}
-use Rattle.dtx_values.specs.declared.message.Message.TheVariants.{EnlistPrepare, EnlistCommit, EnlistAbort}
+use Rattle.dtx_values.specs.declared.message.Message.TheVariants.{EnlistPrepare, EnlistCommit, EnlistAbort, EnlistSingle}
 use Rattle.dtx_values.specs.declared.entry.Entry.{Entry}
 use Rattle.dtx_model.specs.declared.desk.Ballot.{Ballot}
 use Rattle.dtx_model.specs.declared.desk.Desk.{Desk}
@@ -9,9 +9,10 @@ use Rattle.dtx_model.specs.Coordinated.{Coordinated, is_prepared, still_hears, t
 use Rattle.coordinator_core.specs.declared.stages.Opening.{Opening}
 use Rattle.coordinator_core.specs.declared.stages.Opening.TheVariants.{Accepted, Aborted, TooLate, NoSuch}
 
--- an enlistment with this vote hears the message: PREPARE each, COMMIT those that said PREPARED, ABORT those that said neither NO nor READONLY
+-- an enlistment with this vote hears the message: PREPARE and SINGLE each, COMMIT those that said PREPARED, ABORT those that said neither NO nor READONLY
 abbrev pub hears : Message → Option Ballot → Bool
 hears EnlistPrepare b = true
+hears EnlistSingle b = true
 hears EnlistCommit b = is_prepared b
 hears EnlistAbort b = still_hears b
 hears _ b = false

@@ -27,13 +27,13 @@ fn still_hears(b: Option<Ballot>) -> bool
     !matches!(b, Some(Ballot::Refused | Ballot::ReadOnly))
 }
 
-/// Whether an enlistment with this vote hears the message: PREPARE each, COMMIT those that said PREPARED, and ABORT those
+/// Whether an enlistment with this vote hears the message: PREPARE and SINGLE each, COMMIT those that said PREPARED, and ABORT those
 /// that said neither NO nor READONLY.
 pub(crate) fn hears(m: Message, b: Option<Ballot>) -> bool
     ensures { result ≡ hears m b }
 {
     match m {
-        Message::EnlistPrepare => true,
+        Message::EnlistPrepare | Message::EnlistSingle => true,
         Message::EnlistCommit => is_prepared(b),
         Message::EnlistAbort => still_hears(b),
         _ => false,

@@ -24,6 +24,7 @@ use std::marker::Model;
 mod arrivals;
 mod log;
 mod sends;
+mod single;
 
 /// The coordinator's side of one transaction. Contracts see the transaction and what the coordinator knows of it. No call takes
 /// memory; each writes into an outbox that has room for 40 entries and 40 messages.
@@ -39,6 +40,9 @@ mod sends;
 /// - Where the log stops, `stopped`; where it was opened again, `restarted` with the record that it has of this transaction.
 ///   While it stands stopped `act` is `None`, and the caller delivers nothing.
 /// - Where a manager's recovery is over, `recovery_over`.
+///
+/// In a single phase nothing is logged. The stage is `Sole` once COMMIT of that name was got with exactly one enlistment, `Given` once
+/// SINGLE was sent to that one, which then decides, and `Answered` once it said committed or in doubt, or was lost.
 ///
 /// Each condition has a test: `has_room` that of `got`, `room` and `send_room` of the outbox those of the room, `may_log` and
 /// `may_free` those of `logged`, `log_full` and `freed`, and `is_stopped` those of `stopped` and `restarted`.
@@ -137,7 +141,7 @@ impl Core {
         (self.recovered >> r.get()) % 2 == 1
     }
 
-    /// Whether the record can be appended: COMMIT and YES were got, and each enlistment said PREPARED or READONLY.
+    /// Whether the record can be appended: COMMIT for two phases and YES were got, and each enlistment said PREPARED or READONLY.
     #[tactic(auto, unfolding(dtx_model::specs::Coordinated::may_log))]
     pub fn may_log(&self) -> bool
         ensures { result ≡ may_log self.now.state }

@@ -1,23 +1,44 @@
 //! How far a transaction is, and what comes next.
 ghost use Rattle.std.specs.Prelude.{ℕ, ◌≡◌};
 ghost use Rattle.dtx_values.specs.declared.message.Message.{Message};
-ghost use Rattle.dtx_model.specs.Coordinated.{begin_if, behind_restart, has_aborted, is_active, is_recorded, is_undecided, opening_by};
+ghost use Rattle.dtx_model.specs.Coordinated.{begin_if, behind_restart, has_aborted, is_active, is_given, is_going, is_recorded, is_sole, is_undecided, opening_by, sole_if};
 ghost use Rattle.coordinator_core.specs.Hearing.{said};
 
 use dtx_model::Stage;
 
-/// Whether it was begun, and nothing is decided.
+/// Whether it was begun, COMMIT for a single phase wasn't got, and nothing is decided.
 pub(crate) fn is_active(s: Stage) -> bool
     ensures { result ≡ is_active s }
 {
     matches!(s, Stage::Active)
 }
 
-/// Whether nothing is decided.
+/// Whether COMMIT for a single phase was got, and nothing came of it yet.
+pub(crate) fn is_sole(s: Stage) -> bool
+    ensures { result ≡ is_sole s }
+{
+    matches!(s, Stage::Sole)
+}
+
+/// Whether its one enlistment decides.
+pub(crate) fn is_given(s: Stage) -> bool
+    ensures { result ≡ is_given s }
+{
+    matches!(s, Stage::Given)
+}
+
+/// Whether it was begun, and nothing is decided.
+pub(crate) fn is_going(s: Stage) -> bool
+    ensures { result ≡ is_going s }
+{
+    matches!(s, Stage::Active | Stage::Sole)
+}
+
+/// Whether nothing is decided, and the coordinator may still abort by itself.
 pub(crate) fn is_undecided(s: Stage) -> bool
     ensures { result ≡ is_undecided s }
 {
-    matches!(s, Stage::Idle | Stage::Active)
+    matches!(s, Stage::Idle | Stage::Active | Stage::Sole)
 }
 
 /// Whether its record is durable.
@@ -42,6 +63,16 @@ pub(crate) fn begun(s: Stage) -> Stage
         Stage::Idle => Stage::Active,
         _ => s,
     }
+}
+
+/// The stage after COMMIT for a single phase, where that is accepted and exactly one enlistment was.
+pub(crate) fn sole_at(accepted: bool, is_one: bool, s: Stage) -> Stage
+    ensures { result ≡ sole_if accepted is_one s }
+{
+    if !accepted {
+        return s;
+    }
+    if is_one { Stage::Sole } else { Stage::Aborted }
 }
 
 /// The stage after a restart that found the record, or found none.
@@ -81,6 +112,8 @@ pub(crate) fn opening_at(s: Stage, commit: bool) -> Opening
                 Opening::Accepted
             }
         }
-        Stage::Idle | Stage::Recorded => Opening::TooLate,
+        Stage::Idle | Stage::Sole | Stage::Given | Stage::Answered | Stage::Recorded => {
+            Opening::TooLate
+        }
     }
 }

@@ -13,7 +13,7 @@ use Rattle.dtx_values.specs.declared.message.Conn.{Conn}
 use Rattle.dtx_values.specs.declared.message.Conn.TheVariants.{Begin, Voter, Enl, Again}
 use Rattle.dtx_values.specs.declared.message.Dir.TheVariants.{Up, Down}
 use Rattle.dtx_values.specs.declared.message.Message.{Message}
-use Rattle.dtx_values.specs.declared.message.Message.TheVariants.{BeginBegin, BeginCommit, BeginAbort, BeginBegun, BeginCommitted, BeginAborted, VoterVoter, VoterYes, VoterCreated, VoterRefused, VoterAsk, VoterCommit, VoterAbort, EnlistEnlist, EnlistPrepared, EnlistNo, EnlistReadonly, EnlistAck, EnlistEnlisted, EnlistRefused, EnlistPrepare, EnlistCommit, EnlistAbort, ReenlistReenlist, ReenlistAck, ReenlistCommitted, ReenlistAborted}
+use Rattle.dtx_values.specs.declared.message.Message.TheVariants.{BeginBegin, BeginCommit, BeginAbort, BeginBegun, BeginCommitted, BeginAborted, VoterVoter, VoterYes, VoterCreated, VoterRefused, VoterAsk, VoterCommit, VoterAbort, EnlistEnlist, EnlistPrepared, EnlistNo, EnlistReadonly, EnlistAck, EnlistEnlisted, EnlistRefused, EnlistPrepare, EnlistCommit, EnlistAbort, ReenlistReenlist, ReenlistAck, ReenlistCommitted, ReenlistAborted, BeginCommitOne, BeginInDoubt, VoterInDoubt, EnlistOneCommitted, EnlistOneAborted, EnlistOneInDoubt, EnlistSingle}
 use Rattle.dtx_values.specs.declared.note.Note.{Note}
 use Rattle.dtx_values.specs.declared.note.Note.TheVariants.{Single}
 use Rattle.dtx_values.specs.declared.note.Reply.{Reply}
@@ -34,7 +34,7 @@ use Rattle.dtx_values.specs.Lines.{has_line}
 use Rattle.dtx_values.specs.Clones.{is_open_block, is_open_rollback}
 use Rattle.dtx_values.specs.Ends.{knows, may_abort_by_begin, may_abort_by_voter, same_connection, tag_of, was_got}
 use Rattle.dtx_values.specs.Waves.{all_voted, is_over, next_ask, zeros_voted}
-use Rattle.dtx_values.specs.Owners.{cause_of, owner_of}
+use Rattle.dtx_values.specs.Owners.{cause_of, commits_alone, owner_of}
 use Rattle.dtx_values.specs.Class.{is_promotable}
 use Rattle.dtx_values.specs.Support.{is_single}
 use Rattle.dtx_values.specs.Vote.{is_no}
@@ -42,21 +42,22 @@ use Rattle.dtx_values.specs.Table.{voted}
 use Rattle.dtx_model.specs.declared.listener.Listener.{Listener}
 use Rattle.dtx_model.specs.declared.desk.Desk.{Desk}
 use Rattle.dtx_model.specs.declared.desk.Stage.{Stage}
-use Rattle.dtx_model.specs.declared.desk.Stage.TheVariants.{Idle, Active, Aborted as AbortedStage, Recorded, Over, Unknown}
+use Rattle.dtx_model.specs.declared.desk.Stage.TheVariants.{Idle, Active, Sole, Given, Answered as AnsweredStage, Aborted as AbortedStage, Recorded, Over, Unknown}
 use Rattle.dtx_model.specs.declared.branch.Branch.{Branch}
 use Rattle.dtx_model.specs.declared.waiting.Wanted.TheVariants.{Identifier, Place}
 use Rattle.dtx_model.specs.Words.{has}
+use Rattle.dtx_model.specs.Entries.{is_commit_message}
 use Rattle.dtx_model.specs.Observed.{Observed, is_branch}
 use Rattle.dtx_model.specs.Promotes.{identifier_of}
-use Rattle.dtx_model.specs.Coordinated.{Coordinated, opening_by, aborts, abort_sends, commit_sends, core_down, core_got, follow, has_aborted, is_active, is_early, is_prepared, is_recorded, is_undecided, may_log, opening_answer, still_hears, to, to_each, to_waiting}
+use Rattle.dtx_model.specs.Coordinated.{Coordinated, abort_block, accepts, decides, doubt_sends, ended_block, hears_one, is_one, is_sole, one_sends, opening_by, aborts, abort_sends, commit_sends, core_down, core_got, follow, has_aborted, is_active, is_prepared, is_recorded, is_undecided, may_log, opening_answer, still_hears, to, to_each, to_waiting}
 use Rattle.dtx_model.specs.Waiting.{Waiter, is_place_of}
 use Rattle.dtx_model.specs.Half.{Half, sees, is_promoting, to_up, veto_message, veto, veto_if, info, enlist_sent, by_manager, given, promoted_by, over, stands, is_gone, was_told, is_handed}
-use Rattle.dtx_model.specs.Arrivals.{unless_decided, hand_over, place_given, told_abort, has_both_ends, ended_there, ended_by, begin_arrived, voter_arrived, enlist_arrived, again_arrived, arrived, local_down}
-use Rattle.dtx_model.specs.Acts.{tell, is_to_tell, promotable_in, under_way, commit_sent, ask_or, after_seal, commit_act, voter_act, promoted_act, sealed_act, asked_act, unasked_promotable, undecided_act, act_by, act_entries}
-use Rattle.dtx_model.specs.Replies.{ack_on, conn_due, due_of, is_volatile_row, owner_entries, promote_entries, reply_entries, request_message, request_of, vote_message}
+use Rattle.dtx_model.specs.Arrivals.{is_called_off, unless_decided, hand_over, place_given, told_abort, has_both_ends, ended_there, ended_by, begin_arrived, voter_arrived, enlist_arrived, again_arrived, arrived, local_down}
+use Rattle.dtx_model.specs.Acts.{commit_message, tell, is_to_tell, promotable_in, under_way, commit_sent, ask_or, after_seal, commit_act, voter_act, promoted_act, sealed_act, asked_act, unasked_promotable, undecided_act, act_by, act_entries}
+use Rattle.dtx_model.specs.Replies.{one_message, ack_on, conn_due, due_of, is_volatile_row, owner_entries, promote_entries, reply_entries, request_message, request_of, vote_message}
 use Rattle.dtx_model.specs.Facts.{begin_promotion, durable_facts, facts_if, has_facts, is_late, local_facts, reaches, ticked, time_up}
 use Rattle.dtx_model.specs.Answers.{class_of, limit_of}
-use Rattle.dtx_model.specs.World.{World, half, cut_upward, facts_at, gone_by, gone_decides, gone_unlinked, on_the_way, open_ones, reenlist_facts}
+use Rattle.dtx_model.specs.World.{World, has_answered_there, half, cut_upward, facts_at, gone_by, gone_decides, gone_unlinked, on_the_way, open_ones, reenlist_facts}
 use Rattle.dtx_model.specs.Steps.{LogAnswer, Done, Full, StoppedNow, StoppedBefore, appended, coordinates, freed, restarted}
 use Rattle.dtx_model.proofs.Bools.{and_right, or_right}
 use Rattle.std.proofs.lemmas.Bool.{or_left}
@@ -140,6 +141,9 @@ module _ {P : List Entry → Type 0} (l : OfLists P) where
   of_opening c good abort refused p q r Active true = r 1
   of_opening c good abort refused p q r Active false = p
   of_opening c good abort refused p q r Idle b = r 1
+  of_opening c good abort refused p q r Sole b = r 1
+  of_opening c good abort refused p q r Given b = r 1
+  of_opening c good abort refused p q r AnsweredStage b = r 1
   of_opening c good abort refused p q r Recorded b = r 1
 
   -- what it sends where it aborts, and where it recorded the commit
@@ -152,6 +156,22 @@ module _ {P : List Entry → Type 0} (l : OfLists P) where
   of_commit_sends k f =
       holds_join (holds_join (holds_join (of_to k Begin BeginCommitted (f Begin BeginCommitted refl refl)) (of_to k Voter VoterCommit (f Voter VoterCommit refl refl)))
       (of_each k EnlistCommit (filter (λ d. is_prepared d.ballot) k.desks) (λ e. f (Enl e) EnlistCommit refl refl))) (of_waiting k ReenlistCommitted (λ e. f (Again e) ReenlistCommitted refl refl))
+
+  -- where its one enlistment committed, and where it is in doubt
+  of_one_sends : (k : Coordinated) → OfOutcomes P → P (one_sends k)
+  of_one_sends k f = holds_join (of_to k Begin BeginCommitted (f Begin BeginCommitted refl refl)) (of_to k Voter VoterCommit (f Voter VoterCommit refl refl))
+
+  of_doubt_sends : (k : Coordinated) → OfOutcomes P → P (doubt_sends k)
+  of_doubt_sends k f = holds_join (of_to k Begin BeginInDoubt (f Begin BeginInDoubt refl refl)) (of_to k Voter VoterInDoubt (f Voter VoterInDoubt refl refl))
+
+  of_abort_block : (k : Coordinated) (x : Entry) → OfOutcomes P → P (abort_block k x)
+  of_abort_block k x f = holds_if (aborts k x && is_undecided k.stage) (of_abort_sends (follow k x) f) l.none
+
+  of_ended_block : (k : Coordinated) (c : Conn) (x : Entry) → OfOutcomes P → P (ended_block k c x)
+  of_ended_block k (Enl e) x f = holds_if (decides k e.value) (of_doubt_sends (follow k x) f) (of_abort_block k x f)
+  of_ended_block k Begin x f = of_abort_block k x f
+  of_ended_block k Voter x f = of_abort_block k x f
+  of_ended_block k (Again e) x f = of_abort_block k x f
 
   -- after a message, and after an end
   pub of_core_got : (id : ℕ) (k : Coordinated) (c : Conn) (m : Message) → ((d : Conn) (n : Message) → has_line d Down n ≡ true → answers c m n ≡ true → P (Sent d Down n ∷ [])) → P (core_got id k c m)
@@ -168,11 +188,20 @@ module _ {P : List Entry → Type 0} (l : OfLists P) where
   of_core_got id k (Again e) (ReenlistReenlist i) f =
       holds_if (is_recorded k.stage) (of_to (follow k (Got (Again e) Up (ReenlistReenlist i))) (Again e) ReenlistCommitted (f (Again e) ReenlistCommitted refl refl))
       (holds_if (has_aborted k.stage) (of_to (follow k (Got (Again e) Up (ReenlistReenlist i))) (Again e) ReenlistAborted (f (Again e) ReenlistAborted refl refl)) l.none)
-  of_core_got id k c m f = holds_if (aborts k (Got c Up m) && is_undecided k.stage) (of_abort_sends (follow k (Got c Up m)) (λ d n t a. f d n t (outcome_answers c m n a))) l.none
+  of_core_got id k Begin BeginCommitOne f =
+      holds_if (not (accepts k)) l.none
+      (holds_if (is_one k.desks) (of_to k Voter VoterAsk (f Voter VoterAsk refl refl)) (of_abort_sends (follow k (Got Begin Up BeginCommitOne)) (λ d n t a. f d n t (outcome_answers Begin BeginCommitOne n a))))
+  of_core_got id k Voter VoterYes f = holds_if (is_sole k.stage) (of_each k EnlistSingle k.desks (λ e. f (Enl e) EnlistSingle refl refl)) l.none
+  of_core_got id k (Enl e) EnlistOneCommitted f = holds_if (decides k e.value) (of_one_sends k (λ d n t a. f d n t (outcome_answers (Enl e) EnlistOneCommitted n a))) l.none
+  of_core_got id k (Enl e) EnlistOneInDoubt f = holds_if (decides k e.value) (of_doubt_sends k (λ d n t a. f d n t (outcome_answers (Enl e) EnlistOneInDoubt n a))) l.none
+  of_core_got id k (Enl e) EnlistOneAborted f =
+      holds_if (hears_one k e.value) (of_abort_sends (follow k (Got (Enl e) Up EnlistOneAborted)) (λ d n t a. f d n t (outcome_answers (Enl e) EnlistOneAborted n a))) l.none
+  of_core_got id k c m f =
+      holds_if (has_line c Up m) (of_abort_block k (Got c Up m) (λ d n t a. f d n t (outcome_answers c m n a))) (of_ended_block k c (Got c Up m) (λ d n t a. f d n t (outcome_answers c m n a)))
 
   pub of_core_down : (k : Coordinated) (c : Conn) → OfOutcomes P → P (core_down k c)
   unfolding core_down
-  of_core_down k c f = holds_if (is_early k c && is_undecided k.stage) (of_abort_sends (follow k (Ended c Up)) f) l.none
+  of_core_down k c f = of_ended_block k c (Ended c Up) f
 
   -- its act, and its restart
   pub of_appended : (k : Coordinated) (a : LogAnswer) → OfOutcomes P → P (Logged ∷ []) → P (LogFull ∷ []) → P (Stopped ∷ [])
@@ -263,6 +292,7 @@ module _ {P : List Waiter → List Entry → Type 0} (w : IsClosed P) where
   of_begin t h (BeginBegun u) p = holds_if (w.lists h.waits) (is_some h.seen.decided) (of_up h.seen Begin BeginAbort (w.abort h.waits)) (holds_if (w.lists h.waits) (is_promoting h.seen) p (w.lists h.waits).none)
   of_begin t h BeginCommitted p = of_unless h (w.decides h Committed)
   of_begin t h BeginAborted p = of_unless h (w.decides h Aborted)
+  of_begin t h BeginInDoubt p = of_unless h (w.decides h InDoubt)
   of_begin t h _ p = of_ended h Begin
 
   of_voter : (t : ℕ) (h : Half) (m : Message) → OfWritten (ByMessage h.waits Voter m) (P h.waits) → P h.waits (voter_arrived t h m)
@@ -271,6 +301,7 @@ module _ {P : List Waiter → List Entry → Type 0} (w : IsClosed P) where
   of_voter t h VoterAsk f = (w.lists h.waits).none
   of_voter t h VoterCommit f = of_unless h (w.decides h Committed)
   of_voter t h VoterAbort f = of_unless h (w.decides h Aborted)
+  of_voter t h VoterInDoubt f = of_unless h (w.decides h InDoubt)
   of_voter t h _ f = of_ended h Voter
 
   of_enlist : (t : ℕ) (h : Half) (e : EnlNo) (m : Message) → OfWritten (ByMessage h.waits (Enl e) m) (P h.waits) → P h.waits (enlist_arrived t h e m)
@@ -281,6 +312,7 @@ module _ {P : List Waiter → List Entry → Type 0} (w : IsClosed P) where
   of_enlist t h e (EnlistRefused cause) f = of_unless h (of_veto h)
   of_enlist t h e EnlistPrepare f = f (Asked e Prepare) refl
   of_enlist t h e EnlistCommit f = f (Told (Member e) Committed) refl
+  of_enlist t h e EnlistSingle f = holds_if (w.lists h.waits) (is_called_off h.seen.decided || is_gone h.seen e.value) (w.lists h.waits).none (f (Handed e) refl)
   of_enlist t h e EnlistAbort f = holds_join (w.lists h.waits) (of_told_abort h e (f (Told (Member e) Aborted) refl)) (of_unless h (w.decides h Aborted))
   of_enlist t h e _ f = of_ended h (Enl e)
 
@@ -305,8 +337,12 @@ module _ {P : List Waiter → List Entry → Type 0} (w : IsClosed P) where
   of_commit_act h (Some e) p = p e
   of_commit_act h None p = w.decides h Committed
 
-  pub of_commit_sent : (ws : List Waiter) (o : Observed) → P ws (Sent Begin Up BeginCommit ∷ []) → P ws (commit_sent o)
-  of_commit_sent ws o p = holds_if (w.lists ws) (o.promoted && not (is_some (promotable_in o.table))) (of_up o Begin BeginCommit p) (w.lists ws).none
+  pub of_commit_sent : (ws : List Waiter) (o : Observed) → ((m : Message) → is_commit_message m ≡ true → P ws (Sent Begin Up m ∷ [])) → P ws (commit_sent o)
+  of_commit_sent ws o p = holds_if (w.lists ws) (o.promoted && not (is_some (promotable_in o.table))) (of_up o Begin (commit_message o) (p (commit_message o) (by (commits_alone o.table)))) (w.lists ws).none
+    where
+      by : (b : Bool) → is_commit_message (if b then BeginCommitOne else BeginCommit) ≡ true
+      by true = refl
+      by false = refl
 
   module _ (Q : List Entry → Type 0) (h : Half) (f : OfWritten (ByAct (is_some h.seen.decided)) (P h.waits)) (g : OfKinds h (P h.waits) Q) where
     of_after_seal : {es : List Entry} → P h.waits es → P h.waits (after_seal h es)
@@ -375,7 +411,7 @@ module _ {P : List Waiter → List Entry → Type 0} (w : IsClosed P) where
 
   -- the act as a whole
   pub of_whole_act : (h : Half) → OfWritten (ByAct (is_some h.seen.decided)) (P h.waits) → ((e : EnlNo) → P h.waits (Asked e Promote ∷ [])) → ((e : EnlNo) → P h.waits (Asked e AskSingle ∷ [])) → P h.waits (Sealed ∷ [])
-      → P h.waits (Sent Begin Up BeginCommit ∷ []) → P h.waits (act_entries h)
+      → ((m : Message) → is_commit_message m ≡ true → P h.waits (Sent Begin Up m ∷ [])) → P h.waits (act_entries h)
   of_whole_act h f p q s c =
       of_act (P h.waits) h f (record { rest = λ es r. r; promote = λ e d a b. p e; single = λ e d a b i. q e; seal = λ d a b. holds_cons (w.lists h.waits) Sealed s (of_commit_sent h.waits h.seen c) })
 
@@ -397,10 +433,17 @@ module _ {P : List Waiter → List Entry → Type 0} (w : IsClosed P) where
   of_request_message {ws} p Aborted = (w.abort ws)
   of_request_message {ws} p InDoubt = p
 
+  of_one_message : {ws : List Waiter} (x y : Outcome) → OfWritten (ByReply (OwnerReply x)) (P ws) → (e : EnlNo) → P ws (Sent (Enl e) Up (one_message y) ∷ [])
+  of_one_message x Committed f e = f (Sent (Enl e) Up EnlistOneCommitted) refl
+  of_one_message x Aborted f e = f (Sent (Enl e) Up EnlistOneAborted) refl
+  of_one_message x InDoubt f e = f (Sent (Enl e) Up EnlistOneInDoubt) refl
+
   of_owner : (h : Half) (e : EnlNo) (x : Outcome) (n : Option Note) → OfWritten (ByReply (OwnerReply x)) (P h.waits) → P h.waits (owner_entries h e x n)
   of_owner h e x (Some Single) f =
       holds_cons (w.lists h.waits) (Requested e (request_of x)) (f (Requested e (request_of x)) refl) (of_up h.seen Begin (request_message x) (of_request_message (f (Sent Begin Up BeginCommit) refl) x))
-  of_owner h e x _ f = holds_cons (w.lists h.waits) (OwnerAnswered e x) (f (OwnerAnswered e x) refl) (w.decides h x)
+  of_owner h e x _ f =
+      holds_cons (w.lists h.waits) (OwnerAnswered e x) (f (OwnerAnswered e x) refl)
+      (holds_if (w.lists h.waits) h.seen.promoted (of_up h.seen (Enl e) (one_message x) (of_one_message x x f e)) (w.decides h x))
 
   of_promote : (h : Half) (e : EnlNo) (ok : Bool) → OfWritten (ByReply (Promotes ok)) (P h.waits) → P h.waits (promote_entries h e ok)
   of_promote h e true f = holds_cons (w.lists h.waits) (PromoteReply e true) (f (PromoteReply e true) refl) (f (Sent Begin Up BeginBegin) refl)
@@ -446,7 +489,7 @@ module _ {P : List Waiter → List Entry → Type 0} (w : IsClosed P) where
   of_facts t h _ a f = (w.lists h.waits).none
 
   pub of_gone_decides : (h : Half) (e : EnlNo) → P h.waits (gone_decides h e)
-  of_gone_decides h e = holds_if (w.lists h.waits) (is_some h.seen.decided || voted e.value h.seen.table) (w.lists h.waits).none (holds_if (w.lists h.waits) (is_handed h.seen.handed e.value) (w.decides h InDoubt) (of_veto h))
+  of_gone_decides h e = holds_if (w.lists h.waits) (has_answered_there h.seen e.value) (w.lists h.waits).none (holds_if (w.lists h.waits) (is_some h.seen.decided || voted e.value h.seen.table) (w.lists h.waits).none (holds_if (w.lists h.waits) (is_handed h.seen.handed e.value) (w.decides h InDoubt) (of_veto h)))
 
   pub of_gone_unlinked : (h : Half) (e : EnlNo) → P h.waits (LostEntry e ∷ []) → P h.waits (gone_unlinked h e)
   of_gone_unlinked h e p = holds_cons (w.lists h.waits) (LostEntry e) p (of_gone_decides (sees h (LostEntry e)) e)

@@ -5,7 +5,7 @@ use Rattle.dtx_values.specs.declared.entry.Entry.{Entry}
 use Rattle.dtx_values.specs.declared.entry.Entry.TheVariants.{Got, Down as Ended}
 use Rattle.dtx_values.specs.declared.message.Info.{Info}
 use Rattle.dtx_values.specs.declared.message.Message.{Message}
-use Rattle.dtx_values.specs.declared.message.Message.TheVariants.{BeginBegin, BeginCommit, BeginAbort, BeginBegun, BeginCommitted, BeginAborted, VoterVoter, VoterYes, VoterNo, VoterCreated, VoterRefused, VoterAsk, VoterCommit, VoterAbort, EnlistEnlist, EnlistPrepared, EnlistNo, EnlistReadonly, EnlistAck, EnlistEnlisted, EnlistRefused, EnlistPrepare, EnlistCommit, EnlistAbort, ReenlistReenlist, ReenlistAck, ReenlistCommitted, ReenlistAborted}
+use Rattle.dtx_values.specs.declared.message.Message.TheVariants.{BeginBegin, BeginCommit, BeginAbort, BeginCommitOne, BeginInDoubt, VoterInDoubt, EnlistOneCommitted, EnlistOneAborted, EnlistOneInDoubt, EnlistSingle, BeginBegun, BeginCommitted, BeginAborted, VoterVoter, VoterYes, VoterNo, VoterCreated, VoterRefused, VoterAsk, VoterCommit, VoterAbort, EnlistEnlist, EnlistPrepared, EnlistNo, EnlistReadonly, EnlistAck, EnlistEnlisted, EnlistRefused, EnlistPrepare, EnlistCommit, EnlistAbort, ReenlistReenlist, ReenlistAck, ReenlistCommitted, ReenlistAborted}
 use Rattle.dtx_model.specs.Words.{always}
 use Rattle.dtx_model.specs.Outcome.{is_empty}
 use Rattle.dtx_model.specs.Wires.{MayCross, WireRun, in_transit, is_ended, is_lost_wire, is_next}
@@ -38,6 +38,13 @@ same_message EnlistAbort EnlistAbort = true
 same_message ReenlistAck ReenlistAck = true
 same_message ReenlistCommitted ReenlistCommitted = true
 same_message ReenlistAborted ReenlistAborted = true
+same_message BeginCommitOne BeginCommitOne = true
+same_message BeginInDoubt BeginInDoubt = true
+same_message VoterInDoubt VoterInDoubt = true
+same_message EnlistOneCommitted EnlistOneCommitted = true
+same_message EnlistOneAborted EnlistOneAborted = true
+same_message EnlistOneInDoubt EnlistOneInDoubt = true
+same_message EnlistSingle EnlistSingle = true
 same_message (BeginBegun u) (BeginBegun v) = u == v
 same_message (VoterVoter u) (VoterVoter v) = u == v
 same_message (VoterRefused u) (VoterRefused v) = u == v
@@ -91,6 +98,13 @@ messages EnlistAbort EnlistAbort e = refl
 messages ReenlistAck ReenlistAck e = refl
 messages ReenlistCommitted ReenlistCommitted e = refl
 messages ReenlistAborted ReenlistAborted e = refl
+messages BeginCommitOne BeginCommitOne e = refl
+messages BeginInDoubt BeginInDoubt e = refl
+messages VoterInDoubt VoterInDoubt e = refl
+messages EnlistOneCommitted EnlistOneCommitted e = refl
+messages EnlistOneAborted EnlistOneAborted e = refl
+messages EnlistOneInDoubt EnlistOneInDoubt e = refl
+messages EnlistSingle EnlistSingle e = refl
 messages (BeginBegun u) (BeginBegun v) e = ap BeginBegun (eq_of u v e)
 messages (VoterVoter u) (VoterVoter v) e = ap VoterVoter (eq_of u v e)
 messages (VoterRefused u) (VoterRefused v) e = ap VoterRefused (eq_of u v e)

@@ -34,5 +34,8 @@ pub mod NarrowCalls
 pub mod NarrowFacts
 pub mod Local
 pub mod Judging
+pub mod SingleRows
+mod SingleBad
+mod SingleFacts
 pub mod SilentPromotion
 mod BadHistories

@@ -1,5 +1,5 @@
 -- Questions on a history that is kept oldest first.
-use Rattle.std.proofs.Common.{◌≡◌, Bool, true, false, cond, ◌==◌, ◌&&◌, ◌||◌, not, List, [], ◌∷◌, ◌++◌, Option, Some, None, slice_get, if◌then◌else◌, refl, ap, subst, ◌∙◌}
+use Rattle.std.proofs.Common.{◌≡◌, ℕ, suc, ◌+◌, arith, Bool, true, false, cond, ◌==◌, ◌&&◌, ◌||◌, not, List, [], ◌∷◌, ◌++◌, Option, Some, None, slice_get, if◌then◌else◌, refl, ap, subst, ◌∙◌}
 use Rattle.std.specs.List.{filter}
 use Rattle.std.proofs.lemmas.Bool.{eq-eqb}
 use Rattle.std.proofs.lemmas.List.Folds.{list_all-append, list_any-append}
@@ -11,8 +11,9 @@ use Rattle.dtx_values.specs.declared.words.CloneKind.{CloneKind}
 use Rattle.dtx_values.specs.declared.words.Outcome.TheVariants.{Committed}
 use Rattle.dtx_model.specs.Words.{has, each, onto, past_of, put, all_of}
 use Rattle.dtx_values.specs.Class.{is_volatile}
-use Rattle.dtx_model.specs.Entries.{is_promoted, is_hand, is_owner, enlisted_of, clone_of, handed_of}
-use Rattle.dtx_model.specs.Outcome.{volatiles, durables, voters, can_own, owner_committed}
+use Rattle.dtx_values.specs.Table.{how_many}
+use Rattle.dtx_model.specs.Entries.{is_hand, is_owner, enlisted_of, clone_of, handed_of}
+use Rattle.dtx_model.specs.Outcome.{volatiles, durables, all_vote, voters, can_own, owner_committed}
 
 or_none : (a : Bool) → (a || false) ≡ a
 or_none true = refl
@@ -105,9 +106,27 @@ has-durable p xs = has_past_item durables p (some_by_entry enlisted_of (λ x. no
 pub each-durable : (p : EnlNo × Class → Bool) (xs : List Entry) → each p (durables (past_of xs)) ≡ each (λ x. each p (durables (x ∷ []))) xs
 each-durable p xs = each_past_item durables p (some_by_entry enlisted_of (λ x. not (is_volatile x.1))) xs
 
+-- how many pass doesn't ask for the order
+how_many-onto : {E : Type 0} (p : E → Bool) (h xs : List E) → how_many p (onto h xs) ≡ how_many p xs + how_many p h
+how_many-onto p h [] = none (how_many p h)
+  where
+    none : (n : ℕ) → n ≡ 0 + n
+    none n = grind (arith)
+how_many-onto p h (x ∷ xs) = how_many-onto p (x ∷ h) xs ∙ by (p x) (how_many p xs) (how_many p h)
+  where
+    by : (b : Bool) (m n : ℕ) → m + (if b then suc n else n) ≡ (if b then suc m else m) + n
+    by true m n = grind (arith)
+    by false m n = refl
+
+pub how_many-past : {E : Type 0} (p : E → Bool) (xs : List E) → how_many p (past_of xs) ≡ how_many p xs
+how_many-past p xs = how_many-onto p [] xs ∙ none (how_many p xs)
+  where
+    none : (n : ℕ) → n + 0 ≡ n
+    none n = grind (arith)
+
 -- the voters are the volatiles, and after a promotion the durables too
-pub each-voter : (p : EnlNo × Class → Bool) (h : List Entry) → each p (voters h) ≡ (if has is_promoted h then each p (volatiles h) && each p (durables h) else each p (volatiles h))
-each-voter p h = elim (has is_promoted h) as (λ b. each p (cond b (volatiles h ++ durables h) (volatiles h)) ≡ cond b (each p (volatiles h) && each p (durables h)) (each p (volatiles h))) [ true ↦ list_all-append p (volatiles h) (durables h) | false ↦ refl ]
+pub each-voter : (p : EnlNo × Class → Bool) (h : List Entry) → each p (voters h) ≡ (if all_vote h then each p (volatiles h) && each p (durables h) else each p (volatiles h))
+each-voter p h = elim (all_vote h) as (λ b. each p (cond b (volatiles h ++ durables h) (volatiles h)) ≡ cond b (each p (volatiles h) && each p (durables h)) (each p (volatiles h))) [ true ↦ list_all-append p (volatiles h) (durables h) | false ↦ refl ]
 
 -- who the owner is, where it is known which durable was enlisted last
 owner_of : (h : List Entry) (x z : EnlNo × Class) (zs : List (EnlNo × Class)) → z ≡ x
@@ -124,4 +143,4 @@ pub no_owner : (h : List Entry) (ds : List (EnlNo × Class)) → slice_get ds 0 
 no_owner h [] e = refl
 no_owner h (z ∷ zs) e = absurd cc
 
-pub ruleset reading = (has-past, each-clone, has-clone, has-handed, each-volatile, has-volatile, has-durable, each-durable, each-voter)
+pub ruleset reading = (has-past, how_many-past, each-clone, has-clone, has-handed, each-volatile, has-volatile, has-durable, each-durable, each-voter)

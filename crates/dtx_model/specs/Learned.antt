@@ -5,31 +5,33 @@ use Rattle.dtx_values.specs.declared.entry.Entry.TheVariants.{Cut, Down as End, 
 use Rattle.dtx_values.specs.declared.entry.Party.TheVariants.{Enl}
 use Rattle.dtx_values.specs.declared.message.Conn.TheVariants.{Begin, Voter, Enl as OnEnl, Again}
 use Rattle.dtx_values.specs.declared.message.Dir.TheVariants.{Down, Up}
-use Rattle.dtx_values.specs.declared.message.Message.TheVariants.{BeginAbort, VoterNo, EnlistNo}
+use Rattle.dtx_values.specs.declared.message.Message.TheVariants.{BeginAbort, BeginCommitOne, VoterNo, EnlistNo, EnlistOneAborted}
 use Rattle.dtx_values.specs.declared.words.Outcome.{Outcome}
 use Rattle.dtx_values.specs.declared.words.Outcome.TheVariants.{Committed, Aborted, InDoubt}
 use Rattle.dtx_model.specs.Words.{has, always, ever}
 use Rattle.dtx_model.specs.Entries.{is_record, is_told}
-use Rattle.dtx_model.specs.Outcome.{by_log, evidence, is_veto_end}
+use Rattle.dtx_model.specs.Outcome.{by_log, evidence, is_lone, is_veto_end}
 use Rattle.dtx_values.specs.Lines.{has_line}
 
--- the coordinator aborts at this entry: it got an abort or a No, its log was full, it found no record, or it saw the end of a connection before
--- that one's COMMIT, YES or vote came
+-- the coordinator aborts at this entry: it got an abort, a No, or the Aborted of the one that it let decide, or COMMIT for a single phase where not exactly one enlistment came;
+-- its log was full, it found no record, or it saw the end of a connection before that one's COMMIT, YES or vote came
 abbrev pub is_abort : List Entry → Entry → Bool
 is_abort h (Got Begin Up BeginAbort) = true
 is_abort h (Got Voter Up VoterNo) = true
 is_abort h (Got (OnEnl e) Up EnlistNo) = true
+is_abort h (Got (OnEnl e) Up EnlistOneAborted) = true
+is_abort h (Got Begin Up BeginCommitOne) = not (is_lone h) && is_veto_end h Begin Up
 is_abort h (Got c Up m) = not (has_line c Up m) && is_veto_end h c Up
 is_abort h (End c Up) = is_veto_end h c Up
 is_abort h LogFull = true
 is_abort h (Restarted found) = not found
 is_abort h _ = false
 
--- it aborts where there is no record
+-- it aborts at this entry, and no record was logged or found before
 abbrev pub is_first_abort : List Entry → Entry → Bool
 is_first_abort past x = is_abort past x && not (has is_record past)
 
--- CoordAborted
+-- CoordAborted: the coordinator aborted at some entry
 unfoldable pub coordinator_aborted : List Entry → Bool
 coordinator_aborted h = ever is_first_abort h
 

@@ -1,6 +1,6 @@
 -- Who votes, what is evidence, a veto or doubt, what may be told, and who agrees. These definitions read one history and know of
 -- no phase, queue, slot or place of the commit right.
-use Rattle.std.specs.Prelude.{Bool, true, false, ◌&&◌, ◌||◌, ◌==◌, not, List, [], ◌∷◌, ◌++◌, filter, if◌then◌else◌}
+use Rattle.std.specs.Prelude.{Bool, true, false, Option, Some, None, ◌&&◌, ◌||◌, ◌==◌, not, List, [], ◌∷◌, ◌++◌, filter, if◌then◌else◌}
 use Rattle.dtx_values.specs.declared.number.CloneNo.{CloneNo}
 use Rattle.dtx_values.specs.declared.number.EnlNo.{EnlNo}
 use Rattle.dtx_values.specs.declared.entry.Entry.{Entry}
@@ -12,7 +12,7 @@ use Rattle.dtx_values.specs.declared.message.Conn.{Conn}
 use Rattle.dtx_values.specs.declared.message.Conn.TheVariants.{Begin, Voter, Enl as OnEnl, Again}
 use Rattle.dtx_values.specs.declared.message.Dir.{Dir}
 use Rattle.dtx_values.specs.declared.message.Dir.TheVariants.{Up, Down as Downward}
-use Rattle.dtx_values.specs.declared.message.Message.TheVariants.{BeginCommitted, BeginAborted, VoterCommit, VoterAbort}
+use Rattle.dtx_values.specs.declared.message.Message.TheVariants.{BeginCommitOne, BeginCommitted, BeginAborted, VoterCommit, VoterAbort}
 use Rattle.dtx_values.specs.declared.words.Class.{Class}
 use Rattle.dtx_values.specs.declared.words.Class.TheVariants.{DurableSingle, Promotable}
 use Rattle.dtx_values.specs.declared.words.CloneKind.{CloneKind}
@@ -22,7 +22,8 @@ use Rattle.dtx_values.specs.declared.words.Outcome.TheVariants.{Committed, Abort
 use Rattle.dtx_values.specs.declared.words.Vote.TheVariants.{No}
 use Rattle.dtx_model.specs.Words.{has, each, ever, always, all_of}
 use Rattle.dtx_values.specs.Class.{is_volatile}
-use Rattle.dtx_model.specs.Entries.{is_commit, is_sealed, is_promoted, is_record, is_yes, is_hand, is_any_hand, handed_of, is_owner, is_any_owner, enlisted_of, clone_of, is_completed, is_vote, is_good_vote, is_commit_got, is_yes_got, is_vote_got, is_decision, is_final}
+use Rattle.dtx_values.specs.Table.{how_many}
+use Rattle.dtx_model.specs.Entries.{is_commit, is_sealed, is_promoted, is_record, is_yes, is_hand, is_any_hand, handed_of, is_owner, is_any_owner, enlisted_of, clone_of, is_completed, is_vote, is_good_vote, is_commit_got, is_yes_got, is_vote_got, is_enlist_got, is_single_sent, is_any_single_sent, is_one_got, is_decision, is_final}
 use Rattle.dtx_values.specs.Lines.{has_line}
 
 -- the enlistments with their classes, newest first
@@ -37,9 +38,13 @@ volatiles h = filter (λ x. is_volatile x.1) (enlisted h)
 abbrev pub durables : List Entry → List (EnlNo × Class)
 durables h = filter (λ x. not (is_volatile x.1)) (enlisted h)
 
--- all volatiles vote, and after a promotion the durables and promotables too
+-- the durables and promotables vote too: it is promoted, and none of them was asked to decide in a single phase
+abbrev pub all_vote : List Entry → Bool
+all_vote h = has is_promoted h && not (has is_any_single_sent h)
+
+-- all volatiles vote, and after a promotion the durables and promotables too, unless one of them was asked to decide alone
 abbrev pub voters : List Entry → List (EnlNo × Class)
-voters h = if has is_promoted h then volatiles h ++ durables h else volatiles h
+voters h = if all_vote h then volatiles h ++ durables h else volatiles h
 
 -- this clone is complete
 abbrev pub is_complete : List Entry → CloneNo × CloneKind → Bool
@@ -53,7 +58,7 @@ abbrev pub is_empty : {A : Type 0} → List A → Bool
 is_empty [] = true
 is_empty (x ∷ xs) = false
 
--- evidence by the seal: sealed, not promoted, and nobody could own the commit
+-- evidence by the seal: sealed, not promoted, and no durable or promotable was enlisted
 unfoldable pub by_seal : List Entry → Bool
 by_seal h = has is_sealed h && not (has is_promoted h) && is_empty (durables h)
 
@@ -68,9 +73,9 @@ abbrev pub owner_committed : List Entry → List (EnlNo × Class) → Bool
 owner_committed h [] = false
 owner_committed h (x ∷ xs) = each (λ y. x.0.value == y.0.value) xs && has (λ y. can_own y.1) (x ∷ xs) && has (is_hand x.0.value) h && has (is_owner x.0.value Committed) h
 
--- evidence by the owner, where nothing was promoted
+-- evidence by the owner: nothing was promoted, or the coordinator let it decide
 unfoldable pub by_owner : List Entry → Bool
-by_owner h = not (has is_promoted h) && owner_committed h (durables h)
+by_owner h = not (all_vote h) && owner_committed h (durables h)
 
 -- evidence by the log, where it was promoted
 unfoldable pub by_log : List Entry → Bool
@@ -85,17 +90,23 @@ abbrev pub is_rollback : CloneKind → Bool
 is_rollback Rollback = true
 is_rollback Block = false
 
--- the end of this connection, seen on this side, is a veto
+-- the coordinator got the ENLIST of exactly one
+abbrev pub is_lone : List Entry → Bool
+is_lone h = how_many is_enlist_got h == 1
+
+-- the end of this connection, seen on this side, is a veto: it came before the local yes or the vote of its enlistment, at the coordinator before the COMMIT, the YES or the vote
+-- that the connection brings, and before SINGLE
 abbrev pub is_veto_end : List Entry → Conn → Dir → Bool
 is_veto_end h Begin Downward = not (has is_yes h)
 is_veto_end h Voter Downward = not (has is_yes h)
 is_veto_end h (OnEnl e) Downward = not (has is_yes h) && not (has (is_vote e.value) h)
 is_veto_end h Begin Up = not (has is_commit_got h)
 is_veto_end h Voter Up = not (has is_yes_got h)
-is_veto_end h (OnEnl e) Up = not (has (is_vote_got e.value) h)
+is_veto_end h (OnEnl e) Up = not (has (is_vote_got e.value) h) && not (has (is_single_sent e.value) h)
 is_veto_end h (Again e) d = false
 
--- the entry is a veto after this history. A message that has no line counts as the end of its connection.
+-- the entry is a veto after this history. A message that has no line counts as the end of its connection,
+-- and so does COMMIT for a single phase where not exactly one enlistment came.
 abbrev pub is_veto : List Entry → Entry → Bool
 is_veto h RollbackAsked = not (has is_yes h) && not (has is_any_hand h)
 is_veto h TimedOut = not (has is_yes h) && not (has is_any_hand h)
@@ -108,13 +119,15 @@ is_veto h (Restarted found) = not found
 is_veto h CommitAsked = has (λ c. is_rollback c.1 && not (is_complete h c)) (all_of clone_of h)
 is_veto h (Lost e) = not (has (is_vote e.value) h) && not (has (is_hand e.value) h)
 is_veto h (Down c d) = is_veto_end h c d
+is_veto h (Got Begin Up BeginCommitOne) = not (is_lone h) && is_veto_end h Begin Up
 is_veto h (Got c d m) = not (has_line c d m) && is_veto_end h c d
 is_veto h _ = false
 
--- a veto after which no evidence stood yet
+-- a veto before which no evidence stood
 abbrev pub is_first_veto : List Entry → Entry → Bool
 is_first_veto past e = is_veto past e && not (evidence past)
 
+-- such a veto came
 unfoldable pub vetoed : List Entry → Bool
 vetoed h = ever is_first_veto h
 
@@ -151,15 +164,35 @@ is_outcome_got _ = false
 unfoldable pub coordinator_doubt : List Entry → Bool
 coordinator_doubt h = has is_yes h && has is_begin_end h && has is_voter_end h && not (has is_outcome_got h)
 
+-- the enlistment whose connection ends for the coordinator by the entry
+abbrev pub ended_there : Entry → Option EnlNo
+ended_there (Down (OnEnl e) Up) = Some e
+ended_there (Got (OnEnl e) Up m) = if has_line (OnEnl e) Up m then None else Some e
+ended_there _ = None
+
+-- SINGLE was sent to this enlistment, and no answer of it was got
+abbrev pub is_deciding : List Entry → Option EnlNo → Bool
+is_deciding past (Some e) = has (is_single_sent e.value) past && not (has (is_one_got e.value) past)
+is_deciding past None = false
+
+-- by the entry the coordinator lost the one that it let decide, before that one answered
+abbrev pub is_lost_single : List Entry → Entry → Bool
+is_lost_single past x = is_deciding past (ended_there x)
+
+-- doubt by the one that the coordinator let decide: its connection ended before it answered
+unfoldable pub single_doubt : List Entry → Bool
+single_doubt h = ever is_lost_single h
+
 -- whoever held the commit answered in doubt, or was lost
 unfoldable pub doubt : List Entry → Bool
-doubt h = owner_doubt h || coordinator_doubt h
+doubt h = owner_doubt h || coordinator_doubt h || single_doubt h
 
 -- the client and the volatiles may hear that the outcome is in doubt
 abbrev pub hears_doubt : List Entry → Party → Bool
 hears_doubt h Client = true
 hears_doubt h (Enl e) = has (λ x. e.value == x.0.value) (volatiles h)
 
+-- what may be told after this history: committed on evidence, aborted after a veto where no evidence stands, in doubt where doubt stands, and to the client and the volatiles alone
 unfoldable pub may_tell : List Entry → Party → Outcome → Bool
 may_tell h p Committed = evidence h
 may_tell h p Aborted = vetoed h && not (evidence h)
@@ -171,6 +204,7 @@ is_just past (Told p o) = may_tell past p o
 is_just past (Decided o) = may_tell past Client o
 is_just past _ = true
 
+-- Justified: whatever was told or decided could be, after what came before it
 unfoldable pub justified : List Entry → Bool
 justified h = always is_just h
 

@@ -40,6 +40,7 @@ abbrev pub lost_after : Conn → List Entry → Entry → Option Bool → Option
 lost_after c past x None = if opens c x then Some (is_stopped past) else None
 lost_after c past x (Some lost) = if opens c x then Some (is_stopped past) else Some (lost || loses c x)
 
+-- the same after a history
 abbrev pub lost_since : Conn → List Entry → Option Bool
 lost_since c [] = None
 lost_since c (x ∷ past) = lost_after c past x (lost_since c past)
@@ -109,6 +110,7 @@ begins_ended Down past = false
 abbrev pub ended_after : Bool → Bool → Bool → Bool
 ended_after opened begins ended = if opened then begins else ended
 
+-- this side saw the end of the connection since it was opened, or never sees one
 abbrev pub is_ended : Conn → Dir → List Entry → Bool
 is_ended c d [] = false
 is_ended c d (x ∷ past) = ended_after (opens c x) (begins_ended d past) (ends c d x || is_ended c d past)

@@ -8,6 +8,12 @@ pub enum Stage {
     Idle,
     /// It was begun, and nothing is decided.
     Active,
+    /// It was begun, and COMMIT for a single phase was got: nothing is decided, and its one enlistment is going to decide.
+    Sole,
+    /// SINGLE was sent to its one enlistment, which decides.
+    Given,
+    /// Its one enlistment said committed or in doubt, or was lost before it answered. Nothing more comes of it in this life.
+    Answered,
     /// It aborted in this life of the coordinator.
     Aborted,
     /// Its record is durable.

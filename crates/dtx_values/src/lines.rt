@@ -11,11 +11,17 @@ fn is_on_begin(d: Dir, m: Message) -> bool
     match d {
         Dir::Up => matches!(
             m,
-            Message::BeginBegin | Message::BeginCommit | Message::BeginAbort
+            Message::BeginBegin
+                | Message::BeginCommit
+                | Message::BeginAbort
+                | Message::BeginCommitOne
         ),
         Dir::Down => matches!(
             m,
-            Message::BeginBegun(_) | Message::BeginCommitted | Message::BeginAborted
+            Message::BeginBegun(_)
+                | Message::BeginCommitted
+                | Message::BeginAborted
+                | Message::BeginInDoubt
         ),
     }
 }
@@ -36,6 +42,7 @@ fn is_on_voter(d: Dir, m: Message) -> bool
                 | Message::VoterAsk
                 | Message::VoterCommit
                 | Message::VoterAbort
+                | Message::VoterInDoubt
         ),
     }
 }
@@ -53,6 +60,9 @@ fn is_on_enlist(d: Dir, m: Message) -> bool
                 | Message::EnlistNo
                 | Message::EnlistReadonly
                 | Message::EnlistAck
+                | Message::EnlistOneCommitted
+                | Message::EnlistOneAborted
+                | Message::EnlistOneInDoubt
         ),
         Dir::Down => matches!(
             m,
@@ -61,6 +71,7 @@ fn is_on_enlist(d: Dir, m: Message) -> bool
                 | Message::EnlistPrepare
                 | Message::EnlistCommit
                 | Message::EnlistAbort
+                | Message::EnlistSingle
         ),
     }
 }

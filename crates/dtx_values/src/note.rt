@@ -1,8 +1,8 @@
 //! What an enlistment is told, what it replies, and what its line plans.
 use crate::words::{Outcome, Vote};
 
-/// The notifications of System.Transactions. `Hand` is SinglePhaseCommit before a promotion, `Single` the same
-/// after it.
+/// The notifications of System.Transactions. `Hand` and `Single` are SinglePhaseCommit: by `Hand` the enlistment decides the outcome,
+/// by `Single` a promotable, after its promotion, requests it of the coordinator.
 #[derive(Clone, Copy, PartialEq, Eq, Debug)]
 pub enum Note {
     Init,

@@ -35,6 +35,7 @@ fn begin_up(name: &[u8]) -> Option<Message>
         message_words::BEGIN => Some(Message::BeginBegin),
         message_words::COMMIT => Some(Message::BeginCommit),
         message_words::ABORT => Some(Message::BeginAbort),
+        message_words::COMMITONE => Some(Message::BeginCommitOne),
         _ => None,
     }
 }
@@ -49,6 +50,7 @@ fn begin_down(place: Place, name: &[u8]) -> Option<Message>
         message_words::BEGUN => Some(Message::BeginBegun(identifier_at(place))),
         message_words::COMMITTED => Some(Message::BeginCommitted),
         message_words::ABORTED => Some(Message::BeginAborted),
+        message_words::INDOUBT => Some(Message::BeginInDoubt),
         _ => None,
     }
 }
@@ -79,6 +81,7 @@ fn voter_down(place: Place, name: &[u8], cause: &[u8]) -> Option<Message>
         message_words::ASK => Some(Message::VoterAsk),
         message_words::COMMIT => Some(Message::VoterCommit),
         message_words::ABORT => Some(Message::VoterAbort),
+        message_words::INDOUBT => Some(Message::VoterInDoubt),
         _ => None,
     }
 }
@@ -108,6 +111,9 @@ fn enlist_up(place: Place, e: EnlNo, name: &[u8]) -> Option<Message>
         message_words::NO => Some(Message::EnlistNo),
         message_words::READONLY => Some(Message::EnlistReadonly),
         message_words::ACK => Some(Message::EnlistAck),
+        message_words::ONECOMMITTED => Some(Message::EnlistOneCommitted),
+        message_words::ONEABORTED => Some(Message::EnlistOneAborted),
+        message_words::ONEINDOUBT => Some(Message::EnlistOneInDoubt),
         _ => None,
     }
 }
@@ -124,6 +130,7 @@ fn enlist_down(place: Place, e: EnlNo, name: &[u8], cause: &[u8]) -> Option<Mess
         message_words::PREPARE => Some(Message::EnlistPrepare),
         message_words::COMMIT => Some(Message::EnlistCommit),
         message_words::ABORT => Some(Message::EnlistAbort),
+        message_words::SINGLE => Some(Message::EnlistSingle),
         _ => None,
     }
 }

@@ -14,11 +14,12 @@ const ENLIST: [u8; 40] = [
 /// The frames of all messages, one after the other, with transaction 1 of node 1 and its enlistment 1 of manager 1.
 const FRAMES: &[u8] = b"\x01\x01\0\0\x01\x02\0\0\x01\x03\0\0\
     \x01\x04\x10\0\0\0\0\0\0\0\0\x01\0\0\0\0\0\0\0\x01\x01\x05\0\0\x01\x06\0\0\
+    \x01\x07\0\0\x01\x08\0\0\
     \x02\x01\x10\0\0\0\0\0\0\0\0\x01\0\0\0\0\0\0\0\x01\x02\x02\0\0\x02\x03\0\0\x02\x04\0\0\
-    \x02\x05\x01\0\x02\x02\x06\0\0\x02\x07\0\0\x02\x08\0\0\
+    \x02\x05\x01\0\x02\x02\x06\0\0\x02\x07\0\0\x02\x08\0\0\x02\x09\0\0\
     \x03\x01\x24\0\0\0\0\0\0\0\0\x01\0\0\0\0\0\0\0\x01\0\0\0\0\0\0\0\0\0\0\0\0\0\0\0\x01\x01\0\0\0\
     \x03\x02\0\0\x03\x03\0\0\x03\x04\0\0\x03\x05\0\0\x03\x06\0\0\x03\x07\x01\0\x01\
-    \x03\x08\0\0\x03\x09\0\0\x03\x0a\0\0\
+    \x03\x08\0\0\x03\x09\0\0\x03\x0a\0\0\x03\x0b\0\0\x03\x0c\0\0\x03\x0d\0\0\x03\x0e\0\0\
     \x04\x01\x24\0\0\0\0\0\0\0\0\x01\0\0\0\0\0\0\0\x01\0\0\0\0\0\0\0\0\0\0\0\0\0\0\0\x01\x01\0\0\0\
     \x04\x02\0\0\x04\x03\0\0\x04\x04\0\0";
 
@@ -52,6 +53,8 @@ fn messages_go_both_ways(rt: HostRuntime) -> Result<(), Fail> {
         Message::BeginBegun(ID),
         Message::BeginCommitted,
         Message::BeginAborted,
+        Message::BeginCommitOne,
+        Message::BeginInDoubt,
         Message::VoterVoter(ID),
         Message::VoterYes,
         Message::VoterNo,
@@ -60,6 +63,7 @@ fn messages_go_both_ways(rt: HostRuntime) -> Result<(), Fail> {
         Message::VoterAsk,
         Message::VoterCommit,
         Message::VoterAbort,
+        Message::VoterInDoubt,
         Message::EnlistEnlist(info),
         Message::EnlistPrepared,
         Message::EnlistNo,
@@ -70,6 +74,10 @@ fn messages_go_both_ways(rt: HostRuntime) -> Result<(), Fail> {
         Message::EnlistPrepare,
         Message::EnlistCommit,
         Message::EnlistAbort,
+        Message::EnlistSingle,
+        Message::EnlistOneCommitted,
+        Message::EnlistOneAborted,
+        Message::EnlistOneInDoubt,
         Message::ReenlistReenlist(info),
         Message::ReenlistAck,
         Message::ReenlistCommitted,
@@ -86,9 +94,9 @@ const REFUSED: [(&[u8], FrameRefusal); 17] = [
     (b"\x05\x01\0\0", FrameRefusal::BadType(0)),
     (b"\x04", FrameRefusal::Short(1)),
     (b"\x01\0", FrameRefusal::BadTag(1)),
-    (b"\x01\x07\0\0", FrameRefusal::BadTag(1)),
-    (b"\x02\x09", FrameRefusal::BadTag(1)),
-    (b"\x03\x0b", FrameRefusal::BadTag(1)),
+    (b"\x01\x09\0\0", FrameRefusal::BadTag(1)),
+    (b"\x02\x0a", FrameRefusal::BadTag(1)),
+    (b"\x03\x0f", FrameRefusal::BadTag(1)),
     (b"\x04\x05", FrameRefusal::BadTag(1)),
     (b"\x01\x01\0", FrameRefusal::Short(3)),
     (b"\x01\x01\0\x01", FrameRefusal::BadLength(2)),

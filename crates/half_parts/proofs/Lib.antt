@@ -9,3 +9,4 @@ pub mod Waiting
 pub mod Following
 pub mod Due
 pub mod Deciding
+mod Lone

@@ -3,7 +3,7 @@ ghost use Rattle.std.specs.Prelude.{◌≡◌, ◌&&◌, find};
 ghost use Rattle.std.specs.List.{list_all};
 ghost use Rattle.dtx_values.specs.Class.{is_promotable, is_volatile};
 ghost use Rattle.dtx_values.specs.Vote.{voted_well};
-ghost use Rattle.dtx_values.specs.Owners.{is_evident};
+ghost use Rattle.dtx_values.specs.Owners.{commits_alone, is_evident};
 ghost use Rattle.dtx_model.specs.Acts.{promotable_in};
 
 use dtx_values::{Class, EnlNo, Row};
@@ -27,6 +27,22 @@ pub fn is_evident(sealed: bool, rows: &[Row]) -> bool
     ensures { result ≡ is_evident sealed rows.now }
 {
     sealed && are_well(rows)
+}
+
+/// Whether the durables and promotables are one durable that can own the commit.
+pub fn commits_alone(rows: &[Row]) -> bool
+    ensures { result ≡ commits_alone rows.now }
+{
+    let mut lone = None;
+    for x in rows {
+        if x.is_lasting() {
+            match lone {
+                None => lone = Some(x.class),
+                Some(_) => return false,
+            }
+        }
+    }
+    lone == Some(Class::DurableSingle)
 }
 
 /// The row of the promotable enlistment.

@@ -2,14 +2,15 @@
 ghost use Rattle.std.specs.Prelude.{◌≡◌, ◌==◌, [], ◌∷◌};
 ghost use Rattle.dtx_model.specs.Words.{has, ever, past_of, all_of};
 ghost use Rattle.dtx_model.specs.Entries.{handed_of, is_owner};
-ghost use Rattle.dtx_model.specs.Outcome.{volatiles, is_lost_owner, owner_doubt, coordinator_doubt, doubt, hears_doubt};
+ghost use Rattle.dtx_model.specs.Outcome.{volatiles, is_lost_owner, owner_doubt, coordinator_doubt, ended_there, is_deciding, is_lost_single, single_doubt, doubt, hears_doubt};
 ghost use Rattle.dtx_values.specs.declared.words.Outcome.TheVariants.{InDoubt};
 
 use crate::entries::is_volatile;
 use crate::scans::{
-    has_any_owner, has_begin_end, has_hand, has_outcome_got, has_owner, has_voter_end, has_yes,
+    has_any_owner, has_begin_end, has_hand, has_one_got, has_outcome_got, has_owner,
+    has_single_sent, has_voter_end, has_yes,
 };
-use dtx_values::{EnlNo, Entry, Outcome, Party};
+use dtx_values::{Conn, Dir, EnlNo, Entry, Outcome, Party, has_line};
 
 /// Whether the entry handed the commit to an owner that answered in doubt in h.
 #[tactic(auto, using(dtx_model::proofs::Reading::reading))]
@@ -69,12 +70,53 @@ fn is_coordinator_in_doubt(h: &[Entry]) -> bool
     has_yes(h) && has_begin_end(h) && has_voter_end(h) && !has_outcome_got(h)
 }
 
+/// The enlistment whose connection ends for the coordinator by the entry.
+pub fn ended_there(x: &Entry) -> Option<EnlNo>
+    ensures { result ≡ ended_there x.now }
+{
+    match *x {
+        Entry::Down(Conn::Enl(e), Dir::Up) => Some(e),
+        Entry::Got(Conn::Enl(e), Dir::Up, m) => {
+            if has_line(Conn::Enl(e), Dir::Up, m) {
+                None
+            } else {
+                Some(e)
+            }
+        }
+        _ => None,
+    }
+}
+
+/// Whether the one that the coordinator let decide was lost by the entry before it answered.
+#[tactic(auto, using(dtx_model::proofs::Reading::reading))]
+fn is_lost_single(h: &[Entry], x: &Entry) -> bool
+    ensures { result ≡ is_lost_single (past_of h.now) x.now }
+{
+    match ended_there(x) {
+        Some(e) => has_single_sent(h, e) && !has_one_got(h, e),
+        None => false,
+    }
+}
+
+/// Whether the one that the coordinator let decide was lost before it answered.
+#[tactic(auto, using(dtx_model::proofs::Prefixes::prefixes), unfolding(dtx_model::specs::Outcome::single_doubt))]
+fn is_single_in_doubt(h: &[Entry]) -> bool
+    ensures { result ≡ single_doubt (past_of h.now) }
+{
+    for (i, x) in h.iter().enumerate() {
+        if is_lost_single(&h[..i], x) {
+            return true;
+        }
+    }
+    false
+}
+
 /// Whether whoever held the commit answered in doubt, or was lost.
 #[tactic(auto, unfolding(dtx_model::specs::Outcome::doubt))]
 pub fn has_doubt(h: &[Entry]) -> bool
     ensures { result ≡ doubt (past_of h.now) }
 {
-    is_owner_in_doubt(h) || is_coordinator_in_doubt(h)
+    is_owner_in_doubt(h) || is_coordinator_in_doubt(h) || is_single_in_doubt(h)
 }
 
 /// Whether the entry enlists e as a volatile.

@@ -5,12 +5,12 @@ ghost use Rattle.std.specs.Prelude.{◌≡◌, ◌==◌, ◌&&◌, [], ◌∷◌
 ghost use Rattle.dtx_values.specs.declared.words.Outcome.TheVariants.{Committed};
 ghost use Rattle.dtx_model.specs.Words.{has, each, past_of, all_of, or_else};
 ghost use Rattle.dtx_model.specs.Entries.{clone_of, is_good_vote, is_hand, is_owner};
-ghost use Rattle.dtx_model.specs.Outcome.{is_complete, volatiles, durables, voters, ready, can_own, by_seal, owner_committed, by_owner, by_log, evidence};
+ghost use Rattle.dtx_model.specs.Outcome.{is_complete, volatiles, durables, all_vote, voters, ready, can_own, by_seal, owner_committed, by_owner, by_log, evidence};
 
 use crate::entries::is_volatile;
 use crate::scans::{
-    has_commit, has_completed, has_good_vote, has_hand, has_owner, has_promotion, has_record,
-    has_seal,
+    has_any_single_sent, has_commit, has_completed, has_good_vote, has_hand, has_owner,
+    has_promotion, has_record, has_seal,
 };
 use dtx_values::{Class, EnlNo, Entry, Outcome};
 
@@ -68,12 +68,20 @@ fn are_durables_for(h: &[Entry]) -> bool
     h.iter().all(|x| is_durable_for(h, x))
 }
 
+/// Whether the durables and promotables vote too.
+#[tactic(auto, using(dtx_model::proofs::Reading::reading))]
+pub fn all_vote(h: &[Entry]) -> bool
+    ensures { result ≡ all_vote (past_of h.now) }
+{
+    has_promotion(h) && !has_any_single_sent(h)
+}
+
 /// Whether each voter voted yes or done.
 #[tactic(auto, using(dtx_model::proofs::Reading::reading))]
 fn are_voters_for(h: &[Entry]) -> bool
     ensures { result ≡ each (λ y. has (is_good_vote y.0.value) (past_of h.now)) (voters (past_of h.now)) }
 {
-    if has_promotion(h) {
+    if all_vote(h) {
         are_volatiles_for(h) && are_durables_for(h)
     } else {
         are_volatiles_for(h)
@@ -174,12 +182,12 @@ fn is_by_seal(h: &[Entry]) -> bool
     has_seal(h) && !has_promotion(h) && newest_durable(h).is_none()
 }
 
-/// Whether the owner's answer is evidence, where nothing was promoted.
+/// Whether the owner's answer is evidence: nothing was promoted, or the coordinator let it decide.
 #[tactic(auto, using(dtx_model::proofs::Reading::reading), unfolding(dtx_model::specs::Outcome::by_owner))]
 fn is_by_owner(h: &[Entry]) -> bool
     ensures { result ≡ by_owner (past_of h.now) }
 {
-    !has_promotion(h) && has_owner_committed(h)
+    !all_vote(h) && has_owner_committed(h)
 }
 
 /// Whether the log is evidence, where it was promoted.

@@ -9,10 +9,10 @@ mod scans;
 mod verdict;
 mod veto;
 
-pub use doubt::has_doubt;
+pub use doubt::{ended_there, has_doubt};
 pub use entries::is_record;
-pub use evidence::{has_evidence, newest_durable};
+pub use evidence::{all_vote, has_evidence, newest_durable};
 pub use messages::{is_begin_end, is_voter_end};
 pub use scans::{has_commit, has_completed, has_promotion, has_record};
 pub use verdict::{Verdict, judge};
-pub use veto::{is_first_veto, is_veto_end};
+pub use veto::{is_first_veto, is_lone, is_veto_end};

@@ -1,15 +1,61 @@
 //! Tests on what came over a connection, as `specs/Entries.antt` and `specs/Outcome.antt` have them.
 ghost use Rattle.std.specs.Prelude.{◌≡◌};
-ghost use Rattle.dtx_model.specs.Entries.{is_commit_got, is_yes_got, is_vote_got};
+ghost use Rattle.dtx_model.specs.Entries.{is_commit_got, is_yes_got, is_vote_got, is_enlist_got, is_single_sent, is_any_single_sent, is_one_got};
 ghost use Rattle.dtx_model.specs.Outcome.{is_begin_end, is_voter_end, is_outcome_got};
 
 use dtx_values::{Conn, Dir, EnlNo, Entry, Message, has_line};
 
-/// Whether the coordinator got COMMIT.
+/// Whether the coordinator got an ENLIST.
+pub(crate) fn is_enlist_got(x: &Entry) -> bool
+    ensures { result ≡ is_enlist_got x.now }
+{
+    matches!(
+        x,
+        Entry::Got(Conn::Enl(_), Dir::Up, Message::EnlistEnlist(_))
+    )
+}
+
+/// Whether SINGLE was sent to this enlistment.
+pub(crate) fn is_single_sent(e: EnlNo, x: &Entry) -> bool
+    ensures { result ≡ is_single_sent e.value x.now }
+{
+    match *x {
+        Entry::Sent(Conn::Enl(f), Dir::Down, Message::EnlistSingle) => e == f,
+        _ => false,
+    }
+}
+
+/// Whether SINGLE was sent to some enlistment.
+pub(crate) fn is_any_single_sent(x: &Entry) -> bool
+    ensures { result ≡ is_any_single_sent x.now }
+{
+    matches!(
+        x,
+        Entry::Sent(Conn::Enl(_), Dir::Down, Message::EnlistSingle)
+    )
+}
+
+/// Whether the coordinator got this enlistment's answer to SINGLE.
+pub(crate) fn is_one_got(e: EnlNo, x: &Entry) -> bool
+    ensures { result ≡ is_one_got e.value x.now }
+{
+    match *x {
+        Entry::Got(Conn::Enl(f), Dir::Up, Message::EnlistOneCommitted) => e == f,
+        Entry::Got(Conn::Enl(f), Dir::Up, Message::EnlistOneAborted) => e == f,
+        Entry::Got(Conn::Enl(f), Dir::Up, Message::EnlistOneInDoubt) => e == f,
+        _ => false,
+    }
+}
+
+/// Whether the coordinator got COMMIT, of either name.
 pub fn is_commit_got(x: &Entry) -> bool
     ensures { result ≡ is_commit_got x.now }
 {
-    matches!(x, Entry::Got(Conn::Begin, Dir::Up, Message::BeginCommit))
+    matches!(
+        x,
+        Entry::Got(Conn::Begin, Dir::Up, Message::BeginCommit)
+            | Entry::Got(Conn::Begin, Dir::Up, Message::BeginCommitOne)
+    )
 }
 
 /// Whether the coordinator got the voter's YES.

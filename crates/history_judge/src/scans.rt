@@ -1,7 +1,8 @@
 //! Whether a history has an entry that passes a test. A slice stands oldest entry first, and such a question doesn't ask for the order.
 ghost use Rattle.std.specs.Prelude.{◌≡◌};
+ghost use Rattle.dtx_values.specs.Table.{how_many};
 ghost use Rattle.dtx_model.specs.Words.{has};
-ghost use Rattle.dtx_model.specs.Entries.{is_commit, is_sealed, is_promoted, is_record, is_yes, is_hand, is_any_hand, is_owner, is_any_owner, is_completed, is_vote, is_good_vote, is_decision, is_final, is_commit_got, is_yes_got, is_vote_got};
+ghost use Rattle.dtx_model.specs.Entries.{is_commit, is_sealed, is_promoted, is_record, is_yes, is_hand, is_any_hand, is_owner, is_any_owner, is_completed, is_vote, is_good_vote, is_decision, is_final, is_commit_got, is_yes_got, is_vote_got, is_enlist_got, is_single_sent, is_any_single_sent, is_one_got};
 ghost use Rattle.dtx_model.specs.Outcome.{is_begin_end, is_voter_end, is_outcome_got};
 
 use crate::entries::{
@@ -9,7 +10,8 @@ use crate::entries::{
     is_hand, is_owner, is_promoted, is_record, is_sealed, is_vote, is_yes,
 };
 use crate::messages::{
-    is_begin_end, is_commit_got, is_outcome_got, is_vote_got, is_voter_end, is_yes_got,
+    is_any_single_sent, is_begin_end, is_commit_got, is_enlist_got, is_one_got, is_outcome_got,
+    is_single_sent, is_vote_got, is_voter_end, is_yes_got,
 };
 use dtx_values::{CloneNo, EnlNo, Entry, Outcome};
 
@@ -116,6 +118,34 @@ pub fn has_commit_got(h: &[Entry]) -> bool
     ensures { result ≡ has is_commit_got h.now }
 {
     h.iter().any(|x| is_commit_got(x))
+}
+
+/// How many ENLISTs the coordinator got.
+pub(crate) fn enlists_got(h: &[Entry]) -> usize
+    ensures { result ≡ how_many is_enlist_got h.now }
+{
+    h.iter().filter(|x| is_enlist_got(x)).count()
+}
+
+/// Whether SINGLE was sent to this enlistment.
+pub(crate) fn has_single_sent(h: &[Entry], e: EnlNo) -> bool
+    ensures { result ≡ has (λ x. is_single_sent e.value x) h.now }
+{
+    h.iter().any(|x| is_single_sent(e, x))
+}
+
+/// Whether SINGLE was sent to some enlistment.
+pub(crate) fn has_any_single_sent(h: &[Entry]) -> bool
+    ensures { result ≡ has is_any_single_sent h.now }
+{
+    h.iter().any(|x| is_any_single_sent(x))
+}
+
+/// Whether the coordinator got this enlistment's answer to SINGLE.
+pub(crate) fn has_one_got(h: &[Entry], e: EnlNo) -> bool
+    ensures { result ≡ has (λ x. is_one_got e.value x) h.now }
+{
+    h.iter().any(|x| is_one_got(e, x))
 }
 
 /// Whether the coordinator got the voter's YES.

@@ -2,14 +2,22 @@
 ghost use Rattle.std.specs.Prelude.{◌≡◌, [], ◌∷◌, ◌&&◌, not};
 ghost use Rattle.dtx_model.specs.Words.{has, past_of, all_of};
 ghost use Rattle.dtx_model.specs.Entries.{clone_of};
-ghost use Rattle.dtx_model.specs.Outcome.{is_rollback, is_complete, is_veto_end, is_veto, is_first_veto, vetoed};
+ghost use Rattle.dtx_model.specs.Outcome.{is_rollback, is_complete, is_lone, is_veto_end, is_veto, is_first_veto, vetoed};
 
 use crate::evidence::has_evidence;
 use crate::scans::{
-    has_any_hand, has_commit_got, has_completed, has_hand, has_vote, has_vote_got, has_yes,
-    has_yes_got,
+    enlists_got, has_any_hand, has_commit_got, has_completed, has_hand, has_single_sent, has_vote,
+    has_vote_got, has_yes, has_yes_got,
 };
-use dtx_values::{CloneKind, Conn, Dir, Entry, Outcome, Request, Vote, has_line};
+use dtx_values::{CloneKind, Conn, Dir, Entry, Message, Outcome, Request, Vote, has_line};
+
+/// Whether the coordinator got the ENLIST of exactly one.
+#[tactic(auto, using(dtx_model::proofs::Reading::reading))]
+pub fn is_lone(h: &[Entry]) -> bool
+    ensures { result ≡ is_lone (past_of h.now) }
+{
+    enlists_got(h) == 1
+}
 
 /// Whether the end of this connection, seen on this side, is a veto after h.
 #[tactic(auto, using(dtx_model::proofs::Reading::reading))]
@@ -22,7 +30,7 @@ pub fn is_veto_end(h: &[Entry], c: Conn, d: Dir) -> bool
         (Conn::Enl(e), Dir::Down) => !has_yes(h) && !has_vote(h, e),
         (Conn::Begin, Dir::Up) => !has_commit_got(h),
         (Conn::Voter, Dir::Up) => !has_yes_got(h),
-        (Conn::Enl(e), Dir::Up) => !has_vote_got(h, e),
+        (Conn::Enl(e), Dir::Up) => !has_vote_got(h, e) && !has_single_sent(h, e),
         (Conn::Again(_), _) => false,
     }
 }
@@ -63,6 +71,10 @@ fn is_veto(h: &[Entry], x: &Entry) -> bool
         // It neither voted nor was handed the commit.
         Entry::Lost(e) => !has_vote(h, e) && !has_hand(h, e),
         Entry::Down(c, d) => is_veto_end(h, c, d),
+        // COMMIT for a single phase where not exactly one enlistment came counts as the end of b.
+        Entry::Got(Conn::Begin, Dir::Up, Message::BeginCommitOne) => {
+            !is_lone(h) && is_veto_end(h, Conn::Begin, Dir::Up)
+        }
         // A message that has no line counts as the end of its connection.
         Entry::Got(c, d, m) => !has_line(c, d, m) && is_veto_end(h, c, d),
         _ => false,

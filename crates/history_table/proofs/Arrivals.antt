@@ -9,7 +9,7 @@ use Rattle.dtx_values.specs.declared.message.Conn.{Conn}
 use Rattle.dtx_values.specs.declared.message.Conn.TheVariants.{Begin, Voter, Enl, Again}
 use Rattle.dtx_values.specs.declared.message.Dir.TheVariants.{Up, Down}
 use Rattle.dtx_values.specs.declared.message.Message.{Message}
-use Rattle.dtx_values.specs.declared.message.Message.TheVariants.{BeginBegun, BeginCommitted, BeginAborted, VoterCreated, VoterRefused, VoterAsk, VoterCommit, VoterAbort, EnlistEnlist, EnlistEnlisted, EnlistRefused, EnlistPrepare, EnlistCommit, EnlistAbort, ReenlistCommitted, ReenlistAborted}
+use Rattle.dtx_values.specs.declared.message.Message.TheVariants.{BeginBegun, BeginCommitted, BeginAborted, BeginInDoubt, VoterCreated, VoterRefused, VoterAsk, VoterCommit, VoterAbort, VoterInDoubt, EnlistEnlist, EnlistEnlisted, EnlistRefused, EnlistPrepare, EnlistCommit, EnlistAbort, EnlistSingle, ReenlistCommitted, ReenlistAborted}
 use Rattle.dtx_values.specs.declared.number.EnlNo.{EnlNo}
 use Rattle.dtx_values.specs.declared.number.RmNo.{RmNo}
 use Rattle.dtx_values.specs.Class.{is_volatile}
@@ -36,7 +36,7 @@ use Rattle.history_table.proofs.HalfKnows.{way_seen}
 use Rattle.history_table.proofs.Deciding.{one_more, seen_half}
 use Rattle.history_table.proofs.Undecided.{Stands, stand}
 use Rattle.history_table.proofs.HalfCalls.{enlisted_stands}
-use Rattle.history_table.proofs.MessageArrivals.{down_stands, open_block, aborted_stands, again_aborted, again_committed, commit_told, committed_stands, enlistment_aborted, prepare_stands, refused_stands}
+use Rattle.history_table.proofs.MessageArrivals.{down_stands, open_block, aborted_stands, again_aborted, again_committed, commit_told, committed_stands, doubted_stands, enlistment_aborted, single_stands, prepare_stands, refused_stands}
 use Rattle.history_table.proofs.Handover.{IsWaitedFor, begun_stands, created_stands, is_unsent, opening_before, over_stands}
 
 -- whose opening message was got came to the coordinator
@@ -136,6 +136,7 @@ begin_got : (t : ℕ) (h : List Entry) (ws : List Waiter) (ms : List (EnlNo × R
 begin_got t h ws ms (BeginBegun u) x k o = begun_stands t h ws ms u (one_more (Got Begin Down (BeginBegun u)) h refl x k.keeps refl) k (o.begun u x)
 begin_got t h ws ms BeginCommitted x k o = committed_stands Begin BeginCommitted h ws ms k.keeps (one_more (Got Begin Down BeginCommitted) h refl x k.keeps refl) refl refl
 begin_got t h ws ms BeginAborted x k o = aborted_stands (Got Begin Down BeginAborted) h ws ms refl (one_more (Got Begin Down BeginAborted) h refl x k.keeps refl) refl
+begin_got t h ws ms BeginInDoubt x k o = doubted_stands Begin BeginInDoubt h ws ms k.keeps (one_more (Got Begin Down BeginInDoubt) h refl x k.keeps refl) refl
 begin_got t h ws ms m x k o = absurd (not_both (has_line Begin Down m) (got_line Begin Down m h (one_more (Got Begin Down m) h refl x k.keeps refl)) refl)
 
 voter_got : (t : ℕ) (h : List Entry) (ws : List Waiter) (ms : List (EnlNo × RmNo)) (m : Message) → MayCross h (Got Voter Down m) → Stands h → ComeOnce h → IsWaitedFor h ws
@@ -145,6 +146,7 @@ voter_got t h ws ms (VoterRefused cause) x k o w = refused_stands (Got Voter Dow
 voter_got t h ws ms VoterAsk x k o w = stand (Got Voter Down VoterAsk) h refl x k refl (λ g. g)
 voter_got t h ws ms VoterCommit x k o w = committed_stands Voter VoterCommit h ws ms k.keeps (one_more (Got Voter Down VoterCommit) h refl x k.keeps refl) refl refl
 voter_got t h ws ms VoterAbort x k o w = aborted_stands (Got Voter Down VoterAbort) h ws ms refl (one_more (Got Voter Down VoterAbort) h refl x k.keeps refl) refl
+voter_got t h ws ms VoterInDoubt x k o w = doubted_stands Voter VoterInDoubt h ws ms k.keeps (one_more (Got Voter Down VoterInDoubt) h refl x k.keeps refl) refl
 voter_got t h ws ms m x k o w = absurd (not_both (has_line Voter Down m) (got_line Voter Down m h (one_more (Got Voter Down m) h refl x k.keeps refl)) refl)
 
 enlist_got : (t : ℕ) (h : List Entry) (ws : List Waiter) (ms : List (EnlNo × RmNo)) (e : EnlNo) (m : Message) → MayCross h (Got (Enl e) Down m) → Stands h → ComeOnce h → IsWaitedFor h ws
@@ -156,6 +158,7 @@ enlist_got t h ws ms e (EnlistRefused cause) x k o w = refused_stands (Got (Enl 
 enlist_got t h ws ms e EnlistPrepare x k o w = prepare_stands h e x k (o.prepared e x)
 enlist_got t h ws ms e EnlistCommit x k o w = commit_told h e x k
 enlist_got t h ws ms e EnlistAbort x k o w = enlistment_aborted h ws ms e (one_more (Got (Enl e) Down EnlistAbort) h refl x k.keeps refl)
+enlist_got t h ws ms e EnlistSingle x k o w = single_stands h ws ms e x k
 enlist_got t h ws ms e m x k o w = absurd (not_both (has_line (Enl e) Down m) (got_line (Enl e) Down m h (one_more (Got (Enl e) Down m) h refl x k.keeps refl)) refl)
 
 again_got : (t : ℕ) (h : List Entry) (ws : List Waiter) (ms : List (EnlNo × RmNo)) (e : EnlNo) (m : Message) → MayCross h (Got (Again e) Down m) → Stands h

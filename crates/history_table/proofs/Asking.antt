@@ -1,53 +1,53 @@
 -- COMMIT comes once, and so does each enlistment's PREPARE: COMMIT is sent after the seal, or where a promotable requests it, and PREPARE to each desk after COMMIT.
 use Rattle.std.proofs.Common.{◌≡◌, ℕ, zero, suc, ◌==◌, Bool, true, false, ◌&&◌, ◌||◌, ◌⊎◌, inl, inr, List, [], ◌∷◌, ◌++◌, Option, Some, None, refl, sym, subst, ap, ◌∙◌}
-use Rattle.std.specs.Prelude.{not, filter, find, is_some, map, if◌then◌else◌, nat_lt}
+use Rattle.std.specs.Prelude.{not, filter, is_some, map, if◌then◌else◌, nat_lt}
 use Rattle.std.specs.List.{slice_get}
 use Rattle.std.proofs.lemmas.Bool.{eqb-true, false_from_ne_true, or_left}
 use Rattle.dtx_values.specs.declared.entry.Entry.{Entry}
 use Rattle.dtx_values.specs.declared.entry.Entry.TheVariants.{Called, Down as Ended, Enlisted, Got, Requested, Restarted, Sealed, Sent, Stopped}
 use Rattle.dtx_values.specs.declared.message.Conn.{Conn}
 use Rattle.dtx_values.specs.declared.message.Conn.TheVariants.{Begin, Voter, Enl, Again}
-use Rattle.dtx_values.specs.declared.message.Dir.{Dir}
 use Rattle.dtx_values.specs.declared.message.Dir.TheVariants.{Up, Down}
 use Rattle.dtx_values.specs.declared.message.Message.{Message}
-use Rattle.dtx_values.specs.declared.message.Message.TheVariants.{BeginBegin, BeginCommit, VoterAsk, EnlistAck, EnlistEnlist, EnlistPrepare, ReenlistAck}
+use Rattle.dtx_values.specs.declared.message.Message.TheVariants.{BeginBegin, BeginCommit, BeginCommitOne, EnlistOneAborted, VoterAsk, EnlistAck, EnlistEnlist, EnlistPrepare, ReenlistAck}
 use Rattle.dtx_values.specs.declared.note.Note.TheVariants.{Hand, Single}
 use Rattle.dtx_values.specs.declared.note.Reply.{Reply}
 use Rattle.dtx_values.specs.declared.note.Reply.TheVariants.{Owner as OwnerReply}
 use Rattle.dtx_values.specs.declared.number.EnlNo.{EnlNo}
-use Rattle.dtx_values.specs.declared.row.Row.{Row}
-use Rattle.dtx_values.specs.declared.words.Class.{Class}
 use Rattle.dtx_values.specs.declared.words.Outcome.{Outcome}
 use Rattle.dtx_values.specs.Class.{is_promotable}
 use Rattle.dtx_values.specs.Ends.{knows, same_connection, same_direction}
 use Rattle.dtx_values.specs.Lines.{has_line, is_opening}
 use Rattle.dtx_values.specs.Row.{is_of}
 use Rattle.dtx_values.specs.Table.{insert_by}
-use Rattle.dtx_values.specs.Waves.{name_of}
 use Rattle.dtx_model.specs.declared.desk.Ballot.{Ballot}
+use Rattle.dtx_model.specs.declared.desk.Ballot.TheVariants.{Refused}
 use Rattle.dtx_model.specs.declared.desk.Desk.{Desk}
 use Rattle.dtx_model.specs.Words.{always, each, has, onto}
-use Rattle.dtx_model.specs.Entries.{is_commit_got, is_decision, is_promoted, is_sealed}
+use Rattle.dtx_model.specs.Entries.{is_commit_got, is_promoted, is_sealed, is_two_phase_got}
 use Rattle.dtx_model.specs.Observed.{Observed, is_request, observe, rows}
 use Rattle.dtx_model.specs.Promotes.{identifier_of, is_promoting}
 use Rattle.dtx_model.specs.Wires.{MayCross, in_transit}
-use Rattle.dtx_model.specs.Coordinated.{Coordinated, accepts, ballot_of, coordinate, core_got, desk_number, follow, is_active, is_desk_of, is_prepared, may_log, to, to_each, unacked, with_ack, with_ballot}
+use Rattle.dtx_model.specs.Coordinated.{Coordinated, accepts, ballot_of, coordinate, core_got, desk_number, follow, hears_one, is_active, is_desk_of, is_prepared, may_log, to, to_each, unacked, with_ack, with_ballot}
 use Rattle.dtx_model.specs.Half.{Half, to_up}
-use Rattle.dtx_model.specs.Acts.{act_entries, commit_sent, promotable_in}
+use Rattle.dtx_model.specs.Acts.{act_entries, commit_message, commit_sent, promotable_in}
 use Rattle.dtx_model.specs.Arrivals.{local_got}
 use Rattle.dtx_model.specs.Facts.{facts_if, has_facts}
 use Rattle.dtx_model.specs.Replies.{due_of, reply_entries, request_message, request_of}
 use Rattle.dtx_model.specs.World.{World, answer_at, core, facts_at, half}
 use Rattle.dtx_model.specs.Steps.{Step, Calls, Replies, Acts, Coordinates, Delivers, Stops, Restarts, after, block_at, coordinates, delivered, ended_at, restarted}
 use Rattle.dtx_model.proofs.Bools.{and_both, and_left, and_never, and_right, not_both, not_false, not_true, or_case, or_false, or_right}
-use Rattle.history_table.proofs.Tests.{eq_swap, first_of_three, fourth_of_four}
-use Rattle.history_table.proofs.Scans.{each-append, find_none, has_less, has_more}
+use Rattle.history_table.proofs.Tests.{eq_swap, fourth_of_four}
+use Rattle.history_table.proofs.Scans.{each-append, has_less, has_more}
 use Rattle.history_table.proofs.Lists.{has-insert, found_at}
-use Rattle.history_table.proofs.Owned.{has_filter, has_rows}
+use Rattle.history_table.proofs.Owned.{has_filter}
 use Rattle.history_table.proofs.Table.{is_enlist_got, is_opening_got, is_prepare_got, is_there, message_row, rule}
+pub use Rattle.history_table.proofs.Table.{is_commit_sent}
 use Rattle.history_table.proofs.Keeping.{Keeps, before, keeps_before, newest}
 use Rattle.history_table.proofs.Crossed.{is_got_on, is_sent_on}
-use Rattle.history_table.proofs.Recording.{enlisted_unsealed}
+use Rattle.history_table.proofs.Recording.{enlisted_unsealed, two_phase_commit}
+use Rattle.history_table.proofs.HalfRows.{commit_sealed}
+use Rattle.history_table.proofs.Sendings.{sent_row}
 use Rattle.history_table.proofs.Leading.{none_again, next_stands}
 use Rattle.history_table.proofs.HalfReplies.{owed}
 use Rattle.history_table.proofs.OnceSent.{first_got, is_first_sent}
@@ -55,14 +55,10 @@ use Rattle.history_table.proofs.BareBlocks.{Bare, Requests, Seals, act_kind, bar
 use Rattle.dtx_model.proofs.Quiet.{takes_next}
 use Rattle.history_table.proofs.Messages.{COMMIT, PREPARE}
 use Rattle.history_table.proofs.EntryTests.{has_promotable}
-use Rattle.history_table.proofs.HalfOwner.{enlist_opening}
+use Rattle.history_table.proofs.HalfOwner.{enlist_opening, none_promotable, rows_promotable}
 
 no : false ≡ true → ⊥
 no e = absurd cc
-
--- COMMIT is sent; PREPARE is sent to this enlistment
-abbrev pub is_commit_sent : Entry → Bool
-is_commit_sent x = is_sent_on Begin Up COMMIT x
 
 -- where COMMIT is sent it was requested, or nothing is promotable
 abbrev pub is_lone : List Entry → Entry → Bool
@@ -124,19 +120,8 @@ bare_onto h (x ∷ es) b i =
     bare_onto (x ∷ h) es (record { proof = and_right (is_bare x) (each is_bare es) b.proof }) (bare_more x h (and_left (is_bare x) (each is_bare es) b.proof) i)
 
 -- COMMIT is sent after the seal
-sent_is : (x : Entry) → is_commit_sent x ≡ true → x ≡ Sent Begin Up BeginCommit
-sent_is (Sent c r m) t = by c r m (and_left (same_connection Begin c && same_direction Up r) (COMMIT m) t) (and_right (same_connection Begin c && same_direction Up r) (COMMIT m) t)
-  where
-    by : (c : Conn) (r : Dir) (m : Message) → (same_connection Begin c && same_direction Up r) ≡ true → COMMIT m ≡ true → Sent c r m ≡ Sent Begin Up BeginCommit
-    by Begin Up BeginCommit s t = refl
-    by _ _ _ s t = absurd cc
-sent_is _ t = absurd (no t)
-
-commit_row : (h : List Entry) → rule h (Sent Begin Up BeginCommit) ≡ true → has is_sealed h ≡ true
-commit_row h r = first_of_three (has is_sealed h) (has is_promoted h) (not (has is_decision h)) (fourth_of_four true (has is_promoting h) (is_there h Begin Up BeginCommit) _ r)
-
 sent_sealed : (x : Entry) (h : List Entry) → Keeps h → rule h x ≡ true → is_commit_sent x ≡ true → has is_sealed h ≡ true
-sent_sealed x h k r t = let P : Entry → Type 0 = λ y. rule h y ≡ true in commit_row h (subst P (sent_is x t) r)
+sent_sealed x h k r t = sent_row Begin Up COMMIT (λ g. has is_sealed g) commit_sealed x h k r t
 
 sealed_there : (h : List Entry) → Keeps h → has is_commit_sent h ≡ true → has is_sealed h ≡ true
 sealed_there h k t = before is_commit_sent is_sealed sent_sealed h k t
@@ -157,16 +142,6 @@ lone_there (x ∷ h) k l t =
     (λ a. lone_more x h (newest x h k) (sealed_there h past a) (lone_there h past (and_right (is_lone h x) (always is_lone h) l) a)) t
 
 -- The seal.
-named_none : (xs : List Row) → is_some (promotable_in xs) ≡ false → has (λ x. is_promotable x.class) xs ≡ false
-named_none xs t = find_none (λ x. is_promotable x.class) xs (by (find (λ x. is_promotable x.class) xs) t)
-  where
-    by : (o : Option Row) → is_some (name_of o) ≡ false → o ≡ None
-    by (Some x) t = absurd cc
-    by None t = refl
-
-rows_promotable : (h : List Entry) → has (λ x. is_promotable x.class) (rows h) ≡ has_promotable h
-rows_promotable h = has_rows (λ (f : EnlNo) (c : Class). is_promotable c) h
-
 asked_up : (o : Observed) (h : List Entry) (m : Message) → IsAsking h → (COMMIT m ≡ true → (has is_commit_sent h ≡ false) × ((has is_request h || not (has_promotable h)) ≡ true)) → IsAsking (onto h (to_up o Begin m))
 asked_up o h m i f = by (knows Begin o.ends)
   where
@@ -183,12 +158,12 @@ seal_asking h v q k s i =
     let unsealed : has is_sealed h ≡ false = subst S q s.0 in
     subst P (sym s.1) (subst C (sym q) (by (has is_promoted h) (is_some (promotable_in (rows h))) refl unsealed))
   where
-    by : (b c : Bool) → is_some (promotable_in (rows h)) ≡ c → has is_sealed h ≡ false → IsAsking (onto (Sealed ∷ h) (if b && not c then to_up (observe h) Begin BeginCommit else []))
+    by : (b c : Bool) → is_some (promotable_in (rows h)) ≡ c → has is_sealed h ≡ false → IsAsking (onto (Sealed ∷ h) (if b && not c then to_up (observe h) Begin (commit_message (observe h)) else []))
     by true false e u =
-        asked_up (observe h) (Sealed ∷ h) BeginCommit (bare_more Sealed h refl i)
+        asked_up (observe h) (Sealed ∷ h) (commit_message (observe h)) (bare_more Sealed h refl i)
         (λ t. (
           false_from_ne_true (has is_commit_sent h) (λ a. not_both (has is_sealed h) (sealed_there h k a) u),
-          or_right (has is_request h) (not (has_promotable h)) (not_false (has_promotable h) (sym (rows_promotable h) ∙ named_none (rows h) e)),
+          or_right (has is_request h) (not (has_promotable h)) (not_false (has_promotable h) (none_promotable h e)),
         ))
     by true true e u = bare_more Sealed h refl i
     by false c e u = bare_more Sealed h refl i
@@ -330,7 +305,7 @@ cast_same e (Some b) d = by (is_desk_of e d)
     by false = refl
 
 -- a desk is of an enlistment whose ENLIST was got
-desk_come : (e : ℕ) (h : List Entry) → has (is_desk_of e) (coordinate h).desks ≡ true → has (is_enlist_got e) h ≡ true
+pub desk_come : (e : ℕ) (h : List Entry) → has (is_desk_of e) (coordinate h).desks ≡ true → has (is_enlist_got e) h ≡ true
 unfolding coordinate follow
 desk_come e [] t = absurd (no t)
 desk_come e (Got (Enl f) Up (EnlistEnlist i) ∷ h) t = by (accepts (coordinate h)) t (desk_come e h)
@@ -343,6 +318,12 @@ desk_come e (Got (Enl f) Up (EnlistEnlist i) ∷ h) t = by (accepts (coordinate 
     by false t g = or_right (e == f.value) (has (is_enlist_got e) h) (g t)
 desk_come e (Got (Enl f) Up EnlistAck ∷ h) t = desk_come e h (sym (has_same (with_ack f.value) (acked_same f.value) e (coordinate h).desks) ∙ t)
 desk_come e (Got (Again f) Up ReenlistAck ∷ h) t = desk_come e h (sym (has_same (with_ack f.value) (acked_same f.value) e (coordinate h).desks) ∙ t)
+desk_come e (Got (Enl f) Up EnlistOneAborted ∷ h) t = by (hears_one (coordinate h) f.value) t (desk_come e h)
+  where
+    by : (b : Bool) → has (is_desk_of e) (if b then map (with_ballot f.value (Some Refused)) (coordinate h).desks else (coordinate h).desks) ≡ true
+        → (has (is_desk_of e) (coordinate h).desks ≡ true → has (is_enlist_got e) h ≡ true) → has (is_enlist_got e) h ≡ true
+    by true t g = g (sym (has_same (with_ballot f.value (Some Refused)) (cast_same f.value (Some Refused)) e (coordinate h).desks) ∙ t)
+    by false t g = g t
 desk_come e (Got (Enl f) Up m ∷ h) t = or_right (is_enlist_got e (Got (Enl f) Up m)) (has (is_enlist_got e) h) (by (is_active (coordinate h).stage) t (desk_come e h))
   where
     by : (b : Bool) → has (is_desk_of e) (if b then map (with_ballot f.value (ballot_of m)) (coordinate h).desks else (coordinate h).desks) ≡ true
@@ -376,6 +357,10 @@ desks_single (Got (Enl f) Up (EnlistEnlist i) ∷ h) k =
     (single_insert new (coordinate h).desks (desk_fresh f (EnlistEnlist i) h past k.wires.0 refl) old) old
 desks_single (Got (Enl f) Up EnlistAck ∷ h) k = single_map (with_ack f.value) (acked_same f.value) (coordinate h).desks (desks_single h (keeps_before (Got (Enl f) Up EnlistAck) h k))
 desks_single (Got (Again f) Up ReenlistAck ∷ h) k = single_map (with_ack f.value) (acked_same f.value) (coordinate h).desks (desks_single h (keeps_before (Got (Again f) Up ReenlistAck) h k))
+desks_single (Got (Enl f) Up EnlistOneAborted ∷ h) k =
+    let old = desks_single h (keeps_before (Got (Enl f) Up EnlistOneAborted) h k) in
+    if_single (hears_one (coordinate h) f.value) (map (with_ballot f.value (Some Refused)) (coordinate h).desks) (coordinate h).desks
+    (single_map (with_ballot f.value (Some Refused)) (cast_same f.value (Some Refused)) (coordinate h).desks old) old
 desks_single (Got (Enl f) Up m ∷ h) k =
     let old = desks_single h (keeps_before (Got (Enl f) Up m) h k) in
     if_single (is_active (coordinate h).stage) (map (with_ballot f.value (ballot_of m)) (coordinate h).desks) (coordinate h).desks
@@ -387,7 +372,7 @@ desks_single (x ∷ h) k = desks_single h (keeps_before x h k)
 
 -- The block of COMMIT.
 prepare_row : (h : List Entry) (c : Conn) (m : Message) → PREPARE m ≡ true → message_row h c m ≡ true → has is_commit_got h ≡ true
-prepare_row h c EnlistPrepare t r = r
+prepare_row h c EnlistPrepare t r = has_more is_two_phase_got is_commit_got two_phase_commit h r
 prepare_row h c _ t r = absurd (no t)
 
 prepare_committed : (e : EnlNo) (x : Entry) (h : List Entry) → Keeps h → rule h x ≡ true → is_sent_on (Enl e) Down PREPARE x ≡ true → has is_commit_got h ≡ true
@@ -397,6 +382,7 @@ prepare_committed e _ h k q t = absurd (no t)
 
 commit_on : (x : Entry) → is_commit_got x ≡ true → is_got_on Begin Up COMMIT x ≡ true
 commit_on (Got Begin Up BeginCommit) t = refl
+commit_on (Got Begin Up BeginCommitOne) t = refl
 commit_on _ t = absurd (no t)
 
 opening_uncommit : (m : Message) → is_opening Begin m ≡ true → COMMIT m ≡ false

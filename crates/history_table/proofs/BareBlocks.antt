@@ -6,27 +6,29 @@ use Rattle.dtx_values.specs.declared.entry.Ask.TheVariants.{Promote, Single as A
 use Rattle.dtx_values.specs.declared.entry.Entry.{Entry}
 use Rattle.dtx_values.specs.declared.entry.Entry.TheVariants.{Asked, Requested, Sealed, OwnerAnswered, Sent, Got, Logged, LogFull, Freed, Stopped, Restarted, Recovered as RecoveredEntry, Cut}
 use Rattle.dtx_values.specs.declared.message.Conn.{Conn}
-use Rattle.dtx_values.specs.declared.message.Conn.TheVariants.{Begin}
+use Rattle.dtx_values.specs.declared.message.Conn.TheVariants.{Begin, Enl, Voter}
 use Rattle.dtx_values.specs.declared.message.Dir.{Dir}
 use Rattle.dtx_values.specs.declared.message.Dir.TheVariants.{Up, Down}
 use Rattle.dtx_values.specs.declared.message.Message.{Message}
-use Rattle.dtx_values.specs.declared.message.Message.TheVariants.{BeginCommit, EnlistPrepare}
+use Rattle.dtx_values.specs.declared.message.Message.TheVariants.{BeginCommit, BeginCommitOne, EnlistOneAborted, EnlistOneCommitted, EnlistOneInDoubt, EnlistPrepare, VoterAsk}
 use Rattle.dtx_values.specs.declared.note.Note.{Note}
 use Rattle.dtx_values.specs.declared.note.Note.TheVariants.{Single}
 use Rattle.dtx_values.specs.declared.note.Reply.{Reply}
 use Rattle.dtx_values.specs.declared.note.Reply.TheVariants.{Owner as OwnerReply}
 use Rattle.dtx_values.specs.declared.number.EnlNo.{EnlNo}
 use Rattle.dtx_values.specs.declared.words.Outcome.{Outcome}
-use Rattle.dtx_model.specs.Coordinated.{Coordinated, core_got}
+use Rattle.dtx_values.specs.declared.words.Outcome.TheVariants.{Aborted, Committed, InDoubt}
+use Rattle.dtx_values.specs.Ends.{knows}
+use Rattle.dtx_model.specs.Coordinated.{Coordinated, accepts, core_got, follow, is_one}
 use Rattle.dtx_model.specs.Half.{Half, sees, to_up}
 use Rattle.dtx_model.specs.Arrivals.{local_got}
 use Rattle.dtx_model.specs.Acts.{commit_sent, act_entries}
-use Rattle.dtx_model.specs.Replies.{due_of, owner_entries, reply_entries, request_message, request_of}
+use Rattle.dtx_model.specs.Replies.{due_of, one_message, owner_entries, reply_entries, request_message, request_of}
 use Rattle.dtx_model.specs.Facts.{facts_if, has_facts}
 use Rattle.dtx_model.specs.World.{World, half, core, facts_at}
 use Rattle.dtx_model.specs.Steps.{LogAnswer, appended, ended_at, freed, restarted}
-use Rattle.dtx_model.proofs.Writes.{Each, e_cons, e_if, e_one, IsClosed, each_closed, Source, ByCall, ByReply, ByMessage, ByAct, requests, sends, writes, is_outcome_message, is_asking, answers}
-use Rattle.dtx_model.proofs.Blocks.{of_core_got, of_core_down, of_appended, of_freed, of_restarted, of_local_down, of_arrived, of_act, of_reply, of_called}
+use Rattle.dtx_model.proofs.Writes.{Each, e_cons, e_if, e_none, e_one, IsClosed, each_closed, Source, ByCall, ByReply, ByMessage, ByAct, requests, sends, writes, is_outcome_message, is_asking, answers}
+use Rattle.dtx_model.proofs.Blocks.{of_abort_sends, of_core_got, of_to, of_core_down, of_appended, of_freed, of_restarted, of_local_down, of_arrived, of_act, of_reply, of_called}
 use Rattle.dtx_model.proofs.Bools.{and_right, not_both}
 use Rattle.dtx_values.specs.Lines.{has_line}
 use Rattle.history_table.proofs.Messages.{COMMIT, PREPARE}
@@ -55,6 +57,7 @@ bare = each_closed is_bare refl (λ x. refl) (λ n x. refl) refl refl
 -- so are the entries of blocks, but where an owner's answer is requested
 bare_up : (s : Source) → requests s ≡ false → (m : Message) → sends s m ≡ true → not (COMMIT m) ≡ true
 bare_up s r BeginCommit t = absurd (not_both (requests s) t r)
+bare_up s r BeginCommitOne t = absurd cc
 bare_up s r _ t = refl
 
 bare_entry : (s : Source) → requests s ≡ false → (x : Entry) → writes s x ≡ true → Bare (x ∷ [])
@@ -65,7 +68,12 @@ bare_entry s r x t = bare_one x (passes x t)
     passes (Sent c Down m) t = absurd cc
     passes _ t = refl
 
--- what the coordinator sends after a message that isn't COMMIT
+-- COMMIT for two phases, after which all are asked to prepare
+abbrev pub is_preparing : Conn → Message → Bool
+is_preparing Begin BeginCommit = true
+is_preparing _ _ = false
+
+-- what the coordinator sends after another message
 bare_answer : (c : Conn) (m : Message) → is_asking c m ≡ false → (n : Message) → answers c m n ≡ true → not (PREPARE n) ≡ true
 bare_answer c m k EnlistPrepare t = absurd (not_both (is_asking c m) t k)
 bare_answer c m k _ t = refl
@@ -77,8 +85,19 @@ bare_sent c m l o = bare_one (Sent c Down m) (passes m o)
     passes EnlistPrepare o = absurd cc
     passes _ o = refl
 
-pub bare_core_got : (id : ℕ) (k : Coordinated) (c : Conn) (m : Message) → is_asking c m ≡ false → Bare (core_got id k c m)
-bare_core_got id k c m n = of_core_got (bare.lists []) id k c m (λ d i l a. bare_one (Sent d Down i) (bare_answer c m n i a))
+bare_one_phase : (id : ℕ) (k : Coordinated) → Bare (core_got id k Begin BeginCommitOne)
+unfolding core_got
+bare_one_phase id k =
+    bare_if (not (accepts k)) e_none
+    (bare_if (is_one k.desks) (of_to (bare.lists []) k Voter VoterAsk (bare_one (Sent Voter Down VoterAsk) refl)) (of_abort_sends (bare.lists []) (follow k (Got Begin Up BeginCommitOne)) bare_sent))
+
+bare_other : (id : ℕ) (k : Coordinated) (c : Conn) (m : Message) → is_asking c m ≡ false → Bare (core_got id k c m)
+bare_other id k c m n = of_core_got (bare.lists []) id k c m (λ d i l a. bare_one (Sent d Down i) (bare_answer c m n i a))
+
+pub bare_core_got : (id : ℕ) (k : Coordinated) (c : Conn) (m : Message) → is_preparing c m ≡ false → Bare (core_got id k c m)
+bare_core_got id k Begin BeginCommit n = absurd cc
+bare_core_got id k Begin BeginCommitOne n = bare_one_phase id k
+bare_core_got id k c m n = bare_other id k c m refl
 
 pub bare_local_got : (t : ℕ) (h : Half) (c : Conn) (m : Message) → Bare (local_got t h c m)
 unfolding local_got
@@ -104,7 +123,12 @@ Requests h e es = (x : Outcome) × (due_of h.seen e.value ≡ Some Single) × (e
 
 owner_kind : (h : Half) (e : EnlNo) (x : Outcome) (n : Option Note) → due_of h.seen e.value ≡ n → Bare (owner_entries h e x n) ⊎ Requests h e (owner_entries h e x n)
 owner_kind h e x (Some Single) d = inr (x, d, refl)
-owner_kind h e x _ d = inl (bare_cons (OwnerAnswered e x) refl (bare.decides h x))
+owner_kind h e x _ d = inl (bare_cons (OwnerAnswered e x) refl (bare_if h.seen.promoted (bare_if (knows (Enl e) h.seen.ends) (bare_said x) e_none) (bare.decides h x)))
+  where
+    bare_said : (y : Outcome) → Bare (Sent (Enl e) Up (one_message y) ∷ [])
+    bare_said Committed = bare_one (Sent (Enl e) Up EnlistOneCommitted) refl
+    bare_said Aborted = bare_one (Sent (Enl e) Up EnlistOneAborted) refl
+    bare_said InDoubt = bare_one (Sent (Enl e) Up EnlistOneInDoubt) refl
 
 -- a reply sends no COMMIT, or requests
 pub reply_kind : (h : Half) (e : EnlNo) (r : Reply) → Bare (reply_entries h e r) ⊎ Requests h e (reply_entries h e r)

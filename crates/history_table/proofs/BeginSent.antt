@@ -1,5 +1,5 @@
 -- The coordinator knows of a transaction, and stops there, only once BEGIN was sent.
-use Rattle.std.proofs.Common.{Bool, ◌||◌, true, false, ◌≡◌, if◌then◌else◌, ◌&&◌, List, [], ◌∷◌, refl, ℕ, is_some, ◌⊎◌, inl, inr, ◌∙◌, ap, sym, subst, not}
+use Rattle.std.proofs.Common.{Bool, ◌||◌, true, false, ◌≡◌, ◌&&◌, List, [], ◌∷◌, refl, ℕ, is_some, ◌⊎◌, inl, inr, ◌∙◌, ap, sym, subst, not}
 use Rattle.std.proofs.lemmas.Bool.{or_left}
 use Rattle.dtx_values.specs.declared.call.Call.{Call}
 use Rattle.dtx_values.specs.declared.entry.Answer.{Answer}
@@ -11,17 +11,15 @@ use Rattle.dtx_values.specs.declared.message.Conn.TheVariants.{Begin, Voter, Enl
 use Rattle.dtx_values.specs.declared.message.Dir.{Dir}
 use Rattle.dtx_values.specs.declared.message.Dir.TheVariants.{Up, Down}
 use Rattle.dtx_values.specs.declared.message.Message.{Message}
-use Rattle.dtx_values.specs.declared.message.Message.TheVariants.{BeginBegin, BeginCommit}
+use Rattle.dtx_values.specs.declared.message.Message.TheVariants.{BeginBegin}
 use Rattle.dtx_values.specs.declared.note.Reply.{Reply}
 use Rattle.dtx_values.specs.declared.number.ActorNo.{ActorNo}
 use Rattle.dtx_values.specs.declared.number.EnlNo.{EnlNo}
 use Rattle.dtx_values.specs.Lines.{has_line}
-use Rattle.dtx_model.specs.declared.desk.Stage.{Stage}
-use Rattle.dtx_model.specs.declared.desk.Stage.TheVariants.{Aborted}
 use Rattle.dtx_model.specs.Words.{each, has}
 use Rattle.dtx_model.specs.Promotes.{identifier_of}
 use Rattle.dtx_model.specs.Wires.{in_transit}
-use Rattle.dtx_model.specs.Coordinated.{Coordinated, is_active, is_recorded, aborts, follow, is_undecided, follow_all, core_got, is_ready, may_log, is_finished, is_prepared, may_free, coordinate}
+use Rattle.dtx_model.specs.Coordinated.{Coordinated, is_active, is_recorded, follow, follow_all, stage_after, core_got, is_ready, may_log, is_finished, is_prepared, may_free, coordinate}
 use Rattle.dtx_model.specs.Half.{Half, sees}
 use Rattle.dtx_model.specs.Arrivals.{local_got}
 use Rattle.dtx_model.specs.Acts.{act_entries}
@@ -36,6 +34,8 @@ use Rattle.dtx_model.proofs.Heeding.{core_behind}
 use Rattle.dtx_model.proofs.Reading.{has-onto}
 use Rattle.dtx_model.proofs.Writes.{Each, IsClosed, each_closed, Source, e_one, writes, is_outcome_message, ByMessage, ByAct, ByReply, ByCall, e_cons}
 use Rattle.history_table.proofs.Crossed.{is_sent_on, came}
+use Rattle.history_table.proofs.CoreStages.{is_marking, stage_step}
+use Rattle.history_table.proofs.Table.{is_opening_got}
 use Rattle.history_table.proofs.Messages.{BEGIN}
 use Rattle.history_table.proofs.Scans.{has_more}
 
@@ -51,9 +51,25 @@ is_mild Stopped = false
 is_mild (Restarted found) = false
 is_mild _ = true
 
-stage_same : (b : Bool) (s : Stage) (stopped : Bool) → (is_active (if b then Aborted else s) || is_recorded (if b then Aborted else s) || stopped) ≡ true → (is_active s || is_recorded s || stopped) ≡ true
-stage_same true s stopped e = or_right (is_active s || is_recorded s) stopped e
-stage_same false s stopped e = e
+opening_wild : (x : Entry) → is_opening_got Begin x ≡ true → is_mild x ≡ true → ⊥
+opening_wild (Got Begin Up BeginBegin) o m = absurd cc
+opening_wild (Got c Up n) o m = absurd cc
+opening_wild _ o m = absurd cc
+
+stage_same : (k : Coordinated) (x : Entry) → is_marking x ≡ false → is_mild x ≡ true → (is_active (stage_after k x) || is_recorded (stage_after k x) || k.stopped) ≡ true
+    → (is_active k.stage || is_recorded k.stage || k.stopped) ≡ true
+stage_same k x n m =
+    stage_step (λ s. (is_active s || is_recorded s || k.stopped) ≡ true → (is_active k.stage || is_recorded k.stage || k.stopped) ≡ true) k x n
+    (record {
+      stays = λ u. u;
+      begun = λ o q u. absurd (opening_wild x o m);
+      aborted = λ q u. or_right (is_active k.stage || is_recorded k.stage) k.stopped u;
+      alone = λ a o q u. or_right (is_active k.stage || is_recorded k.stage) k.stopped u;
+      several = λ a o q u. or_right (is_active k.stage || is_recorded k.stage) k.stopped u;
+      lets = λ a q u. or_right (is_active k.stage || is_recorded k.stage) k.stopped u;
+      answers = λ e q u. or_right (is_active k.stage || is_recorded k.stage) k.stopped u;
+      refuses = λ e r q u. or_right (is_active k.stage || is_recorded k.stage) k.stopped u;
+    })
 
 mild_knows : (k : Coordinated) (x : Entry) → is_mild x ≡ true → knows (follow k x) ≡ true → knows k ≡ true
 unfolding follow
@@ -62,7 +78,7 @@ mild_knows k Logged m e = absurd cc
 mild_knows k Stopped m e = absurd cc
 mild_knows k (Restarted found) m e = absurd cc
 mild_knows k Freed m e = or_right (is_active k.stage || is_recorded k.stage) k.stopped e
-mild_knows k x m e = stage_same (aborts k x && is_undecided k.stage) k.stage k.stopped e
+mild_knows k x m e = stage_same k x refl m e
 
 block_knows : (k : Coordinated) (es : List Entry) → each is_mild es ≡ true → knows (follow_all k es) ≡ true → knows k ≡ true
 unfolding follow_all
@@ -101,7 +117,7 @@ mild_ended_at w c Down = of_local_down mild (half w) c
 mild_act : (h : Half) → Each is_mild (act_entries h)
 mild_act h =
     of_whole_act mild h (mild_entry (ByAct (is_some h.seen.decided))) (λ e. e_one (Asked e Promote) refl) (λ e. e_one (Asked e AskSingle) refl) (e_one Sealed refl)
-    (e_one (Sent Begin Up BeginCommit) refl)
+    (λ m q. e_one (Sent Begin Up m) refl)
 
 mild_reply : (h : Half) (e : EnlNo) (r : Reply) → Each is_mild (reply_entries h e r)
 mild_reply h e r = of_reply mild h e r (mild_entry (ByReply r))

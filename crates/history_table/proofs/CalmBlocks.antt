@@ -11,7 +11,7 @@ use Rattle.dtx_values.specs.declared.message.Conn.TheVariants.{Begin, Voter}
 use Rattle.dtx_values.specs.declared.message.Dir.{Dir}
 use Rattle.dtx_values.specs.declared.message.Dir.TheVariants.{Up, Down}
 use Rattle.dtx_values.specs.declared.message.Message.{Message}
-use Rattle.dtx_values.specs.declared.message.Message.TheVariants.{BeginCommit, BeginAbort, VoterNo}
+use Rattle.dtx_values.specs.declared.message.Message.TheVariants.{BeginAbort, VoterNo}
 use Rattle.dtx_values.specs.declared.note.Reply.{Reply}
 use Rattle.dtx_values.specs.declared.number.EnlNo.{EnlNo}
 use Rattle.dtx_model.specs.Waiting.{Waiter}
@@ -32,7 +32,7 @@ use Rattle.dtx_model.proofs.Blocks.{of_core_got, of_core_down, of_coordinates, o
 use Rattle.dtx_values.specs.Lines.{has_line}
 use Rattle.history_table.proofs.Messages.{ENLIST}
 use Rattle.history_table.proofs.DecidingBlocks.{Keeps, is_kept, kept, kept_entry, kept_one, rest_join}
-use Rattle.history_table.proofs.PlainBlocks.{plain_up}
+use Rattle.history_table.proofs.PlainBlocks.{plain_commit, plain_up}
 
 -- the entry is no call, begins or ends no promotion well, is no seal, and sends no ENLIST
 abbrev pub is_slow : Entry → Bool
@@ -103,7 +103,7 @@ calm_ended_at w c Up = of_core_down (calm.lists []) (core w) c calm_sent
 calm_ended_at w c Down = of_local_down calm (half w) c
 
 pub calm_commit_sent : (o : Observed) → Calm (commit_sent o)
-calm_commit_sent o = of_commit_sent calm [] o (calm_one (Sent Begin Up BeginCommit) refl)
+calm_commit_sent o = of_commit_sent calm [] o (λ m c. both_calm (e_one (Sent Begin Up m) (plain_commit m c)) (kept_one {ws = []} (Sent Begin Up m) refl))
 
 -- the block seals, where nothing is under way and nothing decided
 abbrev pub Seals : Half → List Entry → Type 0

@@ -1,6 +1,6 @@
 -- The coordinator's blocks keep the table: what it does after a message or an end, its append and its free, stops and restarts. Of an ENLIST that comes this needs that COMMIT didn't
 -- come before, which the local side sees to.
-use Rattle.std.proofs.Common.{Bool, true, false, List, ◌≡◌, refl, ◌∷◌, ◌&&◌, [], ◌++◌, ◌||◌, ℕ, sym, ◌∙◌, ap}
+use Rattle.std.proofs.Common.{Bool, true, false, List, ◌≡◌, refl, ◌∷◌, ◌&&◌, [], ◌++◌, ◌||◌, ◌==◌, ℕ, sym, subst, ◌∙◌, ap}
 use Rattle.std.specs.Prelude.{if◌then◌else◌, filter, not}
 use Rattle.std.specs.List.{flat_map}
 use Rattle.std.proofs.lemmas.Bool.{or_left, false_from_ne_true}
@@ -10,7 +10,7 @@ use Rattle.dtx_values.specs.declared.message.Conn.{Conn}
 use Rattle.dtx_values.specs.declared.message.Conn.TheVariants.{Enl, Again, Begin, Voter}
 use Rattle.dtx_values.specs.declared.message.Dir.TheVariants.{Down, Up}
 use Rattle.dtx_values.specs.declared.message.Message.{Message}
-use Rattle.dtx_values.specs.declared.message.Message.TheVariants.{BeginBegun, BeginCommitted, BeginAborted, VoterCreated, VoterRefused, VoterAsk, VoterCommit, VoterAbort, EnlistEnlisted, EnlistRefused, EnlistPrepare, EnlistCommit, EnlistAbort, ReenlistCommitted, ReenlistAborted, VoterVoter, BeginBegin, BeginCommit, EnlistEnlist, ReenlistReenlist}
+use Rattle.dtx_values.specs.declared.message.Message.TheVariants.{BeginBegun, BeginCommitOne, BeginCommitted, BeginAborted, BeginInDoubt, VoterInDoubt, VoterYes, EnlistOneAborted, EnlistOneCommitted, EnlistOneInDoubt, EnlistSingle, VoterCreated, VoterRefused, VoterAsk, VoterCommit, VoterAbort, EnlistEnlisted, EnlistRefused, EnlistPrepare, EnlistCommit, EnlistAbort, ReenlistCommitted, ReenlistAborted, VoterVoter, BeginBegin, BeginCommit, EnlistEnlist, ReenlistReenlist}
 use Rattle.dtx_values.specs.declared.number.EnlNo.{EnlNo}
 use Rattle.dtx_values.specs.Ends.{same_connection}
 use Rattle.dtx_values.specs.Lines.{has_line, is_opening}
@@ -18,45 +18,53 @@ use Rattle.dtx_values.specs.declared.call.Call.{Call}
 use Rattle.dtx_values.specs.declared.number.ActorNo.{ActorNo}
 use Rattle.dtx_model.specs.declared.desk.Desk.{Desk}
 use Rattle.dtx_model.specs.declared.desk.Stage.{Stage}
-use Rattle.dtx_model.specs.declared.desk.Stage.TheVariants.{Idle, Active, Aborted, Recorded, Over, Unknown}
-use Rattle.dtx_model.specs.Words.{has, each, onto}
-use Rattle.dtx_model.specs.Entries.{is_commit_got, is_record, is_decision, is_promoted, is_sealed}
+use Rattle.dtx_model.specs.declared.desk.Stage.TheVariants.{Idle, Active, Sole, Given, Answered as AnsweredStage, Aborted, Recorded, Over, Unknown}
+use Rattle.dtx_model.specs.Words.{ever, has, each, onto}
+use Rattle.dtx_model.specs.Entries.{is_any_single_sent, is_commit_got, is_one_got, is_record, is_decision, is_promoted, is_sealed, is_single_sent, is_two_phase_got}
+use Rattle.dtx_model.specs.Outcome.{is_lost_single, single_doubt}
 use Rattle.dtx_model.specs.Learned.{coordinator_aborted}
 use Rattle.dtx_model.specs.Promotes.{is_promoting, is_begun_got, is_created_got, is_under_way, identifier_of}
 use Rattle.dtx_model.specs.Tied.{has_mark, is_logged, can_log}
 use Rattle.dtx_model.specs.Wires.{MayCross, is_stopped, in_transit, is_ended, is_lost_wire}
 use Rattle.dtx_model.specs.Caused.{is_begin_sent, is_full_answer, may_coordinate, MayCome}
-use Rattle.dtx_model.specs.Coordinated.{Coordinated, coordinate, to, to_each, to_waiting, abort_sends, still_hears, commit_sends, is_prepared, has_aborted, is_active, is_undecided, opening_by, is_recorded, aborts, core_got, follow, is_enlisting, opening_answer, core_down, is_early, may_log, may_free}
+use Rattle.dtx_model.specs.Coordinated.{Coordinated, abort_block, ended_block, accepts, decides, doubt_sends, has_desk, hears_one, is_desk_of, is_one, is_sole, one_sends, coordinate, to, to_each, to_waiting, abort_sends, still_hears, commit_sends, is_prepared, has_aborted, is_active, is_undecided, opening_by, is_recorded, aborts, core_got, follow, is_enlisting, opening_answer, core_down, may_log, may_free}
 use Rattle.dtx_model.specs.Steps.{Done, Full, LogAnswer, StoppedBefore, StoppedNow, appended, freed, coordinates, restarted, Step, Coordinates, Delivers, Stops, Restarts, delivered, Calls, Replies, Acts, after, block_at}
-use Rattle.dtx_model.proofs.Bools.{and_left, and_right, and_both, or_right, not_false, not_both, not_true}
+use Rattle.dtx_model.proofs.Bools.{and_left, and_right, and_both, or_false, or_right, not_false, not_both, not_true}
+use Rattle.dtx_model.proofs.Writes.{is_letting}
 use Rattle.dtx_model.specs.World.{World, has_left}
 use Rattle.dtx_model.proofs.Quiet.{is_end, takes_next}
-use Rattle.history_table.proofs.Table.{message_row, is_opening_got, rule, ruled, have_come}
-use Rattle.history_table.proofs.Sendings.{aborted_more, promoted_if_commit}
-use Rattle.history_table.proofs.Tests.{four_hold, first_of_four, second_of_four, third_of_four, fourth_of_four, first_of_five, second_of_five, first_of_three, second_of_three}
-use Rattle.history_table.proofs.Scans.{each_more, each-append, has_more}
+use Rattle.history_table.proofs.Table.{message_row, is_aborted_for_good, is_one_aborted, is_one_committed, is_one_in_doubt, is_one_phase_got, is_opening_got, may_let_decide, rule, ruled, have_come}
+use Rattle.history_table.proofs.Sendings.{aborted_more, for_good_more, got_line, promoted_if_commit}
+use Rattle.history_table.proofs.Doubting.{said_more}
+use Rattle.history_table.proofs.LetDecide.{commit_if_single, one_phase_commit}
+use Rattle.history_table.proofs.SinglePhase.{sole_one}
+use Rattle.history_table.proofs.Decides.{decides_sent, decides_silent}
+use Rattle.history_table.proofs.Tests.{eq_self, four_hold, first_of_four, second_of_four, third_of_four, fourth_of_four, first_of_five, second_of_five, first_of_three, second_of_three}
+use Rattle.history_table.proofs.Scans.{each_more, each-append, has_less, has_more}
 use Rattle.history_table.proofs.Keeping.{Keeps, fifth_of_five, before, keeps_before}
-use Rattle.history_table.proofs.CoreStages.{known_got, has_recorded, active_begun, commit_noted, recorded_mark, stopped_same, begun_if_active, active_open}
-use Rattle.history_table.proofs.CoreKnown.{known_promoting, record_seen, got_there, aborted_there, aborts_there, work_begun, begin_was_sent, record_begun, may_log_can}
-use Rattle.history_table.proofs.Recording.{can_commit, if_record}
+use Rattle.history_table.proofs.CoreStages.{known_got, has_recorded, active_begun, commit_noted, is_after_one, one_if_after, recorded_mark, sole_after, sole_open, stopped_same, begun_if_active, active_open}
+use Rattle.history_table.proofs.CoreKnown.{known_promoting, open_single, open_unaborted, record_seen, refuses_there, several_there, got_there, aborted_there, aborts_there, work_begun, begin_was_sent, record_begun, may_log_can}
+use Rattle.history_table.proofs.Recording.{calm_more, can_commit, if_record}
 use Rattle.history_table.proofs.Crossed.{is_got_on}
 use Rattle.history_table.proofs.Leading.{voter_new}
 
--- what a message that the coordinator sends needs before it
+-- what a message that the coordinator sends needs before it; of SINGLE, see below
 abbrev pub down_row : List Entry → Message → Bool
 down_row h (BeginBegun u) = true
-down_row h BeginCommitted = has is_logged h
-down_row h BeginAborted = coordinator_aborted h
+down_row h BeginCommitted = has is_logged h || has is_one_committed h
+down_row h BeginAborted = is_aborted_for_good h
+down_row h BeginInDoubt = single_doubt h || has is_one_in_doubt h
 down_row h VoterCreated = true
-down_row h (VoterRefused cause) = coordinator_aborted h
+down_row h (VoterRefused cause) = is_aborted_for_good h
 down_row h VoterAsk = has is_commit_got h
-down_row h VoterCommit = has is_logged h
-down_row h VoterAbort = coordinator_aborted h
+down_row h VoterCommit = has is_logged h || has is_one_committed h
+down_row h VoterAbort = is_aborted_for_good h
+down_row h VoterInDoubt = single_doubt h || has is_one_in_doubt h
 down_row h EnlistEnlisted = true
-down_row h (EnlistRefused cause) = coordinator_aborted h
-down_row h EnlistPrepare = has is_commit_got h
+down_row h (EnlistRefused cause) = is_aborted_for_good h
+down_row h EnlistPrepare = has is_two_phase_got h
 down_row h EnlistCommit = has is_logged h
-down_row h EnlistAbort = coordinator_aborted h
+down_row h EnlistAbort = is_aborted_for_good h
 down_row h ReenlistCommitted = has_mark h
 down_row h ReenlistAborted = coordinator_aborted h
 down_row h _ = false
@@ -65,11 +73,13 @@ down_message : (h : List Entry) (c : Conn) (m : Message) → down_row h m ≡ tr
 down_message h c (BeginBegun u) t = refl
 down_message h c BeginCommitted t = t
 down_message h c BeginAborted t = t
+down_message h c BeginInDoubt t = t
 down_message h c VoterCreated t = refl
 down_message h c (VoterRefused cause) t = t
 down_message h c VoterAsk t = t
 down_message h c VoterCommit t = t
 down_message h c VoterAbort t = t
+down_message h c VoterInDoubt t = t
 down_message h c EnlistEnlisted t = refl
 down_message h c (EnlistRefused cause) t = t
 down_message h c EnlistPrepare t = t
@@ -80,14 +90,16 @@ down_message h c ReenlistAborted t = t
 down_message h c _ t = absurd cc
 
 -- it stays met where the coordinator sends
-down_more : (h : List Entry) (e : Conn) (n m : Message) → down_row h m ≡ true → down_row (Sent e Down n ∷ h) m ≡ true
-down_more h e n BeginAborted t = aborted_more (Sent e Down n) h t
-down_more h e n (VoterRefused cause) t = aborted_more (Sent e Down n) h t
-down_more h e n VoterAbort t = aborted_more (Sent e Down n) h t
-down_more h e n (EnlistRefused cause) t = aborted_more (Sent e Down n) h t
-down_more h e n EnlistAbort t = aborted_more (Sent e Down n) h t
-down_more h e n ReenlistAborted t = aborted_more (Sent e Down n) h t
-down_more h e n _ t = t
+down_more : (h : List Entry) (e : Conn) (n m : Message) → rule h (Sent e Down n) ≡ true → down_row h m ≡ true → down_row (Sent e Down n ∷ h) m ≡ true
+down_more h e n BeginAborted r t = for_good_more (Sent e Down n) h r t
+down_more h e n BeginInDoubt r t = said_more (Sent e Down n) h t
+down_more h e n (VoterRefused cause) r t = for_good_more (Sent e Down n) h r t
+down_more h e n VoterAbort r t = for_good_more (Sent e Down n) h r t
+down_more h e n VoterInDoubt r t = said_more (Sent e Down n) h t
+down_more h e n (EnlistRefused cause) r t = for_good_more (Sent e Down n) h r t
+down_more h e n EnlistAbort r t = for_good_more (Sent e Down n) h r t
+down_more h e n ReenlistAborted r t = aborted_more (Sent e Down n) h t
+down_more h e n _ r t = t
 
 -- the coordinator may send so: the message has a line, it is of a promotion, and the connection's opening message was got
 abbrev pub may_send : List Entry → Entry → Bool
@@ -109,7 +121,7 @@ send_more h (Sent e Down n) (Sent c Down m) s t =
     let p = has is_promoting h in
     let o = has (is_opening_got c) h in
     let r = down_row h m in
-    four_hold l p o (down_row (Sent e Down n ∷ h) m) (first_of_four l p o r t) (second_of_four l p o r t) (third_of_four l p o r t) (down_more h e n m (fourth_of_four l p o r t))
+    four_hold l p o (down_row (Sent e Down n ∷ h) m) (first_of_four l p o r t) (second_of_four l p o r t) (third_of_four l p o r t) (down_more h e n m (send_rule h (Sent e Down n) s) (fourth_of_four l p o r t))
 send_more h (Sent e Down n) _ s t = absurd cc
 send_more h _ x s t = absurd cc
 
@@ -168,33 +180,47 @@ s_waiting : {h : List Entry} (k : Coordinated) (m : Message) → IsHeld k h → 
 s_waiting k m i l r = s_flat (λ e. to k (Again e) m) (λ e. s_to k (Again e) m i (l e) r) k.waits
 
 -- what it sends where it aborts, and where it recorded the commit
-s_abort : {h : List Entry} (k : Coordinated) → IsHeld k h → coordinator_aborted h ≡ true → MaySend h (abort_sends k)
-s_abort k i a =
+s_abort : {h : List Entry} (k : Coordinated) → IsHeld k h → is_aborted_for_good h ≡ true → MaySend h (abort_sends k)
+s_abort {h} k i a =
     s_join (s_join (s_join (s_to k Begin BeginAborted i refl a) (s_if k.no (λ t. s_none) (λ t. s_to k Voter VoterAbort i refl a)))
-    (s_each k EnlistAbort (filter (λ d. still_hears d.ballot) k.desks) i (λ e. refl) a)) (s_waiting k ReenlistAborted i (λ e. refl) a)
+    (s_each k EnlistAbort (filter (λ d. still_hears d.ballot) k.desks) i (λ e. refl) a)) (s_waiting k ReenlistAborted i (λ e. refl) (and_left (coordinator_aborted h) (not (has is_any_single_sent h) || has is_one_aborted h) a))
 
 s_commit : {h : List Entry} (k : Coordinated) → IsHeld k h → has is_logged h ≡ true → has_mark h ≡ true → MaySend h (commit_sends k)
-s_commit k i l r =
-    s_join (s_join (s_join (s_to k Begin BeginCommitted i refl l) (s_to k Voter VoterCommit i refl l)) (s_each k EnlistCommit (filter (λ d. is_prepared d.ballot) k.desks) i (λ e. refl) l))
+s_commit {h} k i l r =
+    s_join (s_join (s_join (s_to k Begin BeginCommitted i refl (or_left (has is_logged h) (has is_one_committed h) l)) (s_to k Voter VoterCommit i refl (or_left (has is_logged h) (has is_one_committed h) l))) (s_each k EnlistCommit (filter (λ d. is_prepared d.ballot) k.desks) i (λ e. refl) l))
     (s_waiting k ReenlistCommitted i (λ e. refl) r)
 
--- The answer to VOTER and to ENLIST.
-stage_open : (s : Stage) (b : Bool) → has_recorded s ≡ false → (is_undecided s ≡ true → is_active s ≡ true) → (is_active s ≡ true → b ≡ false) → ((is_active s && not b) || has_aborted s) ≡ true
-stage_open Idle b r f g = f refl
-stage_open Active b r f g = or_left (not b) false (not_false b (g refl))
-stage_open Aborted b r f g = refl
-stage_open Unknown b r f g = refl
-stage_open Recorded b r f g = absurd cc
-stage_open Over b r f g = absurd cc
+-- and where its one enlistment committed, or is in doubt
+s_one : {h : List Entry} (k : Coordinated) → IsHeld k h → has is_one_committed h ≡ true → MaySend h (one_sends k)
+s_one {h} k i o =
+    s_join (s_to k Begin BeginCommitted i refl (or_right (has is_logged h) (has is_one_committed h) o)) (s_to k Voter VoterCommit i refl (or_right (has is_logged h) (has is_one_committed h) o))
 
-answer_row : (h : List Entry) (good abort : Message) (refused : ℕ → Message) → down_row h good ≡ true → (coordinator_aborted h ≡ true → down_row h abort ≡ true)
-    → (coordinator_aborted h ≡ true → (n : ℕ) → down_row h (refused n) ≡ true) → (s : Stage) (b : Bool) → ((is_active s && not b) || has_aborted s) ≡ true
-    → (has_aborted s ≡ true → coordinator_aborted h ≡ true) → down_row h (opening_by s b good abort refused) ≡ true
+s_doubt : {h : List Entry} (k : Coordinated) → IsHeld k h → (single_doubt h || has is_one_in_doubt h) ≡ true → MaySend h (doubt_sends k)
+s_doubt k i d = s_join (s_to k Begin BeginInDoubt i refl d) (s_to k Voter VoterInDoubt i refl d)
+
+-- The answer to VOTER and to ENLIST.
+stage_open : (s : Stage) (b : Bool) → has_recorded s ≡ false → is_after_one s ≡ false → (is_undecided s ≡ true → is_active s ≡ true) → (is_active s ≡ true → b ≡ false) → ((is_active s && not b) || has_aborted s) ≡ true
+stage_open Idle b r n f g = f refl
+stage_open Active b r n f g = or_left (not b) false (not_false b (g refl))
+stage_open Aborted b r n f g = refl
+stage_open Unknown b r n f g = refl
+stage_open Sole b r n f g = absurd cc
+stage_open Given b r n f g = absurd cc
+stage_open AnsweredStage b r n f g = absurd cc
+stage_open Recorded b r n f g = absurd cc
+stage_open Over b r n f g = absurd cc
+
+answer_row : (h : List Entry) (good abort : Message) (refused : ℕ → Message) → down_row h good ≡ true → (is_aborted_for_good h ≡ true → down_row h abort ≡ true)
+    → (is_aborted_for_good h ≡ true → (n : ℕ) → down_row h (refused n) ≡ true) → (s : Stage) (b : Bool) → ((is_active s && not b) || has_aborted s) ≡ true
+    → (has_aborted s ≡ true → is_aborted_for_good h ≡ true) → down_row h (opening_by s b good abort refused) ≡ true
 answer_row h good abort refused g a r Aborted b t f = a (f refl)
 answer_row h good abort refused g a r Unknown b t f = r (f refl) 2
 answer_row h good abort refused g a r Active false t f = g
 answer_row h good abort refused g a r Active true t f = absurd cc
 answer_row h good abort refused g a r Idle b t f = absurd cc
+answer_row h good abort refused g a r Sole b t f = absurd cc
+answer_row h good abort refused g a r Given b t f = absurd cc
+answer_row h good abort refused g a r AnsweredStage b t f = absurd cc
 answer_row h good abort refused g a r Recorded b t f = absurd cc
 answer_row h good abort refused g a r Over b t f = absurd cc
 
@@ -208,9 +234,21 @@ commit_if_record h k t = if_record (λ g. has is_commit_got g) (λ x g w q. or_r
 accepts_stage : (h : List Entry) → Keeps h → has is_commit_got h ≡ false → has (is_opening_got Begin) h ≡ true
     → ((is_active (coordinate h).stage && not (coordinate h).commit) || has_aborted (coordinate h).stage) ≡ true
 accepts_stage h k n b =
+    let single = has_less is_one_phase_got is_commit_got one_phase_commit h n in
     stage_open (coordinate h).stage (coordinate h).commit
-    (false_from_ne_true (has_recorded (coordinate h).stage) (λ t. not_both (has is_commit_got h) (commit_if_record h k (record_seen h k t)) n)) (λ u. active_begun h b u)
+    (false_from_ne_true (has_recorded (coordinate h).stage) (λ t. not_both (has is_commit_got h) (commit_if_record h k (record_seen h k t)) n))
+    (false_from_ne_true (is_after_one (coordinate h).stage) (λ t. not_both (has is_one_phase_got h) (one_if_after h t) single)) (λ u. active_begun h b single u)
     (λ a. false_from_ne_true (coordinate h).commit (λ t. not_both (has is_commit_got h) (commit_noted h t) n))
+
+-- where it aborted and nobody was let decide, it aborted for good
+good_now : (x : Entry) (h : List Entry) → is_any_single_sent x ≡ false → has is_any_single_sent h ≡ false → coordinator_aborted (x ∷ h) ≡ true → is_aborted_for_good (x ∷ h) ≡ true
+good_now x h y n a =
+    and_both (coordinator_aborted (x ∷ h)) (not (has is_any_single_sent (x ∷ h)) || has is_one_aborted (x ∷ h)) a
+    (or_left (not (has is_any_single_sent (x ∷ h))) (has is_one_aborted (x ∷ h)) (not_false (has is_any_single_sent (x ∷ h)) (or_false (is_any_single_sent x) (has is_any_single_sent h) y n)))
+
+-- nobody is before COMMIT
+early_single : (h : List Entry) → Keeps h → has is_commit_got h ≡ false → has is_any_single_sent h ≡ false
+early_single h k n = false_from_ne_true (has is_any_single_sent h) (λ t. not_both (has is_commit_got h) (commit_if_single h k t) n)
 
 pub promoted_created : (x : Entry) (h : List Entry) → Keeps h → rule h x ≡ true → is_promoted x ≡ true → has is_created_got h ≡ true
 promoted_created (Promoted u c) h k r t =
@@ -245,47 +283,122 @@ answer_line c good abort refused g a r Over b = r 2
 answer_line c good abort refused g a r Active true = r 1
 answer_line c good abort refused g a r Active false = g
 answer_line c good abort refused g a r Idle b = r 1
+answer_line c good abort refused g a r Sole b = r 1
+answer_line c good abort refused g a r Given b = r 1
+answer_line c good abort refused g a r AnsweredStage b = r 1
 answer_line c good abort refused g a r Recorded b = r 1
 
 mark_got : (c : Conn) (m : Message) (h : List Entry) → is_recorded (coordinate h).stage ≡ true → has_mark (Got c Up m ∷ h) ≡ true
 mark_got c m h r = sym (recorded_mark h) ∙ r
 
--- What the coordinator does after a message.
-s_got : (id : ℕ) (c : Conn) (m : Message) (h : List Entry) → Keeps (Got c Up m ∷ h) → Keeps h → (is_enlisting c m ≡ true → has is_commit_got h ≡ false)
+-- What the coordinator does where it aborts, and after an end.
+s_abort_block : (x : Entry) (h : List Entry) → is_any_single_sent x ≡ false → Keeps (x ∷ h) → MaySend (x ∷ h) (abort_block (coordinate h) x)
+unfolding coordinate
+s_abort_block x h y k =
+    let past = keeps_before x h k in
+    s_if (aborts (coordinate h) x && is_undecided (coordinate h).stage)
+    (λ a. s_abort (follow (coordinate h) x) (held (x ∷ h) k)
+    (good_now x h y (open_single h past (and_right (aborts (coordinate h) x) (is_undecided (coordinate h).stage) a)) (aborts_there h past x a))) (λ a. s_none)
+
+lost_now : (e : EnlNo) (h : List Entry) → Keeps h → decides (coordinate h) e.value ≡ true → single_doubt (End (Enl e) Up ∷ h) ≡ true
+unfolding single_doubt
+lost_now e h k d =
+    or_left (is_lost_single h (End (Enl e) Up)) (ever is_lost_single h)
+    (and_both (has (is_single_sent e.value) h) (not (has (is_one_got e.value) h)) (decides_sent e.value h k d) (not_false (has (is_one_got e.value) h) (decides_silent e.value h k d)))
+
+s_end : (c : Conn) (h : List Entry) → Keeps (End c Up ∷ h) → Keeps h → MaySend (End c Up ∷ h) (core_down (coordinate h) c)
+unfolding core_down coordinate
+s_end (Enl e) h k past =
+    s_if (decides (coordinate h) e.value)
+    (λ d. s_doubt (follow (coordinate h) (End (Enl e) Up)) (held (End (Enl e) Up ∷ h) k)
+    (or_left (single_doubt (End (Enl e) Up ∷ h)) (has is_one_in_doubt h) (lost_now e h past d))) (λ d. s_abort_block (End (Enl e) Up) h refl k)
+s_end Begin h k past = s_abort_block (End Begin Up) h refl k
+s_end Voter h k past = s_abort_block (End Voter Up) h refl k
+s_end (Again e) h k past = s_abort_block (End (Again e) Up) h refl k
+
+-- What it does after a message that doesn't let the one enlistment decide.
+s_got : (id : ℕ) (c : Conn) (m : Message) (h : List Entry) → Keeps (Got c Up m ∷ h) → Keeps h → is_letting c m ≡ false → (is_enlisting c m ≡ true → has is_commit_got h ≡ false)
     → MaySend (Got c Up m ∷ h) (core_got id (coordinate h) c m)
 unfolding core_got coordinate
-s_got id Begin BeginBegin h k past n = s_to (follow (coordinate h) (Got Begin Up BeginBegin)) Begin (BeginBegun id) (held (Got Begin Up BeginBegin ∷ h) k) refl refl
-s_got id Voter (VoterVoter u) h k past n =
+s_got id Begin BeginBegin h k past l n = s_to (follow (coordinate h) (Got Begin Up BeginBegin)) Begin (BeginBegun id) (held (Got Begin Up BeginBegin ∷ h) k) refl refl
+s_got id Voter (VoterVoter u) h k past l n =
     let x : Entry = Got Voter Up (VoterVoter u) in
     s_to (follow (coordinate h) x) Voter (opening_answer (coordinate h) VoterCreated VoterAbort VoterRefused) (held (x ∷ h) k)
     (answer_line Voter VoterCreated VoterAbort VoterRefused refl refl (λ j. refl) (coordinate h).stage (coordinate h).commit)
     (answer_row (x ∷ h) VoterCreated VoterAbort VoterRefused refl (λ a. a) (λ a j. a) (coordinate h).stage (coordinate h).commit
-    (accepts_stage h past (voter_early u h k) (work_begun Voter (VoterVoter u) h refl k)) (λ a. aborted_more x h (aborted_there h past a)))
-s_got id (Enl e) (EnlistEnlist i) h k past n =
+    (accepts_stage h past (voter_early u h k) (work_begun Voter (VoterVoter u) h refl k))
+    (λ a. good_now x h refl (early_single h past (voter_early u h k)) (aborted_more x h (aborted_there h past a))))
+s_got id (Enl e) (EnlistEnlist i) h k past l n =
     let x : Entry = Got (Enl e) Up (EnlistEnlist i) in
     s_to (follow (coordinate h) x) (Enl e) (opening_answer (coordinate h) EnlistEnlisted EnlistAbort EnlistRefused) (held (x ∷ h) k)
     (answer_line (Enl e) EnlistEnlisted EnlistAbort EnlistRefused refl refl (λ j. refl) (coordinate h).stage (coordinate h).commit)
     (answer_row (x ∷ h) EnlistEnlisted EnlistAbort EnlistRefused refl (λ a. a) (λ a j. a) (coordinate h).stage (coordinate h).commit
-    (accepts_stage h past (n refl) (work_begun (Enl e) (EnlistEnlist i) h refl k)) (λ a. aborted_more x h (aborted_there h past a)))
-s_got id Begin BeginCommit h k past n =
+    (accepts_stage h past (n refl) (work_begun (Enl e) (EnlistEnlist i) h refl k)) (λ a. good_now x h refl (early_single h past (n refl)) (aborted_more x h (aborted_there h past a))))
+s_got id Begin BeginCommit h k past l n =
     let i = held_more (Got Begin Up BeginCommit) h (coordinate h) (held h past) in
     s_if (is_active (coordinate h).stage)
     (λ a. s_join (s_to (coordinate h) Voter VoterAsk i refl refl) (s_each (coordinate h) EnlistPrepare (coordinate h).desks i (λ e. refl) refl)) (λ a. s_none)
-s_got id (Again e) (ReenlistReenlist i) h k past n =
+s_got id Begin BeginCommitOne h k past l n =
+    let x : Entry = Got Begin Up BeginCommitOne in
+    let i = held_more x h (coordinate h) (held h past) in
+    s_if (not (accepts (coordinate h))) (λ a. s_none)
+    (λ a. let accepted = shown (accepts (coordinate h)) a in
+    s_if (is_one (coordinate h).desks) (λ o. s_to (coordinate h) Voter VoterAsk i refl refl)
+    (λ o. s_abort (follow (coordinate h) x) (held (x ∷ h) k)
+    (good_now x h refl (open_single h past (active_open (coordinate h).stage (and_left (is_active (coordinate h).stage) (not (coordinate h).commit) accepted))) (several_there h past accepted o))))
+  where
+    shown : (b : Bool) → not b ≡ false → b ≡ true
+    shown true q = refl
+    shown false q = absurd cc
+s_got id Voter VoterYes h k past l n = absurd cc
+s_got id (Enl e) EnlistOneCommitted h k past l n =
+    s_if (decides (coordinate h) e.value) (λ d. s_one (coordinate h) (held_more (Got (Enl e) Up EnlistOneCommitted) h (coordinate h) (held h past)) refl) (λ d. s_none)
+s_got id (Enl e) EnlistOneInDoubt h k past l n =
+    let x : Entry = Got (Enl e) Up EnlistOneInDoubt in
+    s_if (decides (coordinate h) e.value) (λ d. s_doubt (coordinate h) (held_more x h (coordinate h) (held h past)) (or_right (single_doubt (x ∷ h)) true refl)) (λ d. s_none)
+s_got id (Enl e) EnlistOneAborted h k past l n =
+    let x : Entry = Got (Enl e) Up EnlistOneAborted in
+    s_if (hears_one (coordinate h) e.value)
+    (λ d. s_abort (follow (coordinate h) x) (held (x ∷ h) k)
+    (and_both (coordinator_aborted (x ∷ h)) (not (has is_any_single_sent h) || true) (refuses_there h past e d) (or_right (not (has is_any_single_sent h)) true refl))) (λ d. s_none)
+s_got id (Again e) (ReenlistReenlist i) h k past l n =
     let x : Entry = Got (Again e) Up (ReenlistReenlist i) in
     s_if (is_recorded (coordinate h).stage) (λ r. s_to (follow (coordinate h) x) (Again e) ReenlistCommitted (held (x ∷ h) k) refl (mark_got (Again e) (ReenlistReenlist i) h r))
     (λ r. s_if (has_aborted (coordinate h).stage)
     (λ a. s_to (follow (coordinate h) x) (Again e) ReenlistAborted (held (x ∷ h) k) refl (aborted_more x h (aborted_there h past a))) (λ a. s_none))
-s_got id c m h k past n =
-    s_if (aborts (coordinate h) (Got c Up m) && is_undecided (coordinate h).stage)
-    (λ a. s_abort (follow (coordinate h) (Got c Up m)) (held (Got c Up m ∷ h) k) (aborts_there h past (Got c Up m) a)) (λ a. s_none)
+s_got id c m h k past l n =
+    s_if {h = Got c Up m ∷ h} {x = abort_block (coordinate h) (Got c Up m)} {y = ended_block (coordinate h) c (Got c Up m)} (has_line c Up m) (λ q. s_abort_block (Got c Up m) h refl k) (λ q. absurd (not_both (has_line c Up m) (got_line c Up m h k) q))
 
--- and after an end
-s_end : (c : Conn) (h : List Entry) → Keeps (End c Up ∷ h) → Keeps h → MaySend (End c Up ∷ h) (core_down (coordinate h) c)
-unfolding core_down coordinate
-s_end c h k past =
-    s_if (is_early (coordinate h) c && is_undecided (coordinate h).stage)
-    (λ a. s_abort (follow (coordinate h) (End c Up)) (held (End c Up ∷ h) k) (aborts_there h past (End c Up) a)) (λ a. s_none)
+-- and after the one that does: SINGLE goes to the one enlistment
+single_rule : (d : Desk) (h : List Entry) → Keeps (Got Voter Up VoterYes ∷ h) → is_sole (coordinate h).stage ≡ true → (coordinate h).desks ≡ d ∷ [] → has (same_connection (Enl d.enlistment)) (coordinate h).known ≡ true
+    → rule (Got Voter Up VoterYes ∷ h) (Sent (Enl d.enlistment) Down EnlistSingle) ≡ true
+unfolding coordinate follow
+single_rule d h k s q t =
+    let past = keeps_before (Got Voter Up VoterYes) h k in
+    let g = Got Voter Up VoterYes ∷ h in
+    let one = one_if_after h (sole_after (coordinate h).stage s) in
+    let live = open_unaborted h past (sole_open (coordinate h).stage s) in
+    let desk : has_desk (coordinate h) d.enlistment.value ≡ true = let P : List Desk → Type 0 = λ ds. has (is_desk_of d.enlistment.value) ds ≡ true in
+    subst P (sym q) (or_left (d.enlistment.value == d.enlistment.value) false (eq_self d.enlistment.value)) in
+    four_hold true (has is_promoting h) (has (is_opening_got (Enl d.enlistment)) h) (may_let_decide (Got Voter Up VoterYes ∷ h) (Enl d.enlistment)) refl
+    (known_promoting (Enl d.enlistment) h past (known_got (Enl d.enlistment) h t)) (known_got (Enl d.enlistment) h t)
+    (four_hold (has is_one_phase_got h) true (not (coordinator_aborted (Got Voter Up VoterYes ∷ h))) (is_sole (coordinate (Got Voter Up VoterYes ∷ h)).stage && has_desk (coordinate (Got Voter Up VoterYes ∷ h)) d.enlistment.value) one refl
+    (not_false (coordinator_aborted (Got Voter Up VoterYes ∷ h)) (calm_more (Got Voter Up VoterYes) h refl live)) (and_both (is_sole (coordinate h).stage) (has_desk (coordinate h) d.enlistment.value) s desk))
+
+single_ruled : (h : List Entry) → Keeps (Got Voter Up VoterYes ∷ h) → (b : Bool) → is_sole (coordinate h).stage ≡ b
+    → ruled (onto (Got Voter Up VoterYes ∷ h) (if b then to_each (coordinate h) EnlistSingle (coordinate h).desks else [])) ≡ true
+single_ruled h k false s = k.rules
+single_ruled h k true s = by (coordinate h).desks refl (sole_one h s)
+  where
+    sent : (d : Desk) → (coordinate h).desks ≡ d ∷ [] → (b : Bool) → has (same_connection (Enl d.enlistment)) (coordinate h).known ≡ b
+        → ruled (onto (Got Voter Up VoterYes ∷ h) ((if b then Sent (Enl d.enlistment) Down EnlistSingle ∷ [] else []) ++ [])) ≡ true
+    sent d q true t = and_both (rule (Got Voter Up VoterYes ∷ h) (Sent (Enl d.enlistment) Down EnlistSingle)) (ruled (Got Voter Up VoterYes ∷ h)) (single_rule d h k s q t) k.rules
+    sent d q false t = k.rules
+
+    by : (ds : List Desk) → (coordinate h).desks ≡ ds → is_one ds ≡ true → ruled (onto (Got Voter Up VoterYes ∷ h) (to_each (coordinate h) EnlistSingle ds)) ≡ true
+    by [] q o = absurd cc
+    by (d ∷ []) q o = sent d q (has (same_connection (Enl d.enlistment)) (coordinate h).known) refl
+    by (d ∷ c ∷ ds) q o = absurd cc
 
 -- A message that comes upward keeps its row.
 got_rule : (c : Conn) (m : Message) (h : List Entry) → (is_enlisting c m ≡ true → has is_commit_got h ≡ false) → rule h (Got c Up m) ≡ true
@@ -296,10 +409,16 @@ got_keeps : (c : Conn) (m : Message) (h : List Entry) → Keeps h → MayCross h
 got_keeps c m h k w n = record { rules = and_both (rule h (Got c Up m)) (ruled h) (got_rule c m h n) k.rules; ties = k.ties; wires = (w, k.wires) }
 
 -- The blocks of a delivery upward keep the table.
+got_other : (id : ℕ) (c : Conn) (m : Message) (h : List Entry) → Keeps h → MayCross h (Got c Up m) → is_letting c m ≡ false → (is_enlisting c m ≡ true → has is_commit_got h ≡ false)
+    → ruled (onto h (Got c Up m ∷ core_got id (coordinate h) c m)) ≡ true
+got_other id c m h k w l n =
+    let now = got_keeps c m h k w n in sends_keep (Got c Up m ∷ h) (core_got id (coordinate h) c m) (s_got id c m h now k l n) now.rules
+
 pub got_ruled : (id : ℕ) (c : Conn) (m : Message) (h : List Entry) → Keeps h → MayCross h (Got c Up m) → (is_enlisting c m ≡ true → has is_commit_got h ≡ false)
     → ruled (onto h (Got c Up m ∷ core_got id (coordinate h) c m)) ≡ true
-got_ruled id c m h k w n =
-    let now = got_keeps c m h k w n in sends_keep (Got c Up m ∷ h) (core_got id (coordinate h) c m) (s_got id c m h now k n) now.rules
+unfolding core_got
+got_ruled id Voter VoterYes h k w n = single_ruled h (got_keeps Voter VoterYes h k w n) (is_sole (coordinate h).stage) refl
+got_ruled id c m h k w n = got_other id c m h k w refl n
 
 pub end_ruled : (c : Conn) (h : List Entry) → Keeps h → MayCross h (End c Up) → ruled (onto h (End c Up ∷ core_down (coordinate h) c)) ≡ true
 end_ruled c h k w =
@@ -340,7 +459,8 @@ appended_ruled h k m Full =
     let now : Keeps (LogFull ∷ h) = record { rules = and_both (can_log h) (ruled h) can k.rules; ties = k.ties; wires = (tt, k.wires) } in
     let c = coordinate h in
     let active = second_of_five (not c.stopped) (is_active c.stage) c.commit c.yes _ m in
-    sends_keep (LogFull ∷ h) (abort_sends (follow (coordinate h) LogFull)) (s_abort (follow (coordinate h) LogFull) (held (LogFull ∷ h) now) (aborts_there h k LogFull (active_open c.stage active))) now.rules
+    sends_keep (LogFull ∷ h) (abort_sends (follow (coordinate h) LogFull))
+    (s_abort (follow (coordinate h) LogFull) (held (LogFull ∷ h) now) (good_now LogFull h refl (open_single h k (active_open c.stage active)) (aborts_there h k LogFull (active_open c.stage active)))) now.rules
 appended_ruled h k m StoppedNow = log_stops h k m
 appended_ruled h k m StoppedBefore = log_stops h k m
 

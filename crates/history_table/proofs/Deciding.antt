@@ -1,6 +1,6 @@
 -- The block of a decision, and of a veto, keeps the table: a promotion that is under way fails, the outcome is decided, each call that waits is answered, and the
 -- coordinator is told of the veto.
-use Rattle.std.proofs.Common.{◌≡◌, Bool, true, false, List, [], ◌∷◌, ◌++◌, Some, refl, ◌∙◌, ap, sym, subst}
+use Rattle.std.proofs.Common.{◌≡◌, Bool, true, false, ◌||◌, List, [], ◌∷◌, ◌++◌, Some, refl, ◌∙◌, ap, sym, subst}
 use Rattle.std.specs.Prelude.{not, if◌then◌else◌}
 use Rattle.dtx_values.specs.declared.entry.Answer.TheVariants.{Ended}
 use Rattle.dtx_values.specs.declared.entry.Entry.{Entry}
@@ -24,10 +24,14 @@ use Rattle.dtx_model.specs.Tied.{is_tied, tied}
 use Rattle.dtx_model.specs.Waiting.{Waiter}
 use Rattle.dtx_model.specs.Half.{Half, decide, ended, fails_if, to_up, veto, veto_message, is_promoting as sees_promoting}
 use Rattle.dtx_model.specs.Wires.{MayCross, opens}
-use Rattle.dtx_model.proofs.Bools.{and_both, and_right, not_false, or_right}
+use Rattle.dtx_model.proofs.Bools.{and_both, and_right, not_false, or_false, or_right}
+use Rattle.std.proofs.lemmas.Bool.{or_left}
+use Rattle.history_table.proofs.Crossed.{is_sent_on}
+use Rattle.history_table.proofs.Messages.{COMMIT, YES}
+use Rattle.history_table.proofs.SentSeen.{commit_unsent, yes_unsent}
 use Rattle.dtx_model.proofs.Reading.{has-onto}
 use Rattle.history_table.proofs.Tests.{four_hold}
-use Rattle.history_table.proofs.Table.{but_failed, decision_row, ends_called_off, is_there, message_row, rule, ruled}
+use Rattle.history_table.proofs.Table.{but_failed, decision_row, ends_called_off, ends_with, is_abort_decided, is_abort_request, is_commit_sent, is_there, is_yes_sent, message_row, rule, ruled}
 use Rattle.history_table.proofs.Keeping.{Keeps}
 use Rattle.history_table.proofs.Sendings.{opened_promoting}
 use Rattle.history_table.proofs.HalfKnows.{known_opened, way_seen}
@@ -111,22 +115,41 @@ to_up_keeps g h c m k l w r = step (knows c (ends_of g)) refl
     step true e = sent_keeps c m h k l (w (known_opened c g e)) r
     step false e = k
 
--- the message of a veto
-message_keeps : (g h : List Entry) → Keeps h → ((c : Conn) → has (opens c) g ≡ true → has (opens c) h ≡ true) → latest decision_of h ≡ Some Aborted → Keeps (onto h (veto_message (observe g)))
+-- the message of a veto, where nothing was sent since
+message_keeps : (g h : List Entry) → Keeps g → Keeps h → ((c : Conn) → has (opens c) g ≡ true → has (opens c) h ≡ true)
+    → ((c : Conn) (p : Message → Bool) → has (is_sent_on c Up p) g ≡ false → has (is_sent_on c Up p) h ≡ false) → latest decision_of h ≡ Some Aborted
+    → Keeps (onto h (veto_message (observe g)))
 unfolding observe
-message_keeps g h k w d = step (may_abort_by_begin (ends_of g)) (may_abort_by_voter (ends_of g)) refl refl
+message_keeps g h l k w s d = step (may_abort_by_begin (ends_of g)) (may_abort_by_voter (ends_of g)) refl refl
   where
-    aborted : (m : Message) → message_row h Begin BeginAbort ≡ true
-    aborted m = rw d refl
+    called : is_abort_decided h ≡ true
+    called = rw d refl
 
-    refused : message_row h Voter VoterNo ≡ true
-    refused = rw d refl
+    aborted : may_abort_by_begin (ends_of g) ≡ true → message_row h Begin BeginAbort ≡ true
+    aborted t =
+        and_both (is_abort_decided h || ends_with is_abort_request h) (not (has is_commit_sent h)) (or_left (is_abort_decided h) (ends_with is_abort_request h) called)
+        (not_false (has is_commit_sent h) (s Begin COMMIT (commit_unsent g l t)))
+
+    refused : may_abort_by_voter (ends_of g) ≡ true → message_row h Voter VoterNo ≡ true
+    refused t = and_both (is_abort_decided h) (not (has is_yes_sent h)) called (not_false (has is_yes_sent h) (s Voter YES (yes_unsent g l t)))
 
     step : (a b : Bool) → may_abort_by_begin (ends_of g) ≡ a → may_abort_by_voter (ends_of g) ≡ b
         → Keeps (onto h (if a then Sent Begin Up BeginAbort ∷ [] else if b then Sent Voter Up VoterNo ∷ [] else []))
-    step true b p q = sent_keeps Begin BeginAbort h k refl (w Begin (known_opened Begin g (and_right _ (knows Begin (ends_of g)) p))) (aborted BeginAbort)
-    step false true p q = sent_keeps Voter VoterNo h k refl (w Voter (known_opened Voter g (and_right _ (knows Voter (ends_of g)) q))) refused
+    step true b p q = sent_keeps Begin BeginAbort h k refl (w Begin (known_opened Begin g (and_right _ (knows Begin (ends_of g)) p))) (aborted p)
+    step false true p q = sent_keeps Voter VoterNo h k refl (w Voter (known_opened Voter g (and_right _ (knows Voter (ends_of g)) q))) (refused q)
     step false false p q = k
+
+-- a decision sends nothing
+ended_unsent : (c : Conn) (p : Message → Bool) (ws : List Waiter) (o : Outcome) → has (is_sent_on c Up p) (ended ws o) ≡ false
+ended_unsent c p [] o = refl
+ended_unsent c p (w ∷ ws) o = ended_unsent c p ws o
+
+decide_unsent : (c : Conn) (p : Message → Bool) (h : List Entry) (v : Half) (o : Outcome) → has (is_sent_on c Up p) h ≡ false → has (is_sent_on c Up p) (onto h (decide v o)) ≡ false
+decide_unsent c p h v o n = has-onto (is_sent_on c Up p) h (decide v o) ∙ or_false (has (is_sent_on c Up p) (decide v o)) (has (is_sent_on c Up p) h) (none (sees_promoting v.seen)) n
+  where
+    none : (b : Bool) → has (is_sent_on c Up p) (fails_if b ++ Decided o ∷ ended v.waits o) ≡ false
+    none true = ended_unsent c p v.waits o
+    none false = ended_unsent c p v.waits o
 
 -- a veto keeps the table
 pub veto_keeps : (h : List Entry) (ws : List Waiter) (ms : List (EnlNo × RmNo)) → Keeps h → has is_decision h ≡ false → (is_under_way h ≡ true → ends_refused h ≡ true)
@@ -135,7 +158,8 @@ unfolding veto
 veto_keeps h ws ms k d f c e =
     let first = decide (seen_half h ws ms) Aborted in
     subst Keeps (sym (onto-append h first (veto_message (observe h))))
-    (message_keeps h (onto h first) (abort_keeps h ws ms k d f c e) (λ n o. stays (opens n) h first o) (decide_decides h ws ms Aborted))
+    (message_keeps h (onto h first) k (abort_keeps h ws ms k d f c e) (λ n o. stays (opens n) h first o) (λ n p u. decide_unsent n p h (seen_half h ws ms) Aborted u)
+    (decide_decides h ws ms Aborted))
 
 -- and is decided after that
 pub veto_decides : (h : List Entry) (ws : List Waiter) (ms : List (EnlNo × RmNo)) → has is_decision (onto h (veto (seen_half h ws ms))) ≡ true

@@ -13,7 +13,7 @@ use Rattle.dtx_values.specs.declared.message.Conn.TheVariants.{Begin, Voter}
 use Rattle.dtx_values.specs.declared.message.Dir.{Dir}
 use Rattle.dtx_values.specs.declared.message.Dir.TheVariants.{Up, Down}
 use Rattle.dtx_values.specs.declared.message.Message.{Message}
-use Rattle.dtx_values.specs.declared.message.Message.TheVariants.{BeginBegin, BeginCommit, BeginAbort, VoterNo}
+use Rattle.dtx_values.specs.declared.message.Message.TheVariants.{BeginBegin, BeginAbort, VoterNo}
 use Rattle.dtx_values.specs.declared.note.Reply.{Reply}
 use Rattle.dtx_values.specs.declared.number.EnlNo.{EnlNo}
 use Rattle.dtx_values.specs.declared.words.Cause.{Cause}
@@ -147,7 +147,7 @@ kept_ended_at w c Down = of_local_down kept (half w) c
 pub kept_act : (h : Half) → Keeps h.waits (act_entries h)
 kept_act h =
     of_whole_act kept h (kept_entry (ByAct (is_some h.seen.decided)) refl) (λ e. kept_one (Asked e Promote) refl) (λ e. kept_one (Asked e AskSingle) refl) (kept_one Sealed refl)
-    (kept_one (Sent Begin Up BeginCommit) refl)
+    (λ m q. kept_one (Sent Begin Up m) refl)
 
 pub kept_reply : (h : Half) (e : EnlNo) (r : Reply) → Keeps h.waits (reply_entries h e r)
 kept_reply h e r = of_reply kept h e r (kept_entry (ByReply r) refl)

@@ -1,13 +1,14 @@
 -- The block of each reply that is due keeps the table, promoted or not.
-use Rattle.std.proofs.Common.{◌≡◌, ℕ, ◌==◌, Bool, true, false, ◌&&◌, List, [], ◌∷◌, Option, Some, None, refl, ◌∙◌, sym, subst, ◌⊎◌, inl, inr}
+use Rattle.std.proofs.Common.{◌≡◌, ℕ, ◌==◌, Bool, true, false, ◌&&◌, ◌||◌, List, [], ◌∷◌, Option, Some, None, refl, ◌∙◌, sym, subst, ◌⊎◌, inl, inr}
 use Rattle.std.specs.Prelude.{find, is_some, not, if◌then◌else◌}
-use Rattle.std.proofs.lemmas.Bool.{eqb-true, false_from_ne_true}
+use Rattle.std.proofs.lemmas.Bool.{eqb-true, false_from_ne_true, or_left}
 use Rattle.dtx_values.specs.declared.entry.Entry.{Entry}
-use Rattle.dtx_values.specs.declared.entry.Entry.TheVariants.{Sent, Voted}
+use Rattle.dtx_values.specs.declared.entry.Entry.TheVariants.{Enlisted, Requested, Sent, Voted}
 use Rattle.dtx_values.specs.declared.message.Conn.{Conn}
-use Rattle.dtx_values.specs.declared.message.Conn.TheVariants.{Enl as OnEnl}
+use Rattle.dtx_values.specs.declared.message.Conn.TheVariants.{Begin, Enl as OnEnl}
 use Rattle.dtx_values.specs.declared.message.Dir.TheVariants.{Up}
 use Rattle.dtx_values.specs.declared.message.Message.{Message}
+use Rattle.dtx_values.specs.declared.message.Message.TheVariants.{BeginAbort, BeginCommit, BeginCommitOne}
 use Rattle.dtx_values.specs.declared.note.Note.{Note}
 use Rattle.dtx_values.specs.declared.note.Note.TheVariants.{Prepare as PrepareNote, Promote as PromoteNote, Hand as HandNote, Single as SingleNote, Commit as CommitNote}
 use Rattle.dtx_values.specs.declared.note.Reply.{Reply}
@@ -15,28 +16,36 @@ use Rattle.dtx_values.specs.declared.note.Reply.TheVariants.{Vote as VoteReply, 
 use Rattle.dtx_values.specs.declared.number.EnlNo.{EnlNo}
 use Rattle.dtx_values.specs.declared.row.Row.{Row}
 use Rattle.dtx_values.specs.declared.words.Class.{Class}
+use Rattle.dtx_values.specs.declared.words.Outcome.{Outcome}
+use Rattle.dtx_values.specs.declared.words.Outcome.TheVariants.{Aborted}
 use Rattle.dtx_values.specs.declared.words.Vote.{Vote}
 use Rattle.dtx_values.specs.Class.{is_volatile}
 use Rattle.dtx_values.specs.Ends.{knows}
 use Rattle.dtx_values.specs.Lines.{has_line}
 use Rattle.dtx_values.specs.Row.{has_voted, is_marked, is_of}
 use Rattle.dtx_model.specs.Words.{has, latest, onto, or_else}
-use Rattle.dtx_model.specs.Entries.{decision_of, is_asked, is_decision, is_lost, is_vote}
-use Rattle.dtx_model.specs.Observed.{ends_of, observe, rows}
+use Rattle.dtx_model.specs.Entries.{decision_of, is_asked, is_decision, is_lost, is_promoted, is_sealed, is_vote}
+use Rattle.dtx_model.specs.Observed.{ends_of, is_request, observe, rows}
+use Rattle.dtx_model.specs.Promotes.{is_promoting}
 use Rattle.dtx_model.specs.Wires.{opens}
 use Rattle.dtx_model.specs.Half.{is_gone, to_up, was_told}
 use Rattle.dtx_model.specs.Replies.{conn_due, due_of, fits, is_volatile_row, may_still_vote, note_of_conn, note_of_row, owes_vote, owes_promotion, owes_outcome, owes_request}
-use Rattle.dtx_model.proofs.Bools.{and_both, and_left, and_right, not_both, not_false, not_true}
+use Rattle.dtx_model.proofs.Bools.{and_both, and_left, and_right, not_both, not_false, not_true, or_case, or_right}
 use Rattle.dtx_values.proofs.SameNumbers.{same_enlistment}
-use Rattle.history_table.proofs.Tests.{five_hold, first_of_three, second_of_three}
+use Rattle.history_table.proofs.Tests.{five_hold, first_of_four, first_of_three, fourth_of_four, second_of_three}
 use Rattle.history_table.proofs.Lists.{found_at, has-at}
-use Rattle.history_table.proofs.EntryTests.{is_enlisted}
+use Rattle.history_table.proofs.Scans.{has_more}
+use Rattle.history_table.proofs.EntryTests.{has_promotable, is_decided, is_enlisted}
 use Rattle.history_table.proofs.Owned.{decision_seen, has_rows}
-use Rattle.history_table.proofs.Table.{message_row, rule, stands_volatile}
+use Rattle.history_table.proofs.Table.{ends_with, is_abort_decided, is_abort_request, is_abort_sent, is_commit_sent, is_there, may_commit, message_row, rule, stands_volatile}
+use Rattle.history_table.proofs.Keeping.{Keeps, earlier, earlier_keeping, newest}
+use Rattle.history_table.proofs.Messages.{COMMIT}
+use Rattle.history_table.proofs.Recording.{enlisted_unsealed}
+use Rattle.history_table.proofs.Sendings.{ends_has, sent_row}
 use Rattle.history_table.proofs.Standing.{unvolatile_if_opened}
 use Rattle.history_table.proofs.HalfRows.{row_marked, row_voted, rows_enlisted}
 use Rattle.history_table.proofs.HalfKnows.{known_opened}
-use Rattle.history_table.proofs.Deciding.{to_up_keeps}
+use Rattle.history_table.proofs.Deciding.{decided_there, to_up_keeps}
 use Rattle.history_table.proofs.Undecided.{Stands, is_going}
 
 -- a message that is sent where the connection is known keeps it
@@ -169,3 +178,58 @@ vote_rule h e v n k l w =
     apart : ((stands_volatile e.value h ≡ true) × (has is_decision h ≡ false)) ⊎ (knows (OnEnl e) (ends_of h) ≡ true) → not (stands_volatile e.value h && has is_decision h) ≡ true
     apart (inl p) = rw (p.0, p.1) refl
     apart (inr p) = rw (unvolatile_if_opened e h k.keeps (known_opened (OnEnl e) h p)) refl
+
+-- On b nothing is aborted before a decision or a request,
+abort_request : (x : Entry) → is_abort_request x ≡ true → is_request x ≡ true
+abort_request (Requested e r) t = refl
+abort_request _ t = absurd cc
+
+aborted_after : (x : Entry) (h : List Entry) → Keeps h → rule h x ≡ true → is_abort_sent x ≡ true → (has is_decision h || has is_request h) ≡ true
+aborted_after (Sent Begin Up BeginAbort) h k r t =
+    let row = fourth_of_four (has_line Begin Up BeginAbort) (has is_promoting h) (is_there h Begin Up BeginAbort) _ r in
+    or_case (is_abort_decided h) (ends_with is_abort_request h) (λ a. or_left (has is_decision h) (has is_request h) (by (latest decision_of h) refl a))
+    (λ a. or_right (has is_decision h) (has is_request h) (has_more is_abort_request is_request abort_request h (ends_has is_abort_request h a)))
+    (and_left (is_abort_decided h || ends_with is_abort_request h) (not (has is_commit_sent h)) row)
+  where
+    by : (o : Option Outcome) → latest decision_of h ≡ o → is_decided Aborted o ≡ true → has is_decision h ≡ true
+    by (Some x) q a = decided_there h x q
+    by None q a = absurd cc
+aborted_after _ h k r t = absurd cc
+
+pub unaborted_yet : (h : List Entry) → Keeps h → has is_decision h ≡ false → has is_request h ≡ false → has is_abort_sent h ≡ false
+unaborted_yet h k d r =
+    false_from_ne_true (has is_abort_sent h) (λ s.
+    or_case (has is_decision h) (has is_request h) (λ a. not_both (has is_decision h) a d) (λ a. not_both (has is_request h) a r)
+    (earlier is_abort_sent (λ g. has is_decision g || has is_request g) more aborted_after h k s))
+  where
+    more : (x : Entry) (g : List Entry) → (has is_decision g || has is_request g) ≡ true → (has is_decision (x ∷ g) || has is_request (x ∷ g)) ≡ true
+    more x g t =
+        or_case (has is_decision g) (has is_request g) (λ a. or_left (has is_decision (x ∷ g)) (has is_request (x ∷ g)) (or_right (is_decision x) (has is_decision g) a))
+        (λ a. or_right (has is_decision (x ∷ g)) (has is_request (x ∷ g)) (or_right (is_request x) (has is_request g) a)) t
+
+-- and COMMIT goes after the seal, and after the request of a promotable that stands.
+abbrev is_called_for : List Entry → Bool
+is_called_for h = has is_sealed h && (not (has_promotable h) || has is_request h)
+
+called_for_more : (x : Entry) (h : List Entry) → Keeps (x ∷ h) → is_called_for h ≡ true → is_called_for (x ∷ h) ≡ true
+called_for_more (Enlisted e c) h k t = absurd (not_both (has is_sealed h) (and_left (has is_sealed h) _ t) (enlisted_unsealed e c h (newest (Enlisted e c) h k)))
+called_for_more x h k t =
+    and_both (has is_sealed (x ∷ h)) (not (has_promotable (x ∷ h)) || has is_request (x ∷ h)) (or_right (is_sealed x) (has is_sealed h) (and_left (has is_sealed h) (not (has_promotable h) || has is_request h) t))
+    (or_case (not (has_promotable h)) (has is_request h) (λ a. or_left (not (has_promotable h)) (has is_request (x ∷ h)) a)
+    (λ a. or_right (not (has_promotable h)) (has is_request (x ∷ h)) (or_right (is_request x) (has is_request h) a)) (and_right (has is_sealed h) (not (has_promotable h) || has is_request h) t))
+
+called_for_by : (h : List Entry) → may_commit h ≡ true → is_called_for h ≡ true
+called_for_by h r =
+    let last = not (has is_abort_sent h) && (not (has_promotable h) || has is_request h) in
+    and_both (has is_sealed h) (not (has_promotable h) || has is_request h) (first_of_four (has is_sealed h) (has is_promoted h) (not (has is_decision h)) last r)
+    (and_right (not (has is_abort_sent h)) (not (has_promotable h) || has is_request h) (fourth_of_four (has is_sealed h) (has is_promoted h) (not (has is_decision h)) last r))
+
+called_for_of : (m : Message) (h : List Entry) → Keeps h → COMMIT m ≡ true → has_line Begin Up m ≡ true → message_row h Begin m ≡ true → is_called_for h ≡ true
+called_for_of BeginCommit h k t l r = called_for_by h (and_left (may_commit h) _ r)
+called_for_of BeginCommitOne h k t l r = called_for_by h (and_left (may_commit h) _ r)
+called_for_of _ h k t l r = absurd cc
+
+pub requested_if_sent : (h : List Entry) → Keeps h → has is_commit_sent h ≡ true → (not (has_promotable h) || has is_request h) ≡ true
+requested_if_sent h k s =
+    and_right (has is_sealed h) (not (has_promotable h) || has is_request h)
+    (earlier_keeping (λ x. is_commit_sent x) (λ g. is_called_for g) called_for_more (sent_row Begin Up COMMIT (λ g. is_called_for g) called_for_of) h k s)

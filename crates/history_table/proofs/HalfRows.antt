@@ -20,25 +20,25 @@ use Rattle.dtx_values.specs.Vote.{voted_well}
 use Rattle.dtx_values.specs.declared.message.Conn.TheVariants.{Enl as OnEnl, Begin}
 use Rattle.dtx_values.specs.declared.message.Dir.TheVariants.{Up, Down}
 use Rattle.dtx_values.specs.declared.message.Message.{Message}
-use Rattle.dtx_values.specs.declared.message.Message.TheVariants.{BeginCommit, EnlistPrepare}
+use Rattle.dtx_values.specs.declared.message.Message.TheVariants.{BeginCommit, BeginCommitOne, EnlistPrepare}
 use Rattle.dtx_values.specs.Lines.{has_line}
 use Rattle.dtx_values.specs.Table.{voted}
 use Rattle.dtx_model.specs.Words.{has, each, all_of}
-use Rattle.dtx_model.specs.Entries.{is_decision, is_sealed, is_asked, is_vote, is_lost, is_promoted, is_commit_got, is_commit, is_good_vote, clone_of}
+use Rattle.dtx_model.specs.Entries.{is_decision, is_sealed, is_asked, is_vote, is_lost, is_promoted, is_commit_got, is_commit, is_good_vote, is_two_phase_got, clone_of}
 use Rattle.dtx_model.specs.Observed.{rows, clone_rows}
 use Rattle.dtx_model.specs.Outcome.{enlisted, is_complete, is_veto}
-use Rattle.dtx_model.proofs.Bools.{not_true, or_right, and_right, or_case, or_false, not_both}
+use Rattle.dtx_model.proofs.Bools.{not_true, or_right, and_left, and_right, or_case, or_false, not_both}
 use Rattle.dtx_model.specs.Wires.{opens}
-use Rattle.history_table.proofs.Tests.{third_of_five, first_of_five, first_of_three}
+use Rattle.history_table.proofs.Tests.{third_of_five, first_of_five, first_of_four, first_of_three}
 use Rattle.history_table.proofs.EntryTests.{is_enlisted, is_volatile_of, is_cloned, zeros_cast}
-use Rattle.history_table.proofs.Table.{rule, class_row, stands_volatile, message_row, ends_with, is_prepare_got, ask_row}
+use Rattle.history_table.proofs.Table.{may_commit, rule, class_row, stands_volatile, message_row, ends_with, is_prepare_got, ask_row}
 use Rattle.history_table.proofs.Keeping.{Keeps, earlier, keeps_before, newest}
 use Rattle.history_table.proofs.Messages.{COMMIT, PREPARE}
 use Rattle.history_table.proofs.Scans.{has_more}
 use Rattle.history_table.proofs.Crossed.{is_got_on}
 use Rattle.history_table.proofs.Sendings.{from_got, commit_got_on, by_got}
 use Rattle.history_table.proofs.TableRows.{Ordered, unvoted_by, row_by, class_by, evident_by, open_by, vetoed_by, unvoted_row_by, vote_by}
-use Rattle.history_table.proofs.Recording.{enlisted_unsealed}
+use Rattle.history_table.proofs.Recording.{enlisted_unsealed, two_phase_commit}
 
 -- what is enlisted wasn't before
 pub enlisted_once : (e : EnlNo) (c : Class) (h : List Entry) → rule h (Enlisted e c) ≡ true → has (is_enlisted e.value) h ≡ false
@@ -56,8 +56,9 @@ voted_once e v h r =
     not_true (has (is_vote e.value) h) (third_of_five (has (is_enlisted e.value) h) (has (is_asked e.value) h) (not (has (is_vote e.value) h)) (not (has (is_lost e.value) h)) (not (stands_volatile e.value h && has is_decision h)) r)
 
 -- It was sealed where the coordinator got COMMIT, and so where an enlistment got PREPARE.
-commit_sealed : (m : Message) (h : List Entry) → Keeps h → COMMIT m ≡ true → has_line Begin Up m ≡ true → message_row h Begin m ≡ true → has is_sealed h ≡ true
-commit_sealed BeginCommit h k t l r = first_of_three (has is_sealed h) (has is_promoted h) (not (has is_decision h)) r
+pub commit_sealed : (m : Message) (h : List Entry) → Keeps h → COMMIT m ≡ true → has_line Begin Up m ≡ true → message_row h Begin m ≡ true → has is_sealed h ≡ true
+commit_sealed BeginCommit h k t l r = first_of_four (has is_sealed h) (has is_promoted h) (not (has is_decision h)) _ (and_left (may_commit h) _ r)
+commit_sealed BeginCommitOne h k t l r = first_of_four (has is_sealed h) (has is_promoted h) (not (has is_decision h)) _ (and_left (may_commit h) _ r)
 commit_sealed _ h k t l r = absurd cc
 
 pub sealed_if_commit : (h : List Entry) → Keeps h → has is_commit_got h ≡ true → has is_sealed h ≡ true
@@ -66,7 +67,7 @@ sealed_if_commit h k s =
     (has_more is_commit_got (is_got_on Begin Up COMMIT) commit_got_on h s)
 
 prepare_of : (e : EnlNo) (m : Message) (h : List Entry) → Keeps h → PREPARE m ≡ true → has_line (OnEnl e) Down m ≡ true → message_row h (OnEnl e) m ≡ true → has is_sealed h ≡ true
-prepare_of e EnlistPrepare h k t l r = sealed_if_commit h k r
+prepare_of e EnlistPrepare h k t l r = sealed_if_commit h k (has_more is_two_phase_got is_commit_got two_phase_commit h r)
 prepare_of e _ h k t l r = absurd cc
 
 pub sealed_by_prepare : (n : ℕ) (h : List Entry) → Keeps h → ends_with (is_prepare_got n) h ≡ true → has is_sealed h ≡ true

@@ -40,26 +40,27 @@ hand_name [] k = absurd cc
 hand_name (Handed f ∷ h) k = (f.value, rw (eq_self f.value) refl)
 hand_name (x ∷ h) k = hand_name h k
 
--- what is ready and not promoted, and whose one durable or promotable was handed the commit, is evidence where that one answered committed
-pub owner_alone : (a s p l : Bool) (h : List Entry) (e : ℕ) (ds : List (EnlNo × Class)) → a ≡ true → p ≡ false → is_only e ds ≡ true → has (is_hand e) h ≡ true
-    → (a && ((s && not p && is_empty ds) || (not p && owner_committed h ds) || (p && l))) ≡ has (is_owner e Committed) h
-owner_alone a s p l h e [] b q o k = absurd cc
-owner_alone a s p l h e (x ∷ []) b q o k =
+-- what is ready, in which not each votes, and which shows no record, and whose one durable or promotable was handed the commit, is evidence where that one answered committed
+pub owner_alone : (a s p v l : Bool) (h : List Entry) (e : ℕ) (ds : List (EnlNo × Class)) → a ≡ true → v ≡ false → (p && l) ≡ false → is_only e ds ≡ true → has (is_hand e) h ≡ true
+    → (a && ((s && not p && is_empty ds) || (not v && owner_committed h ds) || (p && l))) ≡ has (is_owner e Committed) h
+owner_alone a s p v l h e [] b q r o k = absurd cc
+owner_alone a s p v l h e (x ∷ []) b q r o k =
     let same : e ≡ x.0.value = eqb-true e x.0.value (and_left (e == x.0.value) (can_own x.1) o) in
     let hand : has (is_hand x.0.value) h ≡ true = subst (λ n. has (is_hand n) h ≡ true) same k in
-    step a s p l (can_own x.1 || false) (has (is_hand x.0.value) h) (has (is_owner x.0.value Committed) h) b q (or_left (can_own x.1) false (and_right (e == x.0.value) (can_own x.1) o)) hand
+    step a (s && not p) v (p && l) (can_own x.1 || false) (has (is_hand x.0.value) h) (has (is_owner x.0.value Committed) h) b q r (or_left (can_own x.1) false (and_right (e == x.0.value) (can_own x.1) o)) hand
     ∙ ap (λ n. has (is_owner n Committed) h) (sym same)
   where
-    step : (a s p l c k o : Bool) → a ≡ true → p ≡ false → c ≡ true → k ≡ true → (a && ((s && not p && false) || (not p && (true && c && k && o)) || (p && l))) ≡ o
-    step false s p l c k o d q f g = absurd cc
-    step true s true l c k o d q f g = absurd cc
-    step true s false l false k o d q f g = absurd cc
-    step true s false l true false o d q f g = absurd cc
-    step true true false l true true true d q f g = refl
-    step true true false l true true false d q f g = refl
-    step true false false l true true true d q f g = refl
-    step true false false l true true false d q f g = refl
-owner_alone a s p l h e (x ∷ y ∷ ds) b q o k = absurd cc
+    step : (a s v l c k o : Bool) → a ≡ true → v ≡ false → l ≡ false → c ≡ true → k ≡ true → (a && ((s && false) || (not v && (true && c && k && o)) || l)) ≡ o
+    step false s v l c k o d q r f g = absurd cc
+    step true s true l c k o d q r f g = absurd cc
+    step true s false true c k o d q r f g = absurd cc
+    step true s false false false k o d q r f g = absurd cc
+    step true s false false true false o d q r f g = absurd cc
+    step true true false false true true true d q r f g = refl
+    step true true false false true true false d q r f g = refl
+    step true false false false true true true d q r f g = refl
+    step true false false false true true false d q r f g = refl
+owner_alone a s p v l h e (x ∷ y ∷ ds) b q r o k = absurd cc
 
 -- an answer is an owner's
 pub answered_any : (x : Outcome) (y : Entry) → is_answered x y ≡ true → is_answer y ≡ true

@@ -31,22 +31,23 @@ use Rattle.dtx_model.specs.Waiting.{Waiter, is_place_of}
 use Rattle.dtx_model.specs.Half.{by_manager, enlist_sent, given, info, is_handed, over, promoted_by, to_up, is_promoting as sees_promoting}
 use Rattle.dtx_model.specs.Arrivals.{begun, created, hand_over}
 use Rattle.dtx_model.proofs.Bools.{and_both, and_left, and_never, and_right, not_both, not_false, not_true, or_case, or_right}
-use Rattle.history_table.proofs.Tests.{eq_self, five_hold, third_of_four}
+use Rattle.history_table.proofs.Tests.{eq_self, first_of_four, five_hold, third_of_four}
 use Rattle.history_table.proofs.Scans.{each_both, each_more, has_more}
-use Rattle.history_table.proofs.EntryTests.{is_enlisted}
+use Rattle.history_table.proofs.EntryTests.{is_answer, is_decided, is_enlisted}
 use Rattle.history_table.proofs.Handed.{hand_any}
-use Rattle.history_table.proofs.Table.{have_come, is_enlist_got, is_opening_got, is_there, message_row, rule, stands_volatile}
+use Rattle.history_table.proofs.Table.{ends_with, have_come, is_abort_decided, is_abort_request, is_commit_sent, is_enlist_got, is_opening_got, is_there, message_row, rule, stands_volatile}
 use Rattle.history_table.proofs.Keeping.{Keeps, earlier, keeps_before}
 use Rattle.history_table.proofs.Crossed.{got_sent, is_sent_on}
 use Rattle.history_table.proofs.Sendings.{got_promoting}
 use Rattle.history_table.proofs.Recording.{promoted_if_sealed, promoted_if_yes}
-use Rattle.history_table.proofs.Evident.{hand_stands, sealed_if_evident}
-use Rattle.history_table.proofs.Doubting.{decided_doubt}
+use Rattle.history_table.proofs.Evident.{sealed_if_evident}
+use Rattle.history_table.proofs.Doubting.{decided_doubt, doubt_case, single_if_doubt}
+use Rattle.history_table.proofs.LetDecide.{any_single_if_handed, promoted_if_sent, promoted_if_single, yes_if_single}
 use Rattle.history_table.proofs.Aborting.{decided_evident}
 use Rattle.history_table.proofs.Standing.{begun_if_voter, opened_if_got}
 use Rattle.history_table.proofs.HalfKnows.{cause_seen, way_seen}
 use Rattle.history_table.proofs.Deciding.{seen_half}
-use Rattle.history_table.proofs.Undecided.{Stands, stand, way_unsealed}
+use Rattle.history_table.proofs.Undecided.{Stands, going_as, stand, way_unsealed}
 use Rattle.history_table.proofs.HalfCalls.{begun_if_promoted, enlist_stands}
 use Rattle.history_table.proofs.HalfReplies.{to_up_stands}
 use Rattle.history_table.proofs.MessageArrivals.{open_block}
@@ -89,17 +90,18 @@ named_hand [] k = absurd cc
 named_hand (Handed f ∷ h) k = (f.value, rw (eq_self f.value) refl)
 named_hand (x ∷ h) k = let n = named_hand h k in (n.0, or_right (is_hand n.0 x) (has (is_hand n.0) h) n.1)
 
-doubt_by : {C : Type 0} (h : List Entry) → doubt h ≡ true → (has is_any_hand h ≡ true → C) → (has is_yes h ≡ true → C) → C
-unfolding doubt coordinator_doubt
-doubt_by h d f g =
-    or_case (owner_doubt h) (has is_yes h && has is_begin_end h && has is_voter_end h && not (has is_outcome_got h)) (λ t. f (owner_hand h t))
-    (λ t. g (and_left (has is_yes h) (has is_begin_end h) (and_left (has is_yes h && has is_begin_end h) (has is_voter_end h) (and_left (has is_yes h && has is_begin_end h && has is_voter_end h) (not (has is_outcome_got h)) t)))) d
+yes_doubt : (h : List Entry) → coordinator_doubt h ≡ true → has is_yes h ≡ true
+unfolding coordinator_doubt
+yes_doubt h t = first_of_four (has is_yes h) (has is_begin_end h) (has is_voter_end h) (not (has is_outcome_got h)) t
+
+doubt_by : {C : Type 0} (h : List Entry) → Keeps h → doubt h ≡ true → (has is_any_hand h ≡ true → C) → (has is_yes h ≡ true → C) → C
+doubt_by h k d f g = doubt_case h d (λ t. f (owner_hand h t)) (λ t. g (yes_doubt h t)) (λ t. g (yes_if_single h k (single_if_doubt h t)))
 
 early_abort : (h : List Entry) (o : Outcome) → Keeps h → has is_promoting h ≡ true → has is_promoted h ≡ false → latest decision_of h ≡ Some o → latest decision_of h ≡ Some Aborted
 early_abort h Aborted k p n d = d
 early_abort h Committed k p n d = absurd (not_both (has is_promoted h) (promoted_if_sealed h k (sealed_if_evident h k (decided_evident h k d)) p) n)
 early_abort h InDoubt k p n d =
-    doubt_by h (decided_doubt h k d) (λ t. let e = named_hand h t in absurd (not_both (has is_promoting h) p (hand_stands e.0 h k e.1).settled))
+    doubt_by h k (decided_doubt h k d) (λ t. let e = named_hand h t in absurd (not_both (has is_promoted h) (promoted_if_single h k (any_single_if_handed e.0 h k p e.1)) n))
     (λ t. absurd (not_both (has is_promoted h) (promoted_if_yes h k t) n))
 
 pub begun_stands : (t : ℕ) (h : List Entry) (ws : List Waiter) (ms : List (EnlNo × RmNo)) (u : ℕ) → Keeps (Got Begin Down (BeginBegun u) ∷ h) → Stands h → has is_begun_got h ≡ false
@@ -120,7 +122,10 @@ begun_stands t h ws ms u a k n = step (latest decision_of h) (sees_promoting (ob
     alone = stand (Got Begin Down (BeginBegun u)) h refl a.wires.0 k refl (λ g. g)
 
     abort : (x : Outcome) → latest decision_of h ≡ Some x → message_row (Got Begin Down (BeginBegun u) ∷ h) Begin BeginAbort ≡ true
-    abort x d = rw (early_abort h x k.keeps promoting unpromoted d) refl
+    abort x d =
+        and_both (is_abort_decided h || ends_with is_abort_request (Got Begin Down (BeginBegun u) ∷ h)) (not (has is_commit_sent h))
+        (or_left (is_abort_decided h) (ends_with is_abort_request (Got Begin Down (BeginBegun u) ∷ h)) (ap (is_decided Aborted) (early_abort h x k.keeps promoting unpromoted d)))
+        (not_false (has is_commit_sent h) (false_from_ne_true (has is_commit_sent h) (λ s. not_both (has is_promoted h) (promoted_if_sent h k.keeps s) unpromoted)))
 
     step : (o : Option Outcome) (b : Bool) → latest decision_of h ≡ o
         → Stands (onto (Got Begin Down (BeginBegun u) ∷ h) (if is_some o then to_up (observe (Got Begin Down (BeginBegun u) ∷ h)) Begin BeginAbort else if b then Sent Voter Up (VoterVoter (identifier_of t)) ∷ [] else []))
@@ -189,7 +194,7 @@ over_stands t h ws ms k d w c b r u a = step (latest cause_of_promotion h) refl
         given_stands t ws (Promoted (identifier_of t) x ∷ h)
         (stand (Promoted (identifier_of t) x) h refl tt k
         (five_hold (not (has is_decision h)) (not (has is_sealed h)) (is_under_way h) (have_come h) (has is_begun_got h && has is_created_got h) (not_false (has is_decision h) d)
-        (not_false (has is_sealed h) (way_unsealed h k.keeps w)) w c (and_both (has is_begun_got h) (has is_created_got h) b r)) (λ g. g)) promoting b
+        (not_false (has is_sealed h) (way_unsealed h k.keeps w)) w c (and_both (has is_begun_got h) (has is_created_got h) b r)) (going_as h (not (has is_answer h) || true) (or_right (not (has is_answer h)) true refl))) promoting b
         (each_more (is_unsent h) (is_unsent (Promoted (identifier_of t) x ∷ h)) (λ v q. same v x q) ws u) a
 
 -- Who stands at the end of each block of a promotion that is under way: the one that is handed over, whose ENLIST wasn't sent before CREATED; and the calls that wait.

@@ -32,6 +32,13 @@ earlier p Q stays from [] k s = absurd cc
 earlier p Q stays from (x ∷ h) k s =
     stays x h (or_case (p x) (has p h) (λ t. from x h (keeps_before x h k) (newest x h k) t) (λ t. earlier p Q stays from h (keeps_before x h k) t) s)
 
+-- the same, where what stays has its say in the table
+pub earlier_keeping : (p : Entry → Bool) (Q : List Entry → Bool) → ((x : Entry) (h : List Entry) → Keeps (x ∷ h) → Q h ≡ true → Q (x ∷ h) ≡ true)
+    → ((x : Entry) (h : List Entry) → Keeps h → rule h x ≡ true → p x ≡ true → Q h ≡ true) → (h : List Entry) → Keeps h → has p h ≡ true → Q h ≡ true
+earlier_keeping p Q stays from [] k s = absurd cc
+earlier_keeping p Q stays from (x ∷ h) k s =
+    stays x h k (or_case (p x) (has p h) (λ t. from x h (keeps_before x h k) (newest x h k) t) (λ t. earlier_keeping p Q stays from h (keeps_before x h k) t) s)
+
 -- the same, where what crosses between the sides has its say too
 pub arrived : (p : Entry → Bool) (Q : List Entry → Bool) → ((x : Entry) (h : List Entry) → Q h ≡ true → Q (x ∷ h) ≡ true)
     → ((x : Entry) (h : List Entry) → Keeps (x ∷ h) → p x ≡ true → Q h ≡ true) → (h : List Entry) → Keeps h → has p h ≡ true → Q h ≡ true

@@ -6,9 +6,16 @@ pub mod Keeping
 pub mod Crossed
 pub mod Sendings
 pub mod Recording
+pub mod LetDecide
 pub mod Evident
+pub mod JointVotes
+pub mod CameBack
+pub mod SinglePhase
+pub mod LetHand
+pub mod Decides
 pub mod Aborting
 pub mod Doubting
+pub mod SentSeen
 pub mod Standing
 pub mod TableRows
 pub mod Owned

@@ -10,19 +10,20 @@ use Rattle.dtx_values.specs.declared.message.Conn.TheVariants.{Enl, Again, Begin
 use Rattle.dtx_values.specs.declared.message.Dir.{Dir}
 use Rattle.dtx_values.specs.declared.message.Dir.TheVariants.{Up, Down}
 use Rattle.dtx_values.specs.declared.message.Message.{Message}
-use Rattle.dtx_values.specs.declared.message.Message.TheVariants.{EnlistEnlist, EnlistCommit, EnlistEnlisted, ReenlistCommitted, EnlistAck, ReenlistAck}
+use Rattle.dtx_values.specs.declared.message.Message.TheVariants.{EnlistEnlist, EnlistCommit, EnlistEnlisted, EnlistOneAborted, ReenlistCommitted, EnlistAck, ReenlistAck}
 use Rattle.dtx_values.specs.declared.number.EnlNo.{EnlNo}
 use Rattle.dtx_values.specs.declared.words.Outcome.TheVariants.{Aborted}
 use Rattle.dtx_values.specs.Ends.{same_connection, same_direction}
 use Rattle.dtx_values.specs.Table.{insert_by}
 use Rattle.dtx_model.specs.declared.branch.Branch.{Branch}
 use Rattle.dtx_model.specs.declared.desk.Ballot.{Ballot}
+use Rattle.dtx_model.specs.declared.desk.Ballot.TheVariants.{Refused}
 use Rattle.dtx_model.specs.declared.desk.Desk.{Desk}
 use Rattle.dtx_model.specs.Words.{has, each}
 use Rattle.dtx_model.specs.Observed.{branch_number, branches, is_branch, branch_acked, branch_due, due_in, observe}
 use Rattle.dtx_model.specs.Replies.{conn_due, due_conn}
 use Rattle.dtx_model.specs.Wires.{opens}
-use Rattle.dtx_model.specs.Coordinated.{accepts, ballot_of, coordinate, desk_number, follow, is_active, is_desk_of, is_prepared, unacked, with_ack, with_ballot}
+use Rattle.dtx_model.specs.Coordinated.{accepts, ballot_of, coordinate, desk_number, follow, hears_one, is_active, is_desk_of, is_prepared, unacked, with_ack, with_ballot}
 use Rattle.dtx_model.proofs.Bools.{and_both, and_left, and_right, not_both, or_case, or_right}
 use Rattle.dtx_values.proofs.SameNumbers.{same_enlistment}
 use Rattle.history_table.proofs.Scans.{has_more, each_more, each-at}
@@ -104,6 +105,15 @@ named_sent e r (Sent c d m) t =
     by (Again f) d m s w n = absurd cc
 named_sent e r _ t = absurd cc
 
+-- a ballot leaves the desk's names
+cast_managed : (e : ℕ) (o : Option Ballot) (h : List Entry) (d : Desk) → is_managed_desk h d ≡ true → is_managed_desk h (with_ballot e o d) ≡ true
+cast_managed e None h d t = t
+cast_managed e (Some b) h d t = at (is_desk_of e d)
+  where
+    at : (c : Bool) → is_managed_desk h (if c then record { enlistment = d.enlistment; manager = d.manager; ballot = Some b; acked = d.acked } else d) ≡ true
+    at true = t
+    at false = t
+
 pub desks_managed : (h : List Entry) → Keeps h → each (is_managed_desk h) (coordinate h).desks ≡ true
 unfolding coordinate follow
 desks_managed [] k = refl
@@ -117,18 +127,14 @@ desks_managed (Got (Enl e) Up (EnlistEnlist i) ∷ h) k =
     (got_sent (Enl e) Up (EnlistEnlist i) (names i.rm.value) h k.wires.0 (eq_self i.rm.value))) rest) rest
 desks_managed (Got (Enl e) Up EnlistAck ∷ h) k = changed (is_managed_desk h) (is_managed_desk h) (with_ack e.value) (λ d t. t) (coordinate h).desks (desks_managed h (keeps_before (Got (Enl e) Up EnlistAck) h k))
 desks_managed (Got (Again e) Up ReenlistAck ∷ h) k = changed (is_managed_desk h) (is_managed_desk h) (with_ack e.value) (λ d t. t) (coordinate h).desks (desks_managed h (keeps_before (Got (Again e) Up ReenlistAck) h k))
+desks_managed (Got (Enl e) Up EnlistOneAborted ∷ h) k =
+    let rest = desks_managed h (keeps_before (Got (Enl e) Up EnlistOneAborted) h k) in
+    each_if (is_managed_desk h) (hears_one (coordinate h) e.value) (map (with_ballot e.value (Some Refused)) (coordinate h).desks) (coordinate h).desks
+    (changed (is_managed_desk h) (is_managed_desk h) (with_ballot e.value (Some Refused)) (λ d t. cast_managed e.value (Some Refused) h d t) (coordinate h).desks rest) rest
 desks_managed (Got (Enl e) Up m ∷ h) k =
     let rest = desks_managed h (keeps_before (Got (Enl e) Up m) h k) in
     each_if (is_managed_desk h) (is_active (coordinate h).stage) (map (with_ballot e.value (ballot_of m)) (coordinate h).desks) (coordinate h).desks
-    (changed (is_managed_desk h) (is_managed_desk h) (with_ballot e.value (ballot_of m)) (λ d t. by (ballot_of m) d t) (coordinate h).desks rest) rest
-  where
-    by : (o : Option Ballot) (d : Desk) → is_managed_desk h d ≡ true → is_managed_desk h (with_ballot e.value o d) ≡ true
-    by None d t = t
-    by (Some b) d t = at (is_desk_of e.value d)
-      where
-        at : (c : Bool) → is_managed_desk h (if c then record { enlistment = d.enlistment; manager = d.manager; ballot = Some b; acked = d.acked } else d) ≡ true
-        at true = t
-        at false = t
+    (changed (is_managed_desk h) (is_managed_desk h) (with_ballot e.value (ballot_of m)) (λ d t. cast_managed e.value (ballot_of m) h d t) (coordinate h).desks rest) rest
 desks_managed (Restarted true ∷ h) k =
     changed (is_managed_desk h) (is_managed_desk h) unacked (λ d t. t) (filter (λ d. is_prepared d.ballot) (coordinate h).desks)
     (kept_some (is_managed_desk h) (λ d. is_prepared d.ballot) (coordinate h).desks (desks_managed h (keeps_before (Restarted true) h k)))

@@ -1,16 +1,16 @@
 -- The blocks of the messages that bring an outcome, an abort or a refusal, and of PREPARE, keep the table.
 use Rattle.std.proofs.Common.{◌≡◌, true, ◌||◌, List, ◌∷◌, ◌&&◌, false, [], Option, Some, None, refl, Bool, ◌∙◌, sym, ℕ, ap, ◌==◌, ◌++◌}
 use Rattle.std.specs.Prelude.{not, is_some, if◌then◌else◌}
-use Rattle.std.proofs.lemmas.Bool.{or_left, false_from_ne_true}
+use Rattle.std.proofs.lemmas.Bool.{or_left}
 use Rattle.dtx_values.specs.declared.entry.Ask.TheVariants.{Prepare}
 use Rattle.dtx_values.specs.declared.entry.Entry.{Entry}
-use Rattle.dtx_values.specs.declared.entry.Entry.TheVariants.{Down as Ended, Got, Told, Asked}
+use Rattle.dtx_values.specs.declared.entry.Entry.TheVariants.{Down as Ended, Got, Handed, Told, Asked}
 use Rattle.dtx_values.specs.declared.entry.Party.TheVariants.{Enl as Member}
 use Rattle.dtx_values.specs.declared.message.Conn.{Conn}
 use Rattle.dtx_values.specs.declared.message.Conn.TheVariants.{Begin, Voter, Enl, Again}
 use Rattle.dtx_values.specs.declared.message.Dir.TheVariants.{Down}
 use Rattle.dtx_values.specs.declared.message.Message.{Message}
-use Rattle.dtx_values.specs.declared.message.Message.TheVariants.{EnlistAbort, EnlistPrepare, EnlistCommit, ReenlistCommitted, ReenlistAborted}
+use Rattle.dtx_values.specs.declared.message.Message.TheVariants.{EnlistAbort, EnlistPrepare, EnlistCommit, EnlistSingle, ReenlistCommitted, ReenlistAborted}
 use Rattle.dtx_values.specs.declared.number.EnlNo.{EnlNo}
 use Rattle.dtx_values.specs.declared.number.RmNo.{RmNo}
 use Rattle.dtx_values.specs.declared.words.Outcome.TheVariants.{InDoubt, Aborted, Committed}
@@ -21,21 +21,24 @@ use Rattle.dtx_values.specs.Table.{voted}
 use Rattle.dtx_model.specs.Words.{has, latest, onto}
 use Rattle.dtx_model.specs.Entries.{is_yes, decision_of, is_decision, is_record, is_sealed, is_vote, is_asked}
 use Rattle.dtx_model.specs.Observed.{observe, ends_of, rows, Observed}
-use Rattle.dtx_model.specs.Outcome.{is_veto, is_first_veto, coordinator_doubt, doubt, is_begin_end, is_outcome_got, is_voter_end, owner_doubt}
+use Rattle.dtx_model.specs.Outcome.{is_veto, is_first_veto, coordinator_doubt, doubt, is_begin_end, is_outcome_got, is_voter_end}
 use Rattle.dtx_model.specs.Promotes.{ends_refused, ends_told, is_refusal, is_under_way}
 use Rattle.dtx_model.specs.Wires.{MayCross}
 use Rattle.dtx_model.specs.Waiting.{Waiter}
 use Rattle.dtx_model.specs.Half.{veto, decide, fails_if, is_promoting as sees_promoting, is_gone, stands, was_told}
-use Rattle.dtx_model.specs.Arrivals.{unless_decided, ended_there, ended_by, aborted_by, refused_by, committed_by, told_abort}
-use Rattle.dtx_model.proofs.Bools.{or_right, not_both, not_false, and_left, and_right, and_both}
-use Rattle.history_table.proofs.Table.{calls_off, is_lost_there, decision_row, but_failed, ends_called_off, is_commit_come, hears_decision, ask_row}
-use Rattle.history_table.proofs.EntryTests.{undecided}
+use Rattle.dtx_model.specs.Arrivals.{unless_decided, ended_there, ended_by, aborted_by, doubted_by, handed_by, is_called_off, refused_by, committed_by, told_abort}
+use Rattle.dtx_model.proofs.Bools.{or_case, or_right, not_both, not_false, and_left, and_right, and_both}
+use Rattle.history_table.proofs.Table.{calls_off, is_lost_there, decision_row, but_failed, ends_called_off, is_commit_come, is_one_committed, hears_decision, ask_row, rule}
+use Rattle.history_table.proofs.EntryTests.{is_decided, undecided}
 use Rattle.history_table.proofs.Keeping.{Keeps}
 use Rattle.history_table.proofs.Deciding.{decided_there, seen_half, one_more, decide_decides, decide_keeps, abort_keeps, veto_decides, veto_keeps}
 use Rattle.history_table.proofs.Undecided.{Stands, decided_stand, way_unsealed, goes_on, stand}
 use Rattle.history_table.proofs.Recording.{yes_if_record, sealed_if_yes}
-use Rattle.history_table.proofs.Sendings.{end_promoting, is_commit_message, record_by_got}
-use Rattle.history_table.proofs.Evident.{unrecorded_open}
+use Rattle.history_table.proofs.Sendings.{end_promoting, is_commit_verdict, verdict_by_got}
+use Rattle.history_table.proofs.Doubting.{coordinator_doubts, doubt_by_got, doubt_more, is_doubt_message, sealed_by_doubt}
+use Rattle.history_table.proofs.LetDecide.{answered_handed, committed_if_one, sealed_if_handed}
+use Rattle.history_table.proofs.LetHand.{hand_row}
+use Rattle.history_table.proofs.Evident.{unyes_open}
 use Rattle.history_table.proofs.HalfCalls.{veto_stands}
 use Rattle.history_table.proofs.HalfKnows.{way_seen}
 use Rattle.history_table.proofs.EndsSeen.{begin_end_seen, voter_end_seen}
@@ -64,20 +67,17 @@ open_block h ws ms es k f = step (latest decision_of h) refl
 end_keeps : (c : Conn) (h : List Entry) → MayCross h (Ended c Down) → Keeps h → Keeps (Ended c Down ∷ h)
 end_keeps c h m k = one_more (Ended c Down) h refl m k refl
 
-unrecorded : (h : List Entry) → Keeps h → has is_yes h ≡ false → has is_record h ≡ false
-unrecorded h k y = false_from_ne_true (has is_record h) (λ r. not_both (has is_yes h) (yes_if_record h k r) y)
-
 end_veto : (c : Conn) (h : List Entry) (ws : List Waiter) (ms : List (EnlNo × RmNo)) → Keeps (Ended c Down ∷ h) → Stands h → has is_decision h ≡ false → has is_yes h ≡ false
     → is_veto h (Ended c Down) ≡ true → Stands (onto (Ended c Down ∷ h) (veto (seen_half (Ended c Down ∷ h) ws ms)))
 end_veto c h ws ms a k d y v =
-    veto_stands (Ended c Down) h ws ms refl a d v (unrecorded_open h k.keeps (end_promoting c Down h a) (unrecorded h k.keeps y)) (or_left (not (has is_yes h)) false (not_false (has is_yes h) y))
+    veto_stands (Ended c Down) h ws ms refl a d v (unyes_open h k.keeps (end_promoting c Down h a) y) (or_left (not (has is_yes h)) false (not_false (has is_yes h) y))
 
 settled_yes : (h : List Entry) → Keeps h → has is_yes h ≡ true → is_under_way h ≡ true → ⊥
 settled_yes h k y w = not_both (has is_sealed h) (sealed_if_yes h k y) (way_unsealed h k w)
 
 both_doubt : (h : List Entry) → has is_yes h ≡ true → has is_begin_end h ≡ true → has is_voter_end h ≡ true → has is_outcome_got h ≡ false → doubt h ≡ true
-unfolding doubt coordinator_doubt
-both_doubt h y b v o = or_right (owner_doubt h) _ (rw (y, b, v, o) refl)
+unfolding coordinator_doubt
+both_doubt h y b v o = coordinator_doubts h (rw (y, b, v, o) refl)
 
 end_doubt : (c : Conn) (h : List Entry) (ws : List Waiter) (ms : List (EnlNo × RmNo)) → Keeps (Ended c Down ∷ h) → Stands h → has is_decision h ≡ false → has is_yes h ≡ true
     → (saw_end Begin (ends_of (Ended c Down ∷ h)) && saw_end Voter (ends_of (Ended c Down ∷ h))) ≡ true → Stands (onto (Ended c Down ∷ h) (decide (seen_half (Ended c Down ∷ h) ws ms) InDoubt))
@@ -158,10 +158,13 @@ refused_stands x h ws ms b k r =
     (λ d. decided_stand (onto (x ∷ h) (veto (seen_half (x ∷ h) ws ms))) (veto_keeps (x ∷ h) ws ms k d (λ w. refusal_ends x h r) off (ap ends_called_off b ∙ off)) (veto_decides (x ∷ h) ws ms))
 
 -- a commit comes only where it is sealed
-come_settled : (c : Conn) (m : Message) (h : List Entry) → Keeps h → Keeps (Got c Down m ∷ h) → is_commit_message m ≡ true → is_under_way h ≡ true → ⊥
-come_settled c m h k a t w = not_both (has is_sealed h) (sealed_if_yes h k (yes_if_record h k (record_by_got c m h a t))) (way_unsealed h k w)
+come_settled : (c : Conn) (m : Message) (h : List Entry) → Keeps h → Keeps (Got c Down m ∷ h) → is_commit_verdict m ≡ true → is_under_way h ≡ true → ⊥
+come_settled c m h k a t w =
+    not_both (has is_sealed h)
+    (or_case (has is_record h) (has is_one_committed h) (λ r. sealed_if_yes h k (yes_if_record h k r)) (λ o. sealed_if_handed h k (answered_handed Committed h k (committed_if_one h k o)))
+    (verdict_by_got c m h a t)) (way_unsealed h k w)
 
-pub committed_stands : (c : Conn) (m : Message) (h : List Entry) (ws : List Waiter) (ms : List (EnlNo × RmNo)) → Keeps h → Keeps (Got c Down m ∷ h) → is_commit_message m ≡ true
+pub committed_stands : (c : Conn) (m : Message) (h : List Entry) (ws : List Waiter) (ms : List (EnlNo × RmNo)) → Keeps h → Keeps (Got c Down m ∷ h) → is_commit_verdict m ≡ true
     → is_commit_come (Got c Down m) ≡ true → Stands (onto (Got c Down m ∷ h) (committed_by (seen_half (Got c Down m ∷ h) ws ms)))
 committed_stands c m h ws ms k a t e =
     open_block (Got c Down m ∷ h) ws ms (decide (seen_half (Got c Down m ∷ h) ws ms) Committed) a
@@ -172,6 +175,45 @@ committed_stands c m h ws ms k a t e =
     by_way : (b : Bool) → sees_promoting (observe (Got c Down m ∷ h)) ≡ b → decision_row (onto (Got c Down m ∷ h) (fails_if b)) Committed ≡ true
     by_way true q = absurd (come_settled c m h k a t (sym (way_seen (Got c Down m ∷ h)) ∙ q))
     by_way false q = or_left (is_commit_come (Got c Down m)) _ e
+
+-- What says that it is in doubt decides that.
+pub doubted_stands : (c : Conn) (m : Message) (h : List Entry) (ws : List Waiter) (ms : List (EnlNo × RmNo)) → Keeps h → Keeps (Got c Down m ∷ h) → is_doubt_message m ≡ true
+    → Stands (onto (Got c Down m ∷ h) (doubted_by (seen_half (Got c Down m ∷ h) ws ms)))
+doubted_stands c m h ws ms k a t =
+    open_block (Got c Down m ∷ h) ws ms (decide (seen_half (Got c Down m ∷ h) ws ms) InDoubt) a
+    (λ d. decided_stand (onto (Got c Down m ∷ h) (decide (seen_half (Got c Down m ∷ h) ws ms) InDoubt))
+    (decide_keeps (Got c Down m ∷ h) ws ms InDoubt a d (λ w. absurd (settled w)) (λ b q. by_way b q))
+    (decided_there (onto (Got c Down m ∷ h) (decide (seen_half (Got c Down m ∷ h) ws ms) InDoubt)) InDoubt (decide_decides (Got c Down m ∷ h) ws ms InDoubt)))
+  where
+    settled : is_under_way h ≡ true → ⊥
+    settled w = not_both (has is_sealed h) (sealed_by_doubt c m h a t) (way_unsealed h k w)
+
+    by_way : (b : Bool) → sees_promoting (observe (Got c Down m ∷ h)) ≡ b → decision_row (onto (Got c Down m ∷ h) (fails_if b)) InDoubt ≡ true
+    by_way true q = absurd (settled (sym (way_seen (Got c Down m ∷ h)) ∙ q))
+    by_way false q = doubt_more (Got c Down m) h a (doubt_by_got c m h a t)
+
+-- SINGLE hands the commit over, unless an abort is decided or the enlistment is lost.
+called_off_same : (o : Option Outcome) → is_called_off o ≡ is_decided Aborted o
+called_off_same (Some Committed) = refl
+called_off_same (Some Aborted) = refl
+called_off_same (Some InDoubt) = refl
+called_off_same None = refl
+
+pub single_stands : (h : List Entry) (ws : List Waiter) (ms : List (EnlNo × RmNo)) (e : EnlNo) → MayCross h (Got (Enl e) Down EnlistSingle) → Stands h
+    → Stands (onto (Got (Enl e) Down EnlistSingle ∷ h) (handed_by (seen_half (Got (Enl e) Down EnlistSingle ∷ h) ws ms) e))
+unfolding observe
+single_stands h ws ms e m k = step (is_called_off (latest decision_of h)) refl (is_gone (observe (Got (Enl e) Down EnlistSingle ∷ h)) e.value)
+  where
+    alone : Stands (Got (Enl e) Down EnlistSingle ∷ h)
+    alone = stand (Got (Enl e) Down EnlistSingle) h refl m k refl (λ g. g)
+
+    handed : is_called_off (latest decision_of h) ≡ false → rule (Got (Enl e) Down EnlistSingle ∷ h) (Handed e) ≡ true
+    handed q = hand_row e h alone.keeps (sym (called_off_same (latest decision_of h)) ∙ q)
+
+    step : (b : Bool) → is_called_off (latest decision_of h) ≡ b → (g : Bool) → Stands (onto (Got (Enl e) Down EnlistSingle ∷ h) (if b || g then [] else Handed e ∷ []))
+    step true q g = alone
+    step false q true = alone
+    step false q false = stand (Handed e) (Got (Enl e) Down EnlistSingle ∷ h) refl tt alone (handed q) (λ g. g)
 
 -- The abort of an enlistment: it is told, and then it is decided.
 abort_told : (h : List Entry) (ws : List Waiter) (ms : List (EnlNo × RmNo)) (e : EnlNo) → Keeps (Got (Enl e) Down EnlistAbort ∷ h)

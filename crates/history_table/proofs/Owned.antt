@@ -63,7 +63,7 @@ volatile_hears h e k =
     (λ x. and_left (is_of e.value x && is_volatile x.class) (still_hears x.vote)) (rows h) k
 
 -- none passes: none is picked
-filter_none : {A : Type 0} (p : A → Bool) (xs : List A) → has p xs ≡ false → filter p xs ≡ []
+pub filter_none : {A : Type 0} (p : A → Bool) (xs : List A) → has p xs ≡ false → filter p xs ≡ []
 filter_none p [] h = refl
 filter_none p (x ∷ xs) h = let first : p x ≡ false = or_first (p x) (has p xs) h in rw first (filter_none p xs (or_second (p x) (has p xs) h))
 
@@ -105,7 +105,7 @@ insert_alone p key x (y ∷ ys) t n =
     step p false x y ys rest t f n e = rw (t, f, n) refl
 
 -- what is picked of changed items is what is made of those picked
-filter-map : {A : Type 0} (p : A → Bool) (f : A → A) → ((x : A) → p (f x) ≡ p x) → (xs : List A) → filter p (map f xs) ≡ map f (filter p xs)
+pub filter-map : {A : Type 0} (p : A → Bool) (f : A → A) → ((x : A) → p (f x) ≡ p x) → (xs : List A) → filter p (map f xs) ≡ map f (filter p xs)
 filter-map p f same [] = refl
 filter-map p f same (x ∷ xs) = ap (λ b. if b then f x ∷ filter p (map f xs) else filter p (map f xs)) (same x) ∙ step f x (p x) (filter p xs) (filter p (map f xs)) (filter-map p f same xs)
   where

@@ -11,12 +11,13 @@ use Rattle.dtx_values.specs.declared.message.Conn.TheVariants.{Begin}
 use Rattle.dtx_values.specs.declared.message.Dir.{Dir}
 use Rattle.dtx_values.specs.declared.message.Dir.TheVariants.{Up, Down}
 use Rattle.dtx_values.specs.declared.message.Message.{Message}
-use Rattle.dtx_values.specs.declared.message.Message.TheVariants.{EnlistEnlist, BeginCommit, BeginBegin}
+use Rattle.dtx_values.specs.declared.message.Message.TheVariants.{EnlistEnlist, BeginCommit, BeginCommitOne, BeginBegin}
 use Rattle.dtx_values.specs.declared.note.Reply.{Reply}
 use Rattle.dtx_values.specs.declared.number.EnlNo.{EnlNo}
 use Rattle.dtx_values.specs.declared.words.Cause.{Cause}
 use Rattle.dtx_values.specs.Class.{is_promotable}
 use Rattle.dtx_values.specs.Lines.{has_line}
+use Rattle.dtx_model.specs.Entries.{is_commit_message}
 use Rattle.dtx_model.specs.Coordinated.{Coordinated, core_got}
 use Rattle.dtx_model.specs.Half.{Half}
 use Rattle.dtx_model.specs.Arrivals.{arrived}
@@ -74,10 +75,16 @@ pub plain_ended_at : (w : World) (c : Conn) (d : Dir) → Plain (ended_at w c d)
 plain_ended_at w c Up = of_core_down (plain.lists []) (core w) c plain_sent
 plain_ended_at w c Down = of_local_down plain (half w) c
 
+-- so is COMMIT, of either name
+pub plain_commit : (m : Message) → is_commit_message m ≡ true → not (ENLIST m) ≡ true
+plain_commit BeginCommit c = refl
+plain_commit BeginCommitOne c = refl
+plain_commit _ c = absurd cc
+
 pub plain_act : (h : Half) → Plain (act_entries h)
 plain_act h =
     of_whole_act plain h (plain_entry (ByAct (is_some h.seen.decided)) refl refl) (λ e. plain_one (Asked e Promote) refl) (λ e. plain_one (Asked e AskSingle) refl) (plain_one Sealed refl)
-    (plain_one (Sent Begin Up BeginCommit) refl)
+    (λ m c. plain_one (Sent Begin Up m) (plain_commit m c))
 
 pub plain_reply : (h : Half) (e : EnlNo) (r : Reply) → Plain (reply_entries h e r)
 plain_reply h e r = of_reply plain h e r (plain_entry (ByReply r) refl refl)

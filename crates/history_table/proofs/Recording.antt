@@ -8,15 +8,15 @@ use Rattle.dtx_values.specs.declared.message.Conn.{Conn}
 use Rattle.dtx_values.specs.declared.message.Conn.TheVariants.{Enl, Begin, Voter}
 use Rattle.dtx_values.specs.declared.message.Dir.TheVariants.{Up, Down}
 use Rattle.dtx_values.specs.declared.message.Message.{Message}
-use Rattle.dtx_values.specs.declared.message.Message.TheVariants.{EnlistEnlist, BeginCommit, BeginAborted, EnlistAbort, EnlistRefused, VoterAbort, VoterRefused}
+use Rattle.dtx_values.specs.declared.message.Message.TheVariants.{EnlistEnlist, BeginCommit, BeginCommitOne, BeginAborted, EnlistAbort, EnlistRefused, VoterAbort, VoterRefused}
 use Rattle.dtx_values.specs.declared.number.CloneNo.{CloneNo}
 use Rattle.dtx_values.specs.declared.number.EnlNo.{EnlNo}
 use Rattle.dtx_values.specs.declared.words.Class.{Class}
 use Rattle.dtx_values.specs.Class.{is_volatile}
 use Rattle.dtx_values.specs.Lines.{has_line}
 use Rattle.dtx_model.specs.Words.{has, all_of, each, latest, ever, or_else}
-use Rattle.dtx_model.specs.Entries.{is_commit, is_decision, is_sealed, is_promoted, is_yes, clone_of, is_good_vote, is_commit_got, is_yes_got, is_record}
-use Rattle.dtx_model.specs.Outcome.{is_complete, enlisted, can_own, durables, is_empty, volatiles, voters, ready, by_log, by_owner, by_seal, evidence}
+use Rattle.dtx_model.specs.Entries.{is_commit, is_decision, is_sealed, is_promoted, is_yes, clone_of, is_good_vote, is_commit_got, is_two_phase_got, is_yes_got, is_record}
+use Rattle.dtx_model.specs.Outcome.{is_complete, enlisted, can_own, durables, is_empty, volatiles, all_vote, voters, ready, by_log, by_owner, by_seal, evidence}
 use Rattle.dtx_model.specs.Learned.{coordinator_aborted, is_abort, is_first_abort}
 use Rattle.dtx_model.specs.Tied.{can_log, enlist_got, is_logged, is_ready_got, is_stop, before_first, before_first_stop, has_mark, is_unmarked, mark_of}
 use Rattle.dtx_model.specs.Wires.{is_stopped}
@@ -28,7 +28,7 @@ use Rattle.history_table.proofs.Tests.{second_of_five, third_of_five, second_of_
 use Rattle.history_table.proofs.EntryTests.{all_complete, zeros_cast, is_cloned, is_enlisted}
 use Rattle.history_table.proofs.Table.{is_settled_there, rule, is_ask_got, volatiles_well, have_come, class_row, is_enlist_got, is_there, message_row}
 use Rattle.history_table.proofs.Keeping.{Keeps, before, fifth_of_five, keeps_before, newest, newest_tied}
-use Rattle.history_table.proofs.Scans.{each_more, each_both, each-append}
+use Rattle.history_table.proofs.Scans.{each_more, each_both, each-append, has_more}
 use Rattle.history_table.proofs.Sendings.{record_of_mark, yes_if_got, own_info, good_if_ready, end_promoting, got_promoting, promoted_if_commit, aborted_by_got, aborted_more}
 use Rattle.history_table.proofs.Crossed.{no_end_up, nothing_up}
 
@@ -145,34 +145,42 @@ come_if_promoted (x ∷ h) k p = came_stays x h k p (come_if_promoted h (keeps_b
 can_parts : (a b c d e f : Bool) → (a && b && c && d && e && f) ≡ true → (a && b && c && d) ≡ true
 can_parts a b c d e f t = and_left (a && b && c && d) e (and_left (a && b && c && d && e) f t)
 
-can_first : (h : List Entry) → can_log h ≡ true → (has is_commit_got h && has is_yes_got h && each (λ i. has (is_ready_got i.enl.value) h) (all_of enlist_got h) && not (coordinator_aborted h)) ≡ true
+can_first : (h : List Entry) → can_log h ≡ true → (has is_two_phase_got h && has is_yes_got h && each (λ i. has (is_ready_got i.enl.value) h) (all_of enlist_got h) && not (coordinator_aborted h)) ≡ true
 can_first h t =
-    can_parts (has is_commit_got h) (has is_yes_got h) (each (λ i. has (is_ready_got i.enl.value) h) (all_of enlist_got h)) (not (coordinator_aborted h)) (not (has is_logged h)) (not (has is_stop h)) t
+    can_parts (has is_two_phase_got h) (has is_yes_got h) (each (λ i. has (is_ready_got i.enl.value) h) (all_of enlist_got h)) (not (coordinator_aborted h)) (not (has is_logged h)) (not (has is_stop h)) t
+
+pub can_two_phase : (h : List Entry) → can_log h ≡ true → has is_two_phase_got h ≡ true
+can_two_phase h t =
+    and_left (has is_two_phase_got h) (has is_yes_got h) (and_left (has is_two_phase_got h && has is_yes_got h) (each (λ i. has (is_ready_got i.enl.value) h) (all_of enlist_got h))
+    (and_left (has is_two_phase_got h && has is_yes_got h && each (λ i. has (is_ready_got i.enl.value) h) (all_of enlist_got h)) (not (coordinator_aborted h)) (can_first h t)))
+
+-- COMMIT for two phases is a COMMIT
+pub two_phase_commit : (x : Entry) → is_two_phase_got x ≡ true → is_commit_got x ≡ true
+two_phase_commit (Got Begin Up BeginCommit) t = refl
+two_phase_commit _ t = absurd cc
 
 pub can_commit : (h : List Entry) → can_log h ≡ true → has is_commit_got h ≡ true
-can_commit h t =
-    and_left (has is_commit_got h) (has is_yes_got h) (and_left (has is_commit_got h && has is_yes_got h) (each (λ i. has (is_ready_got i.enl.value) h) (all_of enlist_got h))
-    (and_left (has is_commit_got h && has is_yes_got h && each (λ i. has (is_ready_got i.enl.value) h) (all_of enlist_got h)) (not (coordinator_aborted h)) (can_first h t)))
+can_commit h t = has_more is_two_phase_got is_commit_got two_phase_commit h (can_two_phase h t)
 
 pub can_yes : (h : List Entry) → can_log h ≡ true → has is_yes_got h ≡ true
 can_yes h t =
-    and_right (has is_commit_got h) (has is_yes_got h) (and_left (has is_commit_got h && has is_yes_got h) (each (λ i. has (is_ready_got i.enl.value) h) (all_of enlist_got h))
-    (and_left (has is_commit_got h && has is_yes_got h && each (λ i. has (is_ready_got i.enl.value) h) (all_of enlist_got h)) (not (coordinator_aborted h)) (can_first h t)))
+    and_right (has is_two_phase_got h) (has is_yes_got h) (and_left (has is_two_phase_got h && has is_yes_got h) (each (λ i. has (is_ready_got i.enl.value) h) (all_of enlist_got h))
+    (and_left (has is_two_phase_got h && has is_yes_got h && each (λ i. has (is_ready_got i.enl.value) h) (all_of enlist_got h)) (not (coordinator_aborted h)) (can_first h t)))
 
 pub can_ready : (h : List Entry) → can_log h ≡ true → each (λ i. has (is_ready_got i.enl.value) h) (all_of enlist_got h) ≡ true
 can_ready h t =
-    and_right (has is_commit_got h && has is_yes_got h) (each (λ i. has (is_ready_got i.enl.value) h) (all_of enlist_got h))
-    (and_left (has is_commit_got h && has is_yes_got h && each (λ i. has (is_ready_got i.enl.value) h) (all_of enlist_got h)) (not (coordinator_aborted h)) (can_first h t))
+    and_right (has is_two_phase_got h && has is_yes_got h) (each (λ i. has (is_ready_got i.enl.value) h) (all_of enlist_got h))
+    (and_left (has is_two_phase_got h && has is_yes_got h && each (λ i. has (is_ready_got i.enl.value) h) (all_of enlist_got h)) (not (coordinator_aborted h)) (can_first h t))
 
 pub can_live : (h : List Entry) → can_log h ≡ true → coordinator_aborted h ≡ false
 can_live h t =
-    not_true (coordinator_aborted h) (and_right (has is_commit_got h && has is_yes_got h && each (λ i. has (is_ready_got i.enl.value) h) (all_of enlist_got h)) (not (coordinator_aborted h)) (can_first h t))
+    not_true (coordinator_aborted h) (and_right (has is_two_phase_got h && has is_yes_got h && each (λ i. has (is_ready_got i.enl.value) h) (all_of enlist_got h)) (not (coordinator_aborted h)) (can_first h t))
 
 -- it never stopped
 pub can_unstopped : (h : List Entry) → can_log h ≡ true → has is_stop h ≡ false
 can_unstopped h t =
     not_true (has is_stop h)
-    (and_right (has is_commit_got h && has is_yes_got h && each (λ i. has (is_ready_got i.enl.value) h) (all_of enlist_got h) && not (coordinator_aborted h) && not (has is_logged h)) (not (has is_stop h)) t)
+    (and_right (has is_two_phase_got h && has is_yes_got h && each (λ i. has (is_ready_got i.enl.value) h) (all_of enlist_got h) && not (coordinator_aborted h) && not (has is_logged h)) (not (has is_stop h)) t)
 
 -- Up to the first stop and on from there.
 pub first_none : (g h : List Entry) → has is_stop h ≡ false → before_first g h ≡ g
@@ -275,7 +283,7 @@ good_stays x h k t =
     let sealed = and_left (has is_sealed h) (all_good h) t in
     and_both (has is_sealed (x ∷ h)) (all_good (x ∷ h)) (or_right (is_sealed x) (has is_sealed h) sealed) (good_more x h (newest x h k) sealed (and_right (has is_sealed h) (all_good h) t))
 
-good_if_record : (h : List Entry) → Keeps h → has is_record h ≡ true → (has is_sealed h && all_good h) ≡ true
+pub good_if_record : (h : List Entry) → Keeps h → has is_record h ≡ true → (has is_sealed h && all_good h) ≡ true
 good_if_record h k s = if_record (λ g. has is_sealed g && all_good g) good_stays good_at h k s
 
 -- who came, voted well, where there is a record
@@ -292,6 +300,7 @@ pub came_voted_stays : (e : ℕ) (x : Entry) (h : List Entry) → Keeps (x ∷ h
 came_voted_stays e (Got (Enl f) Up (EnlistEnlist i)) h k t =
     absurd (not_both (has is_commit_got h) (and_left (has is_commit_got h) (not (has (is_enlist_got e) h) || has (is_good_vote e) h) t) (not_true (has is_commit_got h) (newest (Got (Enl f) Up (EnlistEnlist i)) h k)))
 came_voted_stays e (Got Begin Up BeginCommit) h k t = and_right (has is_commit_got h) (not (has (is_enlist_got e) h) || has (is_good_vote e) h) t
+came_voted_stays e (Got Begin Up BeginCommitOne) h k t = and_right (has is_commit_got h) (not (has (is_enlist_got e) h) || has (is_good_vote e) h) t
 came_voted_stays e (Voted f v) h k t =
     and_both (has is_commit_got h) (not (has (is_enlist_got e) h) || has (is_good_vote e) (Voted f v ∷ h)) (and_left (has is_commit_got h) (not (has (is_enlist_got e) h) || has (is_good_vote e) h) t)
     (or_between (not (has (is_enlist_got e) h)) (is_good_vote e (Voted f v)) (has (is_good_vote e) h) (and_right (has is_commit_got h) (not (has (is_enlist_got e) h) || has (is_good_vote e) h) t))
@@ -317,7 +326,7 @@ each_filter p q (x ∷ xs) a = step p (q x) x (filter q xs) (and_left (p x) (eac
     step p false x ys h k = k
 
 voters_pass : (p : EnlNo × Class → Bool) (h : List Entry) → each p (enlisted h) ≡ true → each p (voters h) ≡ true
-voters_pass p h a = step (has is_promoted h) (volatiles h) (durables h) (each_filter p (λ x. is_volatile x.1) (enlisted h) a) (each_filter p (λ x. not (is_volatile x.1)) (enlisted h) a)
+voters_pass p h a = step (all_vote h) (volatiles h) (durables h) (each_filter p (λ x. is_volatile x.1) (enlisted h) a) (each_filter p (λ x. not (is_volatile x.1)) (enlisted h) a)
   where
     step : (b : Bool) (vs ds : List (EnlNo × Class)) → each p vs ≡ true → each p ds ≡ true → each p (if b then vs ++ ds else vs) ≡ true
     step true vs ds v d = each-append p vs ds v d
@@ -341,7 +350,7 @@ pub live_more : (x : Entry) (h : List Entry) → (is_abort h x && not (has is_re
 unfolding coordinator_aborted
 live_more x h a l = or_false (is_abort h x && not (has is_record h)) (ever is_first_abort h) a l
 
-calm_more : (x : Entry) (h : List Entry) → is_abort h x ≡ false → coordinator_aborted h ≡ false → coordinator_aborted (x ∷ h) ≡ false
+pub calm_more : (x : Entry) (h : List Entry) → is_abort h x ≡ false → coordinator_aborted h ≡ false → coordinator_aborted (x ∷ h) ≡ false
 calm_more x h a l = live_more x h (rw a refl) l
 
 stands_stopped : (h : List Entry) → has is_stop h ≡ true → is_unmarked (latest mark_of h) ≡ true → is_stopped h ≡ true

@@ -1,6 +1,7 @@
 -- What stands before what is sent, and so before what is got.
 use Rattle.std.proofs.Common.{◌≡◌, Bool, true, ◌&&◌, List, sym, subst, ◌∷◌, false, refl, ◌==◌, []}
-use Rattle.std.specs.Prelude.{not}
+use Rattle.std.specs.Prelude.{not, ◌||◌}
+use Rattle.std.proofs.lemmas.Bool.{false_from_ne_true, or_left}
 use Rattle.dtx_values.specs.declared.entry.Entry.{Entry}
 use Rattle.dtx_values.specs.declared.entry.Entry.TheVariants.{Sent, Got, Down as End, Voted, Freed, Logged, Restarted}
 use Rattle.dtx_values.specs.declared.message.Conn.{Conn}
@@ -9,7 +10,7 @@ use Rattle.dtx_values.specs.declared.message.Dir.{Dir}
 use Rattle.dtx_values.specs.declared.message.Dir.TheVariants.{Up, Down}
 use Rattle.dtx_values.specs.declared.message.Info.{Info}
 use Rattle.dtx_values.specs.declared.message.Message.{Message}
-use Rattle.dtx_values.specs.declared.message.Message.TheVariants.{BeginCommitted, VoterCommit, EnlistCommit, ReenlistCommitted, BeginAborted, VoterRefused, VoterAbort, EnlistRefused, EnlistAbort, ReenlistAborted, VoterYes, BeginCommit, EnlistPrepared, EnlistReadonly, EnlistEnlist}
+use Rattle.dtx_values.specs.declared.message.Message.TheVariants.{BeginCommitted, VoterCommit, EnlistCommit, ReenlistCommitted, BeginAborted, VoterRefused, VoterAbort, EnlistRefused, EnlistAbort, ReenlistAborted, VoterYes, BeginCommit, BeginCommitOne, EnlistPrepared, EnlistSingle, EnlistReadonly, EnlistEnlist}
 use Rattle.dtx_values.specs.declared.number.EnlNo.{EnlNo}
 use Rattle.dtx_values.specs.declared.words.Vote.{Vote}
 use Rattle.dtx_values.specs.declared.words.Vote.TheVariants.{Yes, No, Done}
@@ -17,17 +18,18 @@ use Rattle.dtx_values.specs.Ends.{same_connection, same_direction}
 use Rattle.dtx_values.specs.Lines.{has_line}
 use Rattle.dtx_values.specs.Vote.{is_good}
 use Rattle.dtx_model.specs.Words.{has, ever}
-use Rattle.dtx_model.specs.Entries.{is_yes, is_yes_got, is_promoted, is_sealed, is_decision, is_commit_got, is_good_vote, is_record}
+use Rattle.dtx_model.specs.Entries.{is_yes, is_yes_got, is_any_single_sent, is_promoted, is_sealed, is_decision, is_commit_got, is_good_vote, is_record}
 use Rattle.dtx_model.specs.Learned.{coordinator_aborted, is_first_abort}
 use Rattle.dtx_model.specs.Tied.{is_ready_got, has_mark, is_logged}
 use Rattle.dtx_model.specs.Wires.{opens}
-use Rattle.dtx_model.specs.Promotes.{is_promoting}
+use Rattle.dtx_model.specs.Promotes.{ends_told, is_promoting, is_refusal}
 use Rattle.dtx_model.specs.Caused.{same_vote}
-use Rattle.dtx_model.proofs.Bools.{and_left, and_right, not_both, not_true, or_right, and_both}
+use Rattle.dtx_model.specs.Coordinated.{coordinate, has_desk, is_sole}
+use Rattle.dtx_model.proofs.Bools.{and_left, and_right, not_both, not_true, not_false, or_case, or_false, or_right, and_both}
 use Rattle.dtx_model.proofs.Connections.{same_is, same_way_is}
-use Rattle.history_table.proofs.Tests.{first_of_four, fourth_of_four, second_of_four, second_of_three}
-use Rattle.history_table.proofs.Table.{is_there, message_row, rule, is_cast}
-use Rattle.history_table.proofs.Keeping.{Keeps, before, earlier, keeps_before}
+use Rattle.history_table.proofs.Tests.{first_of_four, third_of_four, fourth_of_four, second_of_four}
+use Rattle.history_table.proofs.Table.{ends_with, is_aborted_for_good, is_one_aborted, is_one_committed, is_one_phase_got, is_there, may_commit, may_let_decide, message_row, rule, is_cast}
+use Rattle.history_table.proofs.Keeping.{Keeps, before, earlier, earlier_keeping, keeps_before, newest}
 use Rattle.history_table.proofs.Crossed.{is_sent_on, is_got_on, was_sent, got_sent, end_opened}
 use Rattle.history_table.proofs.Messages.{YES, COMMIT, VOTED}
 use Rattle.history_table.proofs.Scans.{has_more}
@@ -74,6 +76,18 @@ pub by_got : (c : Conn) (d : Dir) (p : Message → Bool) (Q : List Entry → Boo
 by_got c d p Q stays f m h k t =
     let past = keeps_before (Got c d m) h k in earlier (is_sent_on c d p) Q stays (sent_row c d p Q f) h past (got_sent c d m p h k.wires.0 t)
 
+-- the same, where what stays has its say in the table
+pub by_got_keeping : (c : Conn) (d : Dir) (p : Message → Bool) (Q : List Entry → Bool) → ((x : Entry) (h : List Entry) → Keeps (x ∷ h) → Q h ≡ true → Q (x ∷ h) ≡ true)
+    → ((m : Message) (h : List Entry) → Keeps h → p m ≡ true → has_line c d m ≡ true → message_row h c m ≡ true → Q h ≡ true)
+    → (m : Message) (h : List Entry) → Keeps (Got c d m ∷ h) → p m ≡ true → Q h ≡ true
+by_got_keeping c d p Q stays f m h k t =
+    let past = keeps_before (Got c d m) h k in earlier_keeping (is_sent_on c d p) Q stays (sent_row c d p Q f) h past (got_sent c d m p h k.wires.0 t)
+
+pub from_got_keeping : (c : Conn) (d : Dir) (p : Message → Bool) (Q : List Entry → Bool) → ((x : Entry) (h : List Entry) → Keeps (x ∷ h) → Q h ≡ true → Q (x ∷ h) ≡ true)
+    → ((m : Message) (h : List Entry) → Keeps h → p m ≡ true → has_line c d m ≡ true → message_row h c m ≡ true → Q h ≡ true)
+    → (h : List Entry) → Keeps h → has (is_got_on c d p) h ≡ true → Q h ≡ true
+from_got_keeping c d p Q stays f h k s = earlier_keeping (is_sent_on c d p) Q stays (sent_row c d p Q f) h k (was_sent c d p h k.wires s)
+
 -- what is got has a line there
 pub got_line : (c : Conn) (d : Dir) (m : Message) (h : List Entry) → Keeps (Got c d m ∷ h) → has_line c d m ≡ true
 got_line c d m h k = step (has_line c d m) refl
@@ -95,13 +109,16 @@ got_promoting c d m h k =
 pub end_promoting : (c : Conn) (d : Dir) (h : List Entry) → Keeps (End c d ∷ h) → has is_promoting h ≡ true
 end_promoting c d h k = opened_promoting c h (keeps_before (End c d) h k) (end_opened c d h k.wires.0)
 
--- a commit that the coordinator sends, and an abort or a refusal
+-- a commit that the coordinator sends to an enlistment, one that it sends on b or v, and an abort or a refusal
 abbrev pub is_commit_message : Message → Bool
-is_commit_message BeginCommitted = true
-is_commit_message VoterCommit = true
 is_commit_message EnlistCommit = true
 is_commit_message ReenlistCommitted = true
 is_commit_message _ = false
+
+abbrev pub is_commit_verdict : Message → Bool
+is_commit_verdict BeginCommitted = true
+is_commit_verdict VoterCommit = true
+is_commit_verdict _ = false
 
 abbrev pub is_abort_message : Message → Bool
 is_abort_message BeginAborted = true
@@ -112,9 +129,23 @@ is_abort_message EnlistAbort = true
 is_abort_message ReenlistAborted = true
 is_abort_message _ = false
 
+-- an abort or a refusal that comes only where nobody was let decide
+abbrev pub is_final_abort : Message → Bool
+is_final_abort BeginAborted = true
+is_final_abort (VoterRefused cause) = true
+is_final_abort VoterAbort = true
+is_final_abort (EnlistRefused cause) = true
+is_final_abort EnlistAbort = true
+is_final_abort _ = false
+
+-- what the newest entry passes, some passes
+pub ends_has : (p : Entry → Bool) (h : List Entry) → ends_with p h ≡ true → has p h ≡ true
+ends_has p [] t = absurd cc
+ends_has p (x ∷ h) t = or_left (p x) (has p h) t
+
 -- The local side said yes where the coordinator got that.
 yes_of : (m : Message) (h : List Entry) → Keeps h → YES m ≡ true → has_line Voter Up m ≡ true → message_row h Voter m ≡ true → has is_yes h ≡ true
-yes_of VoterYes h k t l r = r
+yes_of VoterYes h k t l r = ends_has is_yes h r
 yes_of _ h k t l r = absurd cc
 
 pub yes_got_on : (x : Entry) → is_yes_got x ≡ true → is_got_on Voter Up YES x ≡ true
@@ -126,12 +157,14 @@ yes_if_got h k s =
     from_got Voter Up YES (λ g. has is_yes g) (λ x g t. or_right (is_yes x) (has is_yes g) t) yes_of h k (has_more is_yes_got (is_got_on Voter Up YES) yes_got_on h s)
 
 -- It was promoted where the coordinator got COMMIT.
-commit_of : (m : Message) (h : List Entry) → Keeps h → COMMIT m ≡ true → has_line Begin Up m ≡ true → message_row h Begin m ≡ true → has is_promoted h ≡ true
-commit_of BeginCommit h k t l r = second_of_three (has is_sealed h) (has is_promoted h) (not (has is_decision h)) r
+pub commit_of : (m : Message) (h : List Entry) → Keeps h → COMMIT m ≡ true → has_line Begin Up m ≡ true → message_row h Begin m ≡ true → has is_promoted h ≡ true
+commit_of BeginCommit h k t l r = second_of_four (has is_sealed h) (has is_promoted h) (not (has is_decision h)) _ (and_left (may_commit h) _ r)
+commit_of BeginCommitOne h k t l r = second_of_four (has is_sealed h) (has is_promoted h) (not (has is_decision h)) _ (and_left (may_commit h) _ r)
 commit_of _ h k t l r = absurd cc
 
 pub commit_got_on : (x : Entry) → is_commit_got x ≡ true → is_got_on Begin Up COMMIT x ≡ true
 commit_got_on (Got Begin Up BeginCommit) t = refl
+commit_got_on (Got Begin Up BeginCommitOne) t = refl
 commit_got_on _ t = absurd cc
 
 pub promoted_if_commit : (h : List Entry) → Keeps h → has is_commit_got h ≡ true → has is_promoted h ≡ true
@@ -180,9 +213,17 @@ pub logged_record : (x : Entry) → is_logged x ≡ true → is_record x ≡ tru
 logged_record Logged t = refl
 logged_record _ t = absurd cc
 
+verdict : (h : List Entry) → (has is_logged h || has is_one_committed h) ≡ true → (has is_record h || has is_one_committed h) ≡ true
+verdict h t =
+    or_case (has is_logged h) (has is_one_committed h) (λ a. or_left (has is_record h) (has is_one_committed h) (has_more is_logged is_record logged_record h a))
+    (λ a. or_right (has is_record h) (has is_one_committed h) a) t
+
+verdict_more : (x : Entry) (h : List Entry) → (has is_record h || has is_one_committed h) ≡ true → (has is_record (x ∷ h) || has is_one_committed (x ∷ h)) ≡ true
+verdict_more x h t =
+    or_case (has is_record h) (has is_one_committed h) (λ a. or_left (has is_record (x ∷ h)) (has is_one_committed (x ∷ h)) (or_right (is_record x) (has is_record h) a))
+    (λ a. or_right (has is_record (x ∷ h)) (has is_one_committed (x ∷ h)) (or_right (is_one_committed x) (has is_one_committed h) a)) t
+
 record_of : (c : Conn) (m : Message) (h : List Entry) → Keeps h → is_commit_message m ≡ true → has_line c Down m ≡ true → message_row h c m ≡ true → has is_record h ≡ true
-record_of c BeginCommitted h k t l r = has_more is_logged is_record logged_record h r
-record_of c VoterCommit h k t l r = has_more is_logged is_record logged_record h r
 record_of c EnlistCommit h k t l r = has_more is_logged is_record logged_record h r
 record_of c ReenlistCommitted h k t l r = record_of_mark h r
 record_of c _ h k t l r = absurd cc
@@ -190,22 +231,76 @@ record_of c _ h k t l r = absurd cc
 pub record_by_got : (c : Conn) (m : Message) (h : List Entry) → Keeps (Got c Down m ∷ h) → is_commit_message m ≡ true → has is_record h ≡ true
 record_by_got c m h k t = by_got c Down is_commit_message (λ g. has is_record g) (λ x g s. or_right (is_record x) (has is_record g) s) (record_of c) m h k t
 
+-- on b and v it comes also where the one that was let decide committed
+verdict_of : (c : Conn) (m : Message) (h : List Entry) → Keeps h → is_commit_verdict m ≡ true → has_line c Down m ≡ true → message_row h c m ≡ true → (has is_record h || has is_one_committed h) ≡ true
+verdict_of c BeginCommitted h k t l r = verdict h r
+verdict_of c VoterCommit h k t l r = verdict h r
+verdict_of c _ h k t l r = absurd cc
+
+pub verdict_by_got : (c : Conn) (m : Message) (h : List Entry) → Keeps (Got c Down m ∷ h) → is_commit_verdict m ≡ true → (has is_record h || has is_one_committed h) ≡ true
+verdict_by_got c m h k t = by_got c Down is_commit_verdict (λ g. has is_record g || has is_one_committed g) verdict_more (verdict_of c) m h k t
+
 -- The coordinator aborted where its abort or refusal is got.
 pub aborted_more : (x : Entry) (h : List Entry) → coordinator_aborted h ≡ true → coordinator_aborted (x ∷ h) ≡ true
 unfolding coordinator_aborted
 aborted_more x h t = or_right (is_first_abort h x) (ever is_first_abort h) t
 
 pub abort_of : (c : Conn) (m : Message) (h : List Entry) → Keeps h → is_abort_message m ≡ true → has_line c Down m ≡ true → message_row h c m ≡ true → coordinator_aborted h ≡ true
-abort_of c BeginAborted h k t l r = r
-abort_of c (VoterRefused cause) h k t l r = r
-abort_of c VoterAbort h k t l r = r
-abort_of c (EnlistRefused cause) h k t l r = r
-abort_of c EnlistAbort h k t l r = r
+abort_of c BeginAborted h k t l r = and_left (coordinator_aborted h) _ r
+abort_of c (VoterRefused cause) h k t l r = and_left (coordinator_aborted h) _ r
+abort_of c VoterAbort h k t l r = and_left (coordinator_aborted h) _ r
+abort_of c (EnlistRefused cause) h k t l r = and_left (coordinator_aborted h) _ r
+abort_of c EnlistAbort h k t l r = and_left (coordinator_aborted h) _ r
 abort_of c ReenlistAborted h k t l r = r
 abort_of c _ h k t l r = absurd cc
 
 pub aborted_by_got : (c : Conn) (m : Message) (h : List Entry) → Keeps (Got c Down m ∷ h) → is_abort_message m ≡ true → coordinator_aborted h ≡ true
 aborted_by_got c m h k t = by_got c Down is_abort_message coordinator_aborted aborted_more (abort_of c) m h k t
+
+-- Nobody is let decide once the coordinator aborted, so what it aborted for good stays so.
+pub single_row : (x : Entry) (h : List Entry) → rule h x ≡ true → is_any_single_sent x ≡ true → (e : EnlNo) × (x ≡ Sent (Enl e) Down EnlistSingle) × (may_let_decide h (Enl e) ≡ true)
+single_row (Sent (Enl e) Down EnlistSingle) h r t =
+    (e, refl, fourth_of_four (has_line (Enl e) Down EnlistSingle) (has is_promoting h) (is_there h (Enl e) Down EnlistSingle) (message_row h (Enl e) EnlistSingle) r)
+single_row _ h r t = absurd cc
+
+pub single_live : (h : List Entry) (e : EnlNo) → may_let_decide h (Enl e) ≡ true → coordinator_aborted h ≡ false
+single_live h e m =
+    not_true (coordinator_aborted h)
+    (third_of_four (has is_one_phase_got h) (has is_yes_got h) (not (coordinator_aborted h)) (is_sole (coordinate h).stage && has_desk (coordinate h) e.value) m)
+
+pub for_good_more : (x : Entry) (h : List Entry) → rule h x ≡ true → is_aborted_for_good h ≡ true → is_aborted_for_good (x ∷ h) ≡ true
+for_good_more x h r t =
+    let a = and_left (coordinator_aborted h) (not (has is_any_single_sent h) || has is_one_aborted h) t in
+    and_both (coordinator_aborted (x ∷ h)) (not (has is_any_single_sent (x ∷ h)) || has is_one_aborted (x ∷ h)) (aborted_more x h a)
+    (or_case (not (has is_any_single_sent h)) (has is_one_aborted h)
+    (λ n. or_left (not (has is_any_single_sent (x ∷ h))) (has is_one_aborted (x ∷ h)) (not_false (has is_any_single_sent (x ∷ h)) (or_false (is_any_single_sent x) (has is_any_single_sent h)
+    (false_from_ne_true (is_any_single_sent x) (λ s. let w = single_row x h r s in not_both (coordinator_aborted h) a (single_live h w.0 w.2))) (not_true (has is_any_single_sent h) n))))
+    (λ o. or_right (not (has is_any_single_sent (x ∷ h))) (has is_one_aborted (x ∷ h)) (or_right (is_one_aborted x) (has is_one_aborted h) o))
+    (and_right (coordinator_aborted h) (not (has is_any_single_sent h) || has is_one_aborted h) t))
+
+good_of : (c : Conn) (m : Message) (h : List Entry) → Keeps h → is_final_abort m ≡ true → has_line c Down m ≡ true → message_row h c m ≡ true → is_aborted_for_good h ≡ true
+good_of c BeginAborted h k t l r = r
+good_of c (VoterRefused cause) h k t l r = r
+good_of c VoterAbort h k t l r = r
+good_of c (EnlistRefused cause) h k t l r = r
+good_of c EnlistAbort h k t l r = r
+good_of c _ h k t l r = absurd cc
+
+pub for_good_by_got : (c : Conn) (m : Message) (h : List Entry) → Keeps (Got c Down m ∷ h) → is_final_abort m ≡ true → is_aborted_for_good h ≡ true
+for_good_by_got c m h k t = by_got_keeping c Down is_final_abort is_aborted_for_good (λ x g w q. for_good_more x g (newest x g w) q) (good_of c) m h k t
+
+-- so it did where its refusal is got, and where the telling of its abort comes
+pub refusal_for_good : (x : Entry) (h : List Entry) → Keeps (x ∷ h) → is_refusal x ≡ true → is_aborted_for_good h ≡ true
+refusal_for_good (Got Begin Down BeginAborted) h k t = for_good_by_got Begin BeginAborted h k refl
+refusal_for_good (Got Voter Down (VoterRefused cause)) h k t = for_good_by_got Voter (VoterRefused cause) h k refl
+refusal_for_good (Got Voter Down VoterAbort) h k t = for_good_by_got Voter VoterAbort h k refl
+refusal_for_good (Got (Enl e) Down (EnlistRefused cause)) h k t = for_good_by_got (Enl e) (EnlistRefused cause) h k refl
+refusal_for_good (Got (Enl e) Down EnlistAbort) h k t = for_good_by_got (Enl e) EnlistAbort h k refl
+refusal_for_good _ h k t = absurd cc
+
+pub told_for_good : (x : Entry) (h : List Entry) → Keeps h → ends_told h x ≡ true → is_aborted_for_good h ≡ true
+told_for_good x (Got (Enl e) Down EnlistAbort ∷ h) k t = for_good_more (Got (Enl e) Down EnlistAbort) h (newest (Got (Enl e) Down EnlistAbort) h k) (for_good_by_got (Enl e) EnlistAbort h k refl)
+told_for_good x _ k t = absurd cc
 
 -- An enlistment's ENLIST names that enlistment.
 abbrev pub is_own : EnlNo → Message → Bool

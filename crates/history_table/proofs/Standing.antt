@@ -29,6 +29,7 @@ use Rattle.history_table.proofs.Keeping.{Keeps, before, fifth_of_five, keeps_bef
 use Rattle.history_table.proofs.Tests.{second_of_four, fourth_of_four, first_of_three}
 use Rattle.history_table.proofs.EntryTests.{is_enlisted}
 use Rattle.history_table.proofs.Evident.{volatile_more}
+pub use Rattle.history_table.proofs.Sendings.{ends_has}
 
 -- Where the message that opens a connection was got, the connection was opened.
 opening_got_on : (c : Conn) (x : Entry) → is_opening_got c x ≡ true → is_got_on c Up (is_opening c) x ≡ true
@@ -107,10 +108,6 @@ unvolatile_if_opened e [] k s = absurd cc
 unvolatile_if_opened e (x ∷ h) k s = opened_apart e x h k (unvolatile_if_opened e h (keeps_before x h k)) s
 
 -- Who was asked to prepare is volatile, or got PREPARE.
-pub ends_has : (p : Entry → Bool) (h : List Entry) → ends_with p h ≡ true → has p h ≡ true
-ends_has p [] t = absurd cc
-ends_has p (x ∷ h) t = or_left (p x) (has p h) t
-
 prepare_row : (f : EnlNo) (h : List Entry) → ask_row h f.value ≡ true → (stands_volatile f.value h || has (is_prepare_got f.value) h) ≡ true
 prepare_row f h r =
     or_case (stands_volatile f.value h && has is_commit h && not (has is_decision h)) (ends_with (is_prepare_got f.value) h)

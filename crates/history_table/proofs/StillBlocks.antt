@@ -10,7 +10,7 @@ use Rattle.dtx_values.specs.declared.message.Conn.TheVariants.{Begin}
 use Rattle.dtx_values.specs.declared.message.Dir.{Dir}
 use Rattle.dtx_values.specs.declared.message.Dir.TheVariants.{Up, Down}
 use Rattle.dtx_values.specs.declared.message.Message.{Message}
-use Rattle.dtx_values.specs.declared.message.Message.TheVariants.{BeginCommit, BeginBegun, VoterCreated, EnlistEnlisted}
+use Rattle.dtx_values.specs.declared.message.Message.TheVariants.{BeginBegun, VoterCreated, EnlistEnlisted}
 use Rattle.dtx_values.specs.declared.note.Reply.{Reply}
 use Rattle.dtx_values.specs.declared.number.EnlNo.{EnlNo}
 use Rattle.dtx_values.specs.Lines.{is_opening, has_line}
@@ -96,7 +96,7 @@ st_ended_at w c Down = of_local_down still (half w) c
 pub st_act : (h : Half) → Still (act_entries h)
 st_act h =
     of_whole_act still h (still_entry (ByAct (is_some h.seen.decided))) (λ e. st_one (Asked e Promote) refl) (λ e. st_one (Asked e AskSingle) refl) (st_one Sealed refl)
-    (st_one (Sent Begin Up BeginCommit) refl)
+    (λ m c. st_one (Sent Begin Up m) refl)
 
 pub st_reply : (h : Half) (e : EnlNo) (r : Reply) → Still (reply_entries h e r)
 st_reply h e r = of_reply still h e r (still_entry (ByReply r))

@@ -11,11 +11,12 @@ use Rattle.dtx_values.specs.declared.message.Conn.TheVariants.{Begin}
 use Rattle.dtx_values.specs.declared.message.Dir.{Dir}
 use Rattle.dtx_values.specs.declared.message.Dir.TheVariants.{Up, Down}
 use Rattle.dtx_values.specs.declared.message.Message.{Message}
-use Rattle.dtx_values.specs.declared.message.Message.TheVariants.{BeginBegin, BeginCommit}
+use Rattle.dtx_values.specs.declared.message.Message.TheVariants.{BeginBegin, BeginCommit, BeginCommitOne}
 use Rattle.dtx_values.specs.declared.note.Reply.{Reply}
 use Rattle.dtx_values.specs.declared.number.EnlNo.{EnlNo}
 use Rattle.dtx_model.specs.Words.{each, has}
 use Rattle.dtx_values.specs.Class.{is_promotable}
+use Rattle.dtx_model.specs.Entries.{is_commit_message}
 use Rattle.dtx_model.specs.Coordinated.{Coordinated, core_got}
 use Rattle.dtx_model.specs.Half.{Half, is_promoting}
 use Rattle.dtx_model.specs.Arrivals.{arrived}
@@ -92,6 +93,12 @@ pub tame_ended_at : (w : World) (c : Conn) (d : Dir) → Tame (ended_at w c d)
 tame_ended_at w c Up = of_core_down (tame.lists []) (core w) c tame_sent
 tame_ended_at w c Down = of_local_down tame (half w) c
 
+-- COMMIT, of either name, isn't BEGIN
+tame_commit : (m : Message) → is_commit_message m ≡ true → not (BEGIN m) ≡ true
+tame_commit BeginCommit c = refl
+tame_commit BeginCommitOne c = refl
+tame_commit _ c = absurd cc
+
 -- what holds of tame blocks, of an ask to promote while a promotion is under way, and of an ask to commit once it is sealed and promoted, holds of the local act
 pub record OfActs (h : Half) (P : List Entry → Type 0) : Type 0 where
   pub tame : (es : List Entry) → Tame es → P es
@@ -105,7 +112,7 @@ of_act h P f =
       rest = λ es q. f.tame es q;
       promote = λ e d w s. f.promote e w;
       single = λ e d s p q. f.single e s p;
-      seal = λ d s u. f.tame (Sealed ∷ commit_sent h.seen) (tame_cons Sealed refl (of_commit_sent tame [] h.seen (tame_one (Sent Begin Up BeginCommit) refl)));
+      seal = λ d s u. f.tame (Sealed ∷ commit_sent h.seen) (tame_cons Sealed refl (of_commit_sent tame [] h.seen (λ m c. tame_one (Sent Begin Up m) (tame_commit m c))));
     })
 
 -- a reply by which no promotable says that it promoted

@@ -12,7 +12,7 @@ use Rattle.dtx_values.specs.Class.{is_promotable}
 use Rattle.dtx_values.specs.declared.limits.TheConstants.{ENLISTMENTS, CALLS}
 use Rattle.dtx_values.specs.Owners.{may_own}
 use Rattle.dtx_values.specs.Row.{is_of}
-use Rattle.dtx_model.specs.Words.{latest, has, onto}
+use Rattle.dtx_model.specs.Words.{latest, has}
 use Rattle.dtx_model.specs.Entries.{is_decision, decision_of, is_promoted}
 use Rattle.dtx_model.specs.Outcome.{enlisted}
 use Rattle.dtx_model.specs.Observed.{cause_of_promotion, is_ask_promote, is_promote_reply, is_promotion_failed, observe, rows}
@@ -20,9 +20,7 @@ use Rattle.dtx_model.specs.Half.{is_promoting}
 use Rattle.dtx_model.specs.Replies.{due_of, fits}
 use Rattle.dtx_model.specs.Facts.{has_facts}
 use Rattle.dtx_model.specs.World.{World, half}
-use Rattle.dtx_model.specs.Caused.{is_begin_sent}
 use Rattle.dtx_model.proofs.Bools.{not_both, and_left, not_true}
-use Rattle.history_table.proofs.EntryTests.{has_promotable}
 use Rattle.history_table.proofs.Owned.{decision_seen, has_rows}
 use Rattle.history_table.proofs.HalfReplies.{owed}
 use Rattle.history_table.proofs.Lists.{found_at, has-at}

@@ -2,7 +2,6 @@
 -- no promotion failed, and the coordinator sent no outcome. And where there is no evidence then.
 use Rattle.std.proofs.Common.{◌≡◌, ◌==◌, ℕ, Bool, true, false, ◌&&◌, ◌||◌, List, [], ◌∷◌, ◌++◌, refl, ◌∙◌, ap, sym, subst}
 use Rattle.std.specs.Prelude.{not, filter, if◌then◌else◌}
-use Rattle.std.proofs.lemmas.List.Folds.{list_all-append}
 use Rattle.std.proofs.lemmas.Bool.{false_from_ne_true, or_left}
 use Rattle.dtx_values.specs.declared.entry.Entry.{Entry}
 use Rattle.dtx_values.specs.declared.entry.Entry.TheVariants.{Handed, OwnerAnswered}
@@ -13,26 +12,27 @@ use Rattle.dtx_values.specs.Class.{is_volatile}
 use Rattle.dtx_values.specs.Owners.{is_evident}
 use Rattle.dtx_model.specs.Words.{each, has, latest}
 use Rattle.dtx_model.specs.Entries.{handed_of, is_any_hand, is_commit, is_decision, is_good_vote, is_hand, is_owner, is_promoted, is_record, is_sealed, is_vote, is_yes}
-use Rattle.dtx_model.specs.Outcome.{by_log, by_owner, by_seal, can_own, durables, enlisted, evidence, is_empty, is_outcome_got, owner_committed, ready, volatiles, voters}
+use Rattle.dtx_model.specs.Outcome.{all_vote, by_log, by_owner, by_seal, can_own, durables, enlisted, evidence, is_empty, is_outcome_got, owner_committed, ready, volatiles, voters}
 use Rattle.dtx_model.specs.Observed.{is_promotion_failed, observe, rows}
 use Rattle.dtx_model.specs.Promotes.{is_promoting, is_under_way}
 use Rattle.dtx_model.specs.Half.{is_handed}
 use Rattle.dtx_model.specs.Tied.{is_tied}
 use Rattle.dtx_model.specs.Wires.{MayCross}
 use Rattle.dtx_model.specs.Answers.{has_promotion}
-use Rattle.dtx_model.proofs.Bools.{and_both, and_left, and_right, not_both, not_false, not_true, or_case, or_first, or_second}
+use Rattle.dtx_model.proofs.Bools.{and_left, and_right, and_both, not_both, not_false, not_true, or_case, or_first, or_second}
 use Rattle.history_table.proofs.Tests.{first_of_three, second_of_three}
 use Rattle.history_table.proofs.Scans.{each_more, has_less, has_more}
 use Rattle.history_table.proofs.EntryTests.{is_answer, is_enlisted, is_only, all_closed, enlisted_passes}
 use Rattle.history_table.proofs.Handed.{hand_any}
 use Rattle.history_table.proofs.Owned.{empty_list}
-use Rattle.history_table.proofs.Table.{rule}
+use Rattle.history_table.proofs.Table.{may_hand, rule}
 use Rattle.history_table.proofs.Keeping.{Keeps, fifth_of_five, keeps_before, newest}
-use Rattle.history_table.proofs.Recording.{promoted_if_sealed, yes_if_record}
+use Rattle.history_table.proofs.Recording.{all_good, good_if_record, promoted_if_sealed, yes_if_record}
+use Rattle.history_table.proofs.LetDecide.{handed_if_answered}
 use Rattle.history_table.proofs.HalfRows.{evident_seen}
 use Rattle.history_table.proofs.HalfKnows.{way_seen}
 use Rattle.history_table.proofs.Deciding.{one_more}
-use Rattle.history_table.proofs.Evident.{owner_handed}
+use Rattle.history_table.proofs.Evident.{not_all, owner_handed}
 
 -- each volatile that voted, voted yes or done
 abbrev pub is_willing : List Entry → EnlNo × Class → Bool
@@ -41,9 +41,13 @@ is_willing h x = not (is_volatile x.1) || (not (has (is_vote x.0.value) h) || ha
 abbrev pub all_willing : List Entry → Bool
 all_willing h = each (is_willing h) (enlisted h)
 
+-- no owner answered, unless of a promotion
+abbrev pub is_unanswered : List Entry → Bool
+is_unanswered h = not (has is_answer h) || has is_promoted h
+
 abbrev pub is_going : List Entry → Bool
 is_going h =
-    has is_decision h || (all_willing h && not (has is_answer h) && (not (has is_commit h) || all_closed h) && (not (has is_promotion_failed h) && not (has is_outcome_got h)))
+    has is_decision h || (all_willing h && is_unanswered h && (not (has is_commit h) || all_closed h) && (not (has is_promotion_failed h) && not (has is_outcome_got h)))
 
 -- what holds at the end of each block
 pub record Stands (h : List Entry) : Type 0 where
@@ -61,26 +65,49 @@ decided_stand h k d = record { keeps = k; going = or_left (has is_decision h) _ 
 -- what goes on where nothing is decided
 pub record IsOpen (h : List Entry) : Type 0 where
   pub willing : all_willing h ≡ true
-  pub unanswered : has is_answer h ≡ false
+  pub unanswered : has is_promoted h ≡ false → has is_answer h ≡ false
   pub closed : (not (has is_commit h) || all_closed h) ≡ true
   pub unfailed : has is_promotion_failed h ≡ false
   pub unheard : has is_outcome_got h ≡ false
 
+unanswered_here : (h : List Entry) → has is_promoted h ≡ false → is_unanswered h ≡ true → has is_answer h ≡ false
+unanswered_here h p t = or_case (not (has is_answer h)) (has is_promoted h) (not_true (has is_answer h)) (λ q. absurd (not_both (has is_promoted h) q p)) t
+
 pub goes_on : (h : List Entry) → Stands h → has is_decision h ≡ false → IsOpen h
 goes_on h k d = step (has is_decision h) d k.going
   where
-    step : (b : Bool) → b ≡ false → (b || (all_willing h && not (has is_answer h) && (not (has is_commit h) || all_closed h) && (not (has is_promotion_failed h) && not (has is_outcome_got h)))) ≡ true → IsOpen h
+    step : (b : Bool) → b ≡ false → (b || (all_willing h && is_unanswered h && (not (has is_commit h) || all_closed h) && (not (has is_promotion_failed h) && not (has is_outcome_got h)))) ≡ true → IsOpen h
     step true e g = absurd cc
     step false e g =
-        let first = and_left (all_willing h && not (has is_answer h) && (not (has is_commit h) || all_closed h)) (not (has is_promotion_failed h) && not (has is_outcome_got h)) g in
-        let last = and_right (all_willing h && not (has is_answer h) && (not (has is_commit h) || all_closed h)) (not (has is_promotion_failed h) && not (has is_outcome_got h)) g in
+        let first = and_left (all_willing h && is_unanswered h && (not (has is_commit h) || all_closed h)) (not (has is_promotion_failed h) && not (has is_outcome_got h)) g in
+        let last = and_right (all_willing h && is_unanswered h && (not (has is_commit h) || all_closed h)) (not (has is_promotion_failed h) && not (has is_outcome_got h)) g in
         record {
-          willing = first_of_three (all_willing h) (not (has is_answer h)) (not (has is_commit h) || all_closed h) first;
-          unanswered = not_true (has is_answer h) (second_of_three (all_willing h) (not (has is_answer h)) (not (has is_commit h) || all_closed h) first);
-          closed = and_right (all_willing h && not (has is_answer h)) (not (has is_commit h) || all_closed h) first;
+          willing = first_of_three (all_willing h) (is_unanswered h) (not (has is_commit h) || all_closed h) first;
+          unanswered = λ p. unanswered_here h p (second_of_three (all_willing h) (is_unanswered h) (not (has is_commit h) || all_closed h) first);
+          closed = and_right (all_willing h && is_unanswered h) (not (has is_commit h) || all_closed h) first;
           unfailed = not_true (has is_promotion_failed h) (and_left (not (has is_promotion_failed h)) (not (has is_outcome_got h)) last);
           unheard = not_true (has is_outcome_got h) (and_right (not (has is_promotion_failed h)) (not (has is_outcome_got h)) last);
         }
+
+-- no owner answered, where of a promotion nobody is handed the commit
+pub unanswered_if : (h : List Entry) → Stands h → has is_decision h ≡ false → (has is_promoted h ≡ true → has is_any_hand h ≡ false) → has is_answer h ≡ false
+unanswered_if h k d f = by (has is_promoted h) refl
+  where
+    by : (b : Bool) → has is_promoted h ≡ b → has is_answer h ≡ false
+    by true p = false_from_ne_true (has is_answer h) (λ t. not_both (has is_any_hand h) (handed_if_answered h k.keeps t) (f p))
+    by false p = (goes_on h k d).unanswered p
+
+-- whether an owner answered doesn't matter of a promotion
+pub going_as : (h : List Entry) (v : Bool) → v ≡ true → is_going h ≡ true
+    → (has is_decision h || (all_willing h && v && (not (has is_commit h) || all_closed h) && (not (has is_promotion_failed h) && not (has is_outcome_got h)))) ≡ true
+going_as h v e g = swap (has is_decision h) (all_willing h) (is_unanswered h) v (not (has is_commit h) || all_closed h) (not (has is_promotion_failed h) && not (has is_outcome_got h)) e g
+  where
+    swap : (d w u v c f : Bool) → v ≡ true → (d || (w && u && c && f)) ≡ true → (d || (w && v && c && f)) ≡ true
+    swap true w u v c f q t = refl
+    swap false true true true c f q t = t
+    swap false true false v c f q t = absurd cc
+    swap false false u v c f q t = absurd cc
+    swap false true true false c f q t = absurd cc
 
 -- A promotion is under way where one began, and it neither succeeded nor failed.
 pub promotes_on : (h : List Entry) → has is_promoting h ≡ true → has is_promoted h ≡ false → has is_promotion_failed h ≡ false → is_under_way h ≡ true
@@ -107,7 +134,7 @@ hand_seen e [] k = refl
 hand_seen e (Handed f ∷ h) k = step (e == f.value) (has (is_hand e) h) (has_less (is_hand e) is_any_hand (hand_any e) h (none_yet (newest (Handed f) h k)))
   where
     none_yet : rule h (Handed f) ≡ true → has is_any_hand h ≡ false
-    none_yet r = not_true (has is_any_hand h) (and_left (not (has is_any_hand h)) (not (has is_promoting h)) (fifth_of_five (not (has is_decision h)) (has is_sealed h) (ready h) (is_only f.value (durables h)) _ r))
+    none_yet r = not_true (has is_any_hand h) (fifth_of_five (may_hand h f.value) (has is_sealed h) (ready h) (is_only f.value (durables h)) (not (has is_any_hand h)) r)
 
     step : (a b : Bool) → b ≡ false → a ≡ (a || b)
     step true b e = refl
@@ -135,38 +162,20 @@ owner_answered h (x ∷ xs) t =
     any_answer e (OwnerAnswered f p) k = refl
     any_answer e _ k = k
 
--- each passes where it passes among those that are picked, and among the others
-both_parts : {A : Type 0} (p q : A → Bool) (xs : List A) → each q (filter p xs) ≡ true → each q (filter (λ x. not (p x)) xs) ≡ true → each q xs ≡ true
-both_parts p q [] a b = refl
-both_parts p q (x ∷ xs) a b = step (both_parts p q xs) (p x) a b
-  where
-    step : (each q (filter p xs) ≡ true → each q (filter (λ x. not (p x)) xs) ≡ true → each q xs ≡ true) → (c : Bool) → each q (if c then x ∷ filter p xs else filter p xs) ≡ true → each q (if not c then x ∷ filter (λ x. not (p x)) xs else filter (λ x. not (p x)) xs) ≡ true
-        → (q x && each q xs) ≡ true
-    step ih true a b = and_both (q x) (each q xs) (and_left (q x) (each q (filter p xs)) a) (ih (and_right (q x) (each q (filter p xs)) a) b)
-    step ih false a b =
-        and_both (q x) (each q xs) (and_left (q x) (each q (filter (λ x. not (p x)) xs)) b) (ih a (and_right (q x) (each q (filter (λ x. not (p x)) xs)) b))
-
 -- Where it is ready, who votes voted well.
 voters_well : (h : List Entry) → ready h ≡ true → each (λ x. has (is_good_vote x.0.value) h) (voters h) ≡ true
 unfolding ready
 voters_well h r = and_right (has is_commit h && _) (each (λ x. has (is_good_vote x.0.value) h) (voters h)) r
 
--- the voters of a history that isn't promoted, and of one that is
-voters_here : (h : List Entry) (b : Bool) → has is_promoted h ≡ b → voters h ≡ (if b then volatiles h ++ durables h else volatiles h)
+-- the voters of a history where each votes, and where the volatiles do
+voters_here : (h : List Entry) (b : Bool) → all_vote h ≡ b → voters h ≡ (if b then volatiles h ++ durables h else volatiles h)
 voters_here h b e = ap (λ c. if c then volatiles h ++ durables h else volatiles h) e
 
--- where it is promoted and ready, each voted well
-promoted_well : (h : List Entry) → has is_promoted h ≡ true → ready h ≡ true → each (λ x. has (is_good_vote x.0.value) h) (enlisted h) ≡ true
-promoted_well h p r =
-    let q : EnlNo × Class → Bool = λ x. has (is_good_vote x.0.value) h in
-    let both : (each q (volatiles h) && each q (durables h)) ≡ true = sym (list_all-append q (volatiles h) (durables h)) ∙ subst (λ xs. each q xs ≡ true) (voters_here h true p) (voters_well h r) in
-    both_parts (λ x. is_volatile x.1) q (enlisted h) (and_left (each q (volatiles h)) (each q (durables h)) both) (and_right (each q (volatiles h)) (each q (durables h)) both)
-
--- where it isn't, is ready, and nothing is durable or promotable, each is volatile and voted well
+-- where it isn't promoted, is ready, and nothing is durable or promotable, each is volatile and voted well
 local_well : (h : List Entry) → has is_promoted h ≡ false → ready h ≡ true → is_empty (durables h) ≡ true → each (λ x. is_volatile x.1 && has (is_good_vote x.0.value) h) (enlisted h) ≡ true
 local_well h p r n =
     both_picked (λ x. is_volatile x.1) (λ x. has (is_good_vote x.0.value) h) (enlisted h) (empty_list (durables h) n)
-    (subst (λ xs. each (λ x. has (is_good_vote x.0.value) h) xs ≡ true) (voters_here h false p) (voters_well h r))
+    (subst (λ xs. each (λ x. has (is_good_vote x.0.value) h) xs ≡ true) (voters_here h false (not_all h p)) (voters_well h r))
 
 -- where there is evidence it is ready, and it is by the seal, by the owner or by the log
 pub record IsBy (h : List Entry) (C : Type 0) : Type 0 where
@@ -177,11 +186,11 @@ pub record IsBy (h : List Entry) (C : Type 0) : Type 0 where
 by_evidence : {C : Type 0} (h : List Entry) → evidence h ≡ true → IsBy h C → C
 unfolding evidence by_seal by_owner by_log
 by_evidence h e f =
-    or_case ((has is_sealed h && not (has is_promoted h) && is_empty (durables h)) || (not (has is_promoted h) && owner_committed h (durables h))) (has is_promoted h && has is_record h)
-    (λ t. or_case (has is_sealed h && not (has is_promoted h) && is_empty (durables h)) (not (has is_promoted h) && owner_committed h (durables h))
+    or_case ((has is_sealed h && not (has is_promoted h) && is_empty (durables h)) || (not (all_vote h) && owner_committed h (durables h))) (has is_promoted h && has is_record h)
+    (λ t. or_case (has is_sealed h && not (has is_promoted h) && is_empty (durables h)) (not (all_vote h) && owner_committed h (durables h))
     (λ s. f.seal (not_true (has is_promoted h) (second_of_three (has is_sealed h) (not (has is_promoted h)) (is_empty (durables h)) s))
     (first_of_three (has is_sealed h) (not (has is_promoted h)) (is_empty (durables h)) s) (and_right (has is_sealed h && not (has is_promoted h)) (is_empty (durables h)) s))
-    (λ o. f.owner (and_right (not (has is_promoted h)) (owner_committed h (durables h)) o)) t)
+    (λ o. f.owner (and_right (not (all_vote h)) (owner_committed h (durables h)) o)) t)
     (λ l. f.log (and_left (has is_promoted h) (has is_record h) l) (and_right (has is_promoted h) (has is_record h) l)) (and_right (ready h) _ e)
 
 ready_there : (h : List Entry) → evidence h ≡ true → ready h ≡ true
@@ -189,13 +198,13 @@ unfolding evidence
 ready_there h e = and_left (ready h) _ e
 
 -- where one that stands hasn't voted well, and no owner answered, there is no evidence
-pub unwilling_open : (h : List Entry) (e : ℕ) → has (is_enlisted e) h ≡ true → has (is_good_vote e) h ≡ false → has is_answer h ≡ false → evidence h ≡ false
-unwilling_open h e s v u =
-    false_from_ne_true (evidence h) (λ k. let r = ready_there h k in by_evidence h k (record {
+pub unwilling_open : (h : List Entry) (e : ℕ) → Keeps h → has (is_enlisted e) h ≡ true → has (is_good_vote e) h ≡ false → has is_answer h ≡ false → evidence h ≡ false
+unwilling_open h e k s v u =
+    false_from_ne_true (evidence h) (λ t. let r = ready_there h t in by_evidence h t (record {
       seal = λ p q n. not_both (has (is_good_vote e) h) (enlisted_passes (λ f. has (is_good_vote f) h) e h
           (each_more (λ x. is_volatile x.1 && has (is_good_vote x.0.value) h) (λ x. has (is_good_vote x.0.value) h) (λ x. and_right (is_volatile x.1) (has (is_good_vote x.0.value) h)) (enlisted h) (local_well h p r n)) s) v;
       owner = λ o. not_both (has is_answer h) (owner_answered h (durables h) o) u;
-      log = λ p l. not_both (has (is_good_vote e) h) (enlisted_passes (λ f. has (is_good_vote f) h) e h (promoted_well h p r) s) v;
+      log = λ p l. not_both (has (is_good_vote e) h) (enlisted_passes (λ f. has (is_good_vote f) h) e h (and_right (has is_sealed h) (all_good h) (good_if_record h k l)) s) v;
     }))
 
 -- where the local side hasn't said yes and the commit isn't handed over, the rows show evidence where there is some

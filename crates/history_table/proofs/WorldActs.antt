@@ -5,11 +5,11 @@ use Rattle.std.proofs.lemmas.Bool.{false_from_ne_true, or_left}
 use Rattle.std.proofs.lemmas.Bool.Decides.{nat_tests}
 use Rattle.dtx_values.specs.declared.entry.Ask.TheVariants.{Prepare, Promote, Single}
 use Rattle.dtx_values.specs.declared.entry.Entry.{Entry}
-use Rattle.dtx_values.specs.declared.entry.Entry.TheVariants.{Asked, Handed, LocalYes, Sealed, Told}
+use Rattle.dtx_values.specs.declared.entry.Entry.TheVariants.{Asked, Handed, LocalYes, Requested, Sealed, Told}
 use Rattle.dtx_values.specs.declared.entry.Party.{Party}
 use Rattle.dtx_values.specs.declared.entry.Party.TheVariants.{Client, Enl}
 use Rattle.dtx_values.specs.declared.message.Conn.TheVariants.{Begin, Voter}
-use Rattle.dtx_values.specs.declared.message.Message.TheVariants.{BeginCommit, VoterAsk, VoterYes}
+use Rattle.dtx_values.specs.declared.message.Message.TheVariants.{BeginCommit, BeginCommitOne, VoterAsk, VoterYes}
 use Rattle.dtx_values.specs.declared.number.EnlNo.{EnlNo}
 use Rattle.dtx_values.specs.declared.number.RmNo.{RmNo}
 use Rattle.dtx_values.specs.declared.words.Outcome.{Outcome}
@@ -17,34 +17,35 @@ use Rattle.dtx_values.specs.declared.words.Outcome.TheVariants.{Committed}
 use Rattle.dtx_values.specs.Class.{is_class, is_volatile}
 use Rattle.dtx_values.specs.Clones.{blocks, is_open_block}
 use Rattle.dtx_values.specs.Ends.{tag_of, was_got}
-use Rattle.dtx_values.specs.Owners.{owner_of}
+use Rattle.dtx_values.specs.Owners.{commits_alone, owner_of}
 use Rattle.dtx_values.specs.Row.{is_marked}
 use Rattle.dtx_values.specs.Waves.{all_voted, is_over, next_ask, zeros_voted}
 use Rattle.dtx_model.specs.declared.listener.Listener.{Listener}
 use Rattle.dtx_model.specs.Words.{all_of, each, has, latest, onto}
 use Rattle.dtx_model.specs.Entries.{clone_of, decision_of, handed_of, is_any_hand, is_asked, is_commit, is_decision, is_good_vote, is_promoted, is_sealed, is_vote, is_yes}
-use Rattle.dtx_model.specs.Observed.{clone_rows, ends_of, is_ask_single, listeners, observe, rows}
-use Rattle.dtx_model.specs.Outcome.{by_log, by_owner, by_seal, durables, enlisted, evidence, hears_doubt, is_complete, is_empty, ready, volatiles, voters}
+use Rattle.dtx_model.specs.Observed.{clone_rows, ends_of, is_ask_single, is_request, listeners, observe, rows}
+use Rattle.dtx_model.specs.Outcome.{all_vote, by_log, by_owner, by_seal, durables, enlisted, evidence, hears_doubt, is_complete, is_empty, ready, volatiles, voters}
 use Rattle.dtx_model.specs.Promotes.{is_promoting, is_under_way}
 use Rattle.dtx_model.specs.Waiting.{Waiter, managed, waiting}
 use Rattle.dtx_model.specs.Half.{decide, fails_if, to_up, is_promoting as sees_promoting}
-use Rattle.dtx_model.specs.Acts.{act_by, act_entries, after_seal, ask_or, asked_act, commit_act, commit_sent, hears_abort, is_to_tell, promotable_in, promoted_act, sealed_act, tell, unasked_promotable, undecided_act, under_way, voter_act, yes_act}
+use Rattle.dtx_model.specs.Acts.{act_by, act_entries, after_seal, ask_or, asked_act, commit_act, commit_message, commit_sent, hears_abort, is_to_tell, promotable_in, promoted_act, sealed_act, tell, unasked_promotable, undecided_act, under_way, voter_act, yes_act}
 use Rattle.dtx_model.specs.World.{World, half}
 use Rattle.dtx_model.proofs.Bools.{and_both, and_left, and_right, not_both, not_false, not_true, or_right, three_hold}
-use Rattle.history_table.proofs.Tests.{five_hold, same_self, close_step, shut_step}
+use Rattle.history_table.proofs.Tests.{five_hold, four_hold, third_of_four, same_self, close_step, shut_step}
 use Rattle.history_table.proofs.Scans.{each_both}
 use Rattle.history_table.proofs.Lists.{none_each, passes, each_filter}
-use Rattle.history_table.proofs.EntryTests.{all_complete, is_certain, is_decided, is_only, zeros_cast, undecided, all_closed}
+use Rattle.history_table.proofs.EntryTests.{all_complete, has_promotable, is_certain, is_decided, is_only, zeros_cast, undecided, all_closed}
 use Rattle.history_table.proofs.Owned.{any_hand_seen}
-use Rattle.history_table.proofs.Table.{decision_row, ends_again, ends_with, hears_decision, hears_here, is_again, is_ask_got, is_settled_there, rule, stands_volatile, volatiles_well}
-use Rattle.history_table.proofs.Keeping.{Keeps}
+use Rattle.history_table.proofs.Table.{is_abort_decided, is_abort_sent, is_lone_owner, is_single_got, may_commit, may_hand, decision_row, ends_again, ends_with, hears_decision, hears_here, is_again, is_ask_got, is_settled_there, rule, stands_promotable, stands_volatile, volatiles_well}
+use Rattle.history_table.proofs.Keeping.{Keeps, before}
 use Rattle.history_table.proofs.Recording.{commit_if_sealed, complete_if_sealed, promoted_if_sealed}
 use Rattle.history_table.proofs.HalfRows.{all_voted_seen, open_blocks, row_marked, zeros_seen}
 use Rattle.history_table.proofs.HalfKnows.{ask_got, way_seen}
-use Rattle.history_table.proofs.HalfOwner.{owner_none, owner_only}
+use Rattle.history_table.proofs.HalfOwner.{lone_seen, none_promotable, owner_none, owner_only}
+use Rattle.history_table.proofs.Evident.{not_all}
 use Rattle.history_table.proofs.Deciding.{decide_decides, decide_keeps, decided_there, seen_half}
 use Rattle.history_table.proofs.Undecided.{Stands, decided_stand, goes_on, is_willing, promotes_on, stand, way_unsealed}
-use Rattle.history_table.proofs.HalfReplies.{to_up_stands}
+use Rattle.history_table.proofs.HalfReplies.{to_up_stands, unaborted_yet}
 use Rattle.history_table.proofs.NextActs.{asked_volatile, row_volatile, to_tell_well, next_passes}
 
 -- the history doesn't end with a message on the connection of a reenlistment: what it brings is told in its block
@@ -120,18 +121,40 @@ may_seal h n k d c s o =
     settled false false a b w = refl
     settled false true a b w = absurd (not_both (is_under_way h) (promotes_on h b a (goes_on h k d).unfailed) w)
 
-seal_stands : (h : List Entry) → Stands h → has is_decision h ≡ false → rule h Sealed ≡ true → Stands (onto h (Sealed ∷ commit_sent (observe h)))
+-- a request comes after the seal
+request_sealed : (x : Entry) (h : List Entry) → Keeps h → rule h x ≡ true → is_request x ≡ true → has is_sealed h ≡ true
+request_sealed (Requested e q) h k r t = third_of_four (not (has is_decision h)) (has is_promoted h) (has is_sealed h) (stands_promotable e.value h && not (has is_request h)) r
+request_sealed _ h k r t = absurd cc
+
+sealed_if_request : (h : List Entry) → Keeps h → has is_request h ≡ true → has is_sealed h ≡ true
+sealed_if_request h k t = before is_request is_sealed request_sealed h k t
+
+-- COMMIT is sent of the name that the one durable asks for, where nothing is promotable
+commit_row : (h : List Entry) → Keeps h → has is_decision h ≡ false → has is_sealed h ≡ false → has is_promoted h ≡ true → is_some (promotable_in (rows h)) ≡ false → may_commit (Sealed ∷ h) ≡ true
+commit_row h k d s p n =
+    four_hold true (has is_promoted h) (not (has is_decision h)) (not (has is_abort_sent h) && (not (has_promotable h) || has is_request h)) refl p (not_false (has is_decision h) d)
+    (and_both (not (has is_abort_sent h)) (not (has_promotable h) || has is_request h)
+    (not_false (has is_abort_sent h) (unaborted_yet h k d (false_from_ne_true (has is_request h) (λ r. not_both (has is_sealed h) (sealed_if_request h k r) s))))
+    (or_left (not (has_promotable h)) (has is_request h) (not_false (has_promotable h) (none_promotable h n))))
+
+seal_stands : (h : List Entry) → Stands h → has is_decision h ≡ false → has is_sealed h ≡ false → rule h Sealed ≡ true → Stands (onto h (Sealed ∷ commit_sent (observe h)))
 unfolding observe
-seal_stands h k d r = step (has is_promoted h) (is_some (promotable_in (rows h))) refl
+seal_stands h k d s r = step (has is_promoted h) (is_some (promotable_in (rows h))) refl refl
   where
     sealed : Stands (Sealed ∷ h)
     sealed = stand Sealed h refl tt k r (λ g. g)
 
-    step : (p q : Bool) → has is_promoted h ≡ p → Stands (onto (Sealed ∷ h) (if p && not q then to_up (observe h) Begin BeginCommit else []))
-    step false q e = sealed
-    step true true e = sealed
-    step true false e =
-        to_up_stands h (Sealed ∷ h) Begin BeginCommit sealed refl (λ o. o) (and_both (has is_promoted h) (not (has is_decision h)) e (not_false (has is_decision h) d))
+    named : may_commit (Sealed ∷ h) ≡ true → (b : Bool) → commits_alone (rows h) ≡ b → Stands (onto (Sealed ∷ h) (to_up (observe h) Begin (if b then BeginCommitOne else BeginCommit)))
+    named m true q =
+        to_up_stands h (Sealed ∷ h) Begin BeginCommitOne sealed refl (λ o. o) (and_both (may_commit (Sealed ∷ h)) (is_lone_owner (durables h)) m (sym (lone_seen h) ∙ q))
+    named m false q =
+        to_up_stands h (Sealed ∷ h) Begin BeginCommit sealed refl (λ o. o)
+        (and_both (may_commit (Sealed ∷ h)) (not (is_lone_owner (durables h))) m (not_false (is_lone_owner (durables h)) (sym (lone_seen h) ∙ q)))
+
+    step : (p q : Bool) → has is_promoted h ≡ p → is_some (promotable_in (rows h)) ≡ q → Stands (onto (Sealed ∷ h) (if p && not q then to_up (observe h) Begin (commit_message (observe h)) else []))
+    step false q e n = sealed
+    step true true e n = sealed
+    step true false e n = named (commit_row h k.keeps d s e n) (commits_alone (rows h)) refl
 
 -- After the seal. Where all voted, each volatile voted well.
 well_now : (h : List Entry) → Stands h → has is_decision h ≡ false → all_voted (rows h) ≡ true → volatiles_well h ≡ true
@@ -173,7 +196,7 @@ unfolding ready
 may_ready h k d s p a =
     let good = each_filter (λ x. is_volatile x.1) (λ x. has (is_good_vote x.0.value) h) (enlisted h) (well_now h k d a) in
     three_hold (has is_commit h) (all_complete h) (each (λ x. has (is_good_vote x.0.value) h) (voters h)) (commit_if_sealed h k.keeps s) (complete_if_sealed h k.keeps s)
-    (here (has is_promoted h) p good)
+    (here (all_vote h) (not_all h p) good)
   where
     here : (b : Bool) → b ≡ false → each (λ x. has (is_good_vote x.0.value) h) (volatiles h) ≡ true
         → each (λ x. has (is_good_vote x.0.value) h) (if b then volatiles h ++ durables h else volatiles h) ≡ true
@@ -191,15 +214,18 @@ local_commit h s p a n =
 settled_way : (h : List Entry) → Keeps h → has is_sealed h ≡ true → sees_promoting (observe h) ≡ true → ⊥
 settled_way h k s q = not_both (has is_sealed h) s (way_unsealed h k (sym (way_seen h) ∙ q))
 
+local_hand : (h : List Entry) (e : EnlNo) → has is_decision h ≡ false → (b : Bool) → b ≡ false → (if b then ends_with (is_single_got e.value) h && not (is_abort_decided h) else not (has is_decision h)) ≡ true
+local_hand h e d true q = absurd cc
+local_hand h e d false q = not_false (has is_decision h) d
+
 commit_stands : (h : List Entry) (ws : List Waiter) (ms : List (EnlNo × RmNo)) (handed : Bool) (owner : Option EnlNo) → Stands h → has is_decision h ≡ false → has is_sealed h ≡ true → has is_promoted h ≡ false
     → ready h ≡ true → handed ≡ has is_any_hand h → owner_of (rows h) ≡ owner → Stands (onto h (if handed then [] else commit_act (seen_half h ws ms) owner))
 commit_stands h ws ms true owner k d s p r u o = k
 commit_stands h ws ms false (Some e) k d s p r u o =
     let unpromoting = false_from_ne_true (has is_promoting h) (λ q. not_both (has is_promoted h) (promoted_if_sealed h k.keeps s q) p) in
     stand (Handed e) h refl tt k
-    (five_hold (not (has is_decision h)) (has is_sealed h) (ready h) (is_only e.value (durables h)) (not (has is_any_hand h) && not (has is_promoting h)) (not_false (has is_decision h) d) s r
-    (owner_only h e k.keeps unpromoting o)
-    (and_both (not (has is_any_hand h)) (not (has is_promoting h)) (not_false (has is_any_hand h) (sym u)) (not_false (has is_promoting h) unpromoting))) (λ g. g)
+    (five_hold (may_hand h e.value) (has is_sealed h) (ready h) (is_only e.value (durables h)) (not (has is_any_hand h)) (local_hand h e d (has is_promoting h) unpromoting) s r
+    (owner_only h e k.keeps unpromoting o) (not_false (has is_any_hand h) (sym u))) (λ g. g)
 commit_stands h ws ms false None k d s p r u o =
     let unpromoting = false_from_ne_true (has is_promoting h) (λ q. not_both (has is_promoted h) (promoted_if_sealed h k.keeps s q) p) in
     let row = local_commit h s p r (owner_none h k.keeps unpromoting o) in
@@ -238,7 +264,7 @@ asked_stands h ws ms k d c = step (has is_sealed h) refl
     step true s = sealed_stands h ws ms k d s
     step false s =
         ask_or_stands h (next_ask (rows h) true) (is_over (rows h) (clone_rows h) (under_way (seen_half h ws ms))) (Sealed ∷ commit_sent (observe h)) k (next_well h true k.keeps d c)
-        (λ o. seal_stands h k d (may_seal h (length ws) k d c s o))
+        (λ o. seal_stands h k d s (may_seal h (length ws) k d c s o))
 
 undecided_stands : (h : List Entry) (ws : List Waiter) (ms : List (EnlNo × RmNo)) (o : Option EnlNo) → Stands h → has is_decision h ≡ false → Stands (onto h (undecided_act (seen_half h ws ms) o))
 unfolding observe

@@ -1,7 +1,7 @@
 -- The block of each call that may come keeps the table, promoted or not.
 use Rattle.std.proofs.Common.{Bool, true, ◌&&◌, List, ◌≡◌, false, ℕ, Option, Some, None, refl, ◌||◌, ◌∷◌, ◌∙◌, sym, [], ap, subst, ◌==◌}
 use Rattle.std.specs.Prelude.{not, if◌then◌else◌, map, is_some, find, length}
-use Rattle.std.proofs.lemmas.Bool.{false_from_ne_true, or_left}
+use Rattle.std.proofs.lemmas.Bool.{eqb-true, false_from_ne_true, or_left}
 use Rattle.dtx_values.specs.declared.number.ActorNo.{ActorNo}
 use Rattle.dtx_values.specs.declared.number.EnlNo.{EnlNo}
 use Rattle.dtx_values.specs.declared.number.RmNo.{RmNo}
@@ -14,7 +14,7 @@ use Rattle.dtx_values.specs.declared.limits.TheConstants.{ENLISTMENTS, CALLS, DU
 use Rattle.dtx_values.specs.declared.entry.Answer.{Answer}
 use Rattle.dtx_values.specs.declared.entry.Answer.TheVariants.{Fine, Many, TooLate, True, False, Wait, Id, NotBegun, NoSuch, Finished, Over, Connected}
 use Rattle.dtx_values.specs.declared.entry.Entry.{Entry}
-use Rattle.dtx_values.specs.declared.entry.Entry.TheVariants.{Lost, Clock, Late, TimedOut, Called, Enlisted, Init, Got, Reenlisted, Sent, Began, Cloned, CommitAsked, Completed, RollbackAsked, Recovered as RecoveredEntry}
+use Rattle.dtx_values.specs.declared.entry.Entry.TheVariants.{Lost, OwnerAnswered, Clock, Late, TimedOut, Called, Enlisted, Init, Got, Reenlisted, Sent, Began, Cloned, CommitAsked, Completed, RollbackAsked, Recovered as RecoveredEntry}
 use Rattle.dtx_values.specs.declared.message.Conn.{Conn}
 use Rattle.dtx_values.specs.declared.message.Conn.TheVariants.{Enl as OnEnl, Again}
 use Rattle.dtx_values.specs.declared.message.Dir.TheVariants.{Down, Up}
@@ -32,10 +32,10 @@ use Rattle.dtx_values.specs.Owners.{is_evident, cause_of, may_own}
 use Rattle.dtx_values.specs.Row.{is_lasting, is_of}
 use Rattle.dtx_values.specs.Support.{is_single}
 use Rattle.dtx_values.specs.Table.{voted}
-use Rattle.dtx_model.specs.Words.{has, onto, latest, each}
-use Rattle.dtx_model.specs.Entries.{is_good_vote, is_yes, is_vote, is_decision, is_hand, is_any_hand, is_any_owner, is_sealed, decision_of, handed_of, is_promoted, began_of, is_commit}
-use Rattle.dtx_model.specs.Observed.{observe, rows, track, branches, is_branch, clock, clone_rows}
-use Rattle.dtx_model.specs.Outcome.{enlisted, doubt, is_lost_owner, owner_doubt, evidence, by_log, by_owner, by_seal, ready}
+use Rattle.dtx_model.specs.Words.{all_of, ever, has, onto, latest, each}
+use Rattle.dtx_model.specs.Entries.{is_any_single_sent, is_owner, is_owner_answer, is_single_sent, is_good_vote, is_yes, is_vote, is_decision, is_hand, is_any_hand, is_any_owner, is_sealed, decision_of, handed_of, is_promoted, began_of, is_commit}
+use Rattle.dtx_model.specs.Observed.{observe, rows, track, branches, is_branch, is_done_branch, clock, clone_rows}
+use Rattle.dtx_model.specs.Outcome.{enlisted, is_lost_owner, owner_doubt, evidence, by_log, by_owner, by_seal, ready}
 use Rattle.dtx_model.specs.Promotes.{identifier_of, is_under_way, is_enlisted_got, is_promoting}
 use Rattle.dtx_model.specs.Wires.{opens, is_ended}
 use Rattle.dtx_model.specs.declared.branch.Branch.{Branch}
@@ -43,22 +43,28 @@ use Rattle.dtx_model.specs.Waiting.{Waiter, managed, waiting}
 use Rattle.dtx_model.specs.Half.{veto, decide, fails_if, is_promoting as sees_promoting, enlist_sent, is_handed, info, is_gone, sees, veto_if}
 use Rattle.dtx_model.specs.Answers.{if_begun, unless_ended, clone_answer, complete_answer, unless_late, gone_answer, wait_for, class_of, has_promotion, is_crowded, is_full, is_full_of_durables, local_answer, marshal_answer, promotable_answer, volatile_answer, limit_of}
 use Rattle.dtx_model.specs.Facts.{has_facts, is_late, facts_if, begin_promotion, durable_waits, is_done, durable_facts, tick_facts, ticked, reaches}
-use Rattle.dtx_model.specs.World.{cut_upward, World, answer_at, half, gone_by, open_ones, has_left, is_connected, is_linked, was_opened, reenlist_facts, branch_answer, core, is_finished_there, reenlist_answer, reenlist_by, unless_stopped, cut}
+use Rattle.dtx_model.specs.World.{cut_upward, has_answered_there, is_out_row, World, answer_at, half, gone_by, open_ones, has_left, is_connected, is_linked, was_opened, reenlist_facts, branch_answer, core, is_finished_there, reenlist_answer, reenlist_by, unless_stopped, cut}
 use Rattle.dtx_model.specs.Steps.{called}
-use Rattle.dtx_model.proofs.Bools.{and_left, not_true, and_right, not_both, or_case, and_both, not_false, or_first, or_second, and_never, or_false, or_right}
+use Rattle.dtx_model.proofs.Bools.{and_left, not_true, and_right, not_both, or_case, and_both, not_false, or_first, or_second, and_never, or_false, or_right, three_hold}
 use Rattle.dtx_model.proofs.Unowned.{causeless}
 use Rattle.dtx_model.proofs.Classes.{volatile_class}
 use Rattle.history_table.proofs.EntryTests.{is_cloned, is_enlisted, enlisted_passes, is_answer, undecided}
-use Rattle.history_table.proofs.Table.{stands_volatile, is_enlist_got, is_lost_there, decision_row}
+use Rattle.history_table.proofs.Table.{stands_volatile, is_enlist_got, is_left_alone, is_opening_got, is_lost_there, decision_row}
 use Rattle.history_table.proofs.HalfRows.{volatile_stands, vote_seen, commit_vetoed}
 use Rattle.history_table.proofs.Scans.{each_both, has_less, has_more}
 use Rattle.history_table.proofs.Keeping.{Keeps, arrived}
 use Rattle.history_table.proofs.Recording.{come_if_promoted, promoted_if_yes, well_if_yes, promoting_if_promoted}
 use Rattle.history_table.proofs.TableRows.{unvoted_unwell, none_there, enlisted_in_rows, clone_stands}
-use Rattle.history_table.proofs.Undecided.{Stands, stand, goes_on, unwilling_open, decided_stand, way_unsealed, unowned_evident, none_began, hand_seen}
+use Rattle.history_table.proofs.Undecided.{Stands, stand, goes_on, unanswered_if, unwilling_open, decided_stand, way_unsealed, unowned_evident, none_began, hand_seen}
 use Rattle.history_table.proofs.Deciding.{seen_half, decide_decides, decide_keeps, decided_there}
 use Rattle.history_table.proofs.HalfCalls.{veto_stands, timeout_stands, call_alone, enlisted_stands, begin_stands, begun_if_promoted, enlist_stands, owner_row, cloned_stands, commit_stands, completed_stands, rollback_stands}
-use Rattle.history_table.proofs.Handed.{any_answer, hand_any}
+use Rattle.history_table.proofs.Handed.{any_answer, hand_any, hand_name}
+use Rattle.history_table.proofs.Doubting.{owner_doubts}
+use Rattle.history_table.proofs.LetDecide.{single_any, single_if_handed, yes_if_single}
+use Rattle.history_table.proofs.SinglePhase.{single_only}
+use Rattle.history_table.proofs.CameBack.{came_if_enlisted}
+use Rattle.history_table.proofs.HalfOwner.{enlist_opening}
+use Rattle.history_table.proofs.Standing.{opened_if_got}
 use Rattle.history_table.proofs.Evident.{sealed_if_handed}
 use Rattle.history_table.proofs.HalfKnows.{way_seen}
 use Rattle.history_table.proofs.Owned.{any_hand_seen, none_lasting, decision_seen}
@@ -163,16 +169,29 @@ lost_where h e k s v = step (has is_yes h) refl
 lost_alone : (h : List Entry) (e : EnlNo) → Stands h → has (is_enlisted e.value) h ≡ true → Stands (Lost e ∷ h)
 lost_alone h e k s = stand (Lost e) h refl tt k s (λ g. g)
 
+-- nobody else is handed the commit of a promotion then, so no owner answered
+lost_unanswered : (h : List Entry) (e : EnlNo) → Stands h → has (is_enlisted e.value) h ≡ true → has is_decision h ≡ false → has (is_vote e.value) h ≡ false → has (is_hand e.value) h ≡ false
+    → has is_answer h ≡ false
+lost_unanswered h e k s d v u = unanswered_if h k d (λ p. false_from_ne_true (has is_any_hand h) (λ t. apart (promoting_if_promoted h k.keeps p) (hand_name h t)))
+  where
+    apart : has is_promoting h ≡ true → (f : ℕ) × (has (is_hand f) h ≡ true) → ⊥
+    apart p name =
+        let sent = single_if_handed name.0 h k.keeps p name.1 in
+        or_case (has (is_enlist_got e.value) h) (has (is_good_vote e.value) h)
+        (λ g. not_both (has (is_hand e.value) h) (subst (λ n. has (is_hand n) h ≡ true) (sym (eqb-true e.value name.0 (single_only e.value name.0 h k.keeps sent g))) name.1) u)
+        (λ g. not_both (has (is_good_vote e.value) h) g (unvoted_unwell e.value h v))
+        (came_or_good h e.value k.keeps (yes_if_single h k.keeps (has_more (is_single_sent name.0) is_any_single_sent (single_any name.0) h sent)) s)
+
 lost_vetoes : (h : List Entry) (ws : List Waiter) (ms : List (EnlNo × RmNo)) (e : EnlNo) → Stands h → has (is_enlisted e.value) h ≡ true → has is_decision h ≡ false → has (is_vote e.value) h ≡ false
     → has (is_hand e.value) h ≡ false → Stands (onto (Lost e ∷ h) (veto (seen_half (Lost e ∷ h) ws ms)))
 lost_vetoes h ws ms e k s d v u =
     let veto = and_both (not (has (is_vote e.value) h)) (not (has (is_hand e.value) h)) (not_false (has (is_vote e.value) h) v) (not_false (has (is_hand e.value) h) u) in
-    veto_stands (Lost e) h ws ms refl (lost_alone h e k s).keeps d veto (unwilling_open h e.value s (unvoted_unwell e.value h v) (goes_on h k d).unanswered) (lost_where h e k.keeps s v)
+    veto_stands (Lost e) h ws ms refl (lost_alone h e k s).keeps d veto (unwilling_open h e.value k.keeps s (unvoted_unwell e.value h v) (lost_unanswered h e k s d v u)) (lost_where h e k.keeps s v)
 
-lost_doubts : (h : List Entry) (ws : List Waiter) (ms : List (EnlNo × RmNo)) (e : EnlNo) → Stands h → has (is_enlisted e.value) h ≡ true → has is_decision h ≡ false → has (is_hand e.value) h ≡ true
+lost_doubts : (h : List Entry) (ws : List Waiter) (ms : List (EnlNo × RmNo)) (e : EnlNo) → Stands h → has (is_enlisted e.value) h ≡ true → has is_decision h ≡ false → has is_answer h ≡ false → has (is_hand e.value) h ≡ true
     → Stands (onto (Lost e ∷ h) (decide (seen_half (Lost e ∷ h) ws ms) InDoubt))
-unfolding doubt owner_doubt
-lost_doubts h ws ms e k s d u =
+unfolding owner_doubt
+lost_doubts h ws ms e k s d q u =
     decided_stand (onto (Lost e ∷ h) (decide (seen_half (Lost e ∷ h) ws ms) InDoubt))
     (decide_keeps (Lost e ∷ h) ws ms InDoubt (lost_alone h e k s).keeps d (λ w. absurd (settled w)) row)
     (decided_there (onto (Lost e ∷ h) (decide (seen_half (Lost e ∷ h) ws ms) InDoubt)) InDoubt (decide_decides (Lost e ∷ h) ws ms InDoubt))
@@ -183,24 +202,36 @@ lost_doubts h ws ms e k s d u =
     lost : is_lost_owner h (Lost e) ≡ true
     lost =
         and_both (has (is_hand e.value) h) (not (has (is_any_owner e.value) h)) u
-        (not_false (has (is_any_owner e.value) h) (has_less (is_any_owner e.value) is_answer (any_answer e.value) h (goes_on h k d).unanswered))
+        (not_false (has (is_any_owner e.value) h) (has_less (is_any_owner e.value) is_answer (any_answer e.value) h q))
 
-    step : (w q l c : Bool) → q ≡ true → ((w || (q || l)) || c) ≡ true
-    step true q l c k = refl
-    step false true l c k = refl
-    step false false l c k = absurd cc
+    lose : owner_doubt (Lost e ∷ h) ≡ true
+    lose =
+        or_right (has (λ f. has (is_owner f.value InDoubt) h) (all_of handed_of h)) (is_lost_owner h (Lost e) || ever is_lost_owner h) (or_left (is_lost_owner h (Lost e)) (ever is_lost_owner h) lost)
 
     row : (b : Bool) → sees_promoting (observe (Lost e ∷ h)) ≡ b → decision_row (onto (Lost e ∷ h) (fails_if b)) InDoubt ≡ true
     row true q = absurd (settled (sym (way_seen (Lost e ∷ h)) ∙ q))
-    row false q = step _ (is_lost_owner h (Lost e)) _ _ lost
+    row false q = owner_doubts (Lost e ∷ h) lose
 
-gone_stands : (h : List Entry) (ws : List Waiter) (ms : List (EnlNo × RmNo)) (e : EnlNo) (decided voted handed : Bool) → Stands h → has (is_enlisted e.value) h ≡ true → decided ≡ has is_decision h
-    → voted ≡ has (is_vote e.value) h → handed ≡ has (is_hand e.value) h
-    → Stands (onto (Lost e ∷ h) (if decided || voted then [] else if handed then decide (seen_half (Lost e ∷ h) ws ms) InDoubt else veto (seen_half (Lost e ∷ h) ws ms)))
-gone_stands h ws ms e true voted handed k s f g w = lost_alone h e k s
-gone_stands h ws ms e false true handed k s f g w = lost_alone h e k s
-gone_stands h ws ms e false false true k s f g w = lost_doubts h ws ms e k s (sym f) (sym w)
-gone_stands h ws ms e false false false k s f g w = lost_vetoes h ws ms e k s (sym f) (sym g) (sym w)
+-- who answered as the owner of a promotion is lost without more; so else no owner answered
+answered_seen : (h : List Entry) → Stands h → has is_decision h ≡ false → (has is_promoted h && true && has is_owner_answer h) ≡ false → has is_answer h ≡ false
+answered_seen h k d a = by (has is_promoted h) refl a
+  where
+    answer : (x : Entry) → is_answer x ≡ true → is_owner_answer x ≡ true
+    answer (OwnerAnswered f y) t = refl
+    answer _ t = absurd cc
+
+    by : (b : Bool) → has is_promoted h ≡ b → (b && true && has is_owner_answer h) ≡ false → has is_answer h ≡ false
+    by true p q = has_less is_answer is_owner_answer answer h q
+    by false p q = (goes_on h k d).unanswered p
+
+gone_stands : (h : List Entry) (ws : List Waiter) (ms : List (EnlNo × RmNo)) (e : EnlNo) (answered decided voted handed : Bool) → Stands h → has (is_enlisted e.value) h ≡ true
+    → answered ≡ (has is_promoted h && handed && has is_owner_answer h) → decided ≡ has is_decision h → voted ≡ has (is_vote e.value) h → handed ≡ has (is_hand e.value) h
+    → Stands (onto (Lost e ∷ h) (if answered then [] else if decided || voted then [] else if handed then decide (seen_half (Lost e ∷ h) ws ms) InDoubt else veto (seen_half (Lost e ∷ h) ws ms)))
+gone_stands h ws ms e true decided voted handed k s a f g w = lost_alone h e k s
+gone_stands h ws ms e false true voted handed k s a f g w = lost_alone h e k s
+gone_stands h ws ms e false false true handed k s a f g w = lost_alone h e k s
+gone_stands h ws ms e false false false true k s a f g w = lost_doubts h ws ms e k s (sym f) (answered_seen h k (sym f) (sym a)) (sym w)
+gone_stands h ws ms e false false false false k s a f g w = lost_vetoes h ws ms e k s (sym f) (sym g) (sym w)
 
 -- each connection that is open is cut
 cuts_stand : (past : List Entry) (cs : List Conn) (h : List Entry) → Stands h → Stands (onto h (map (cut_upward past) cs))
@@ -314,8 +345,8 @@ gone_call t w n a e y k f = done_by y n a w.past (gone_by w e (open_ones w e)) k
 
     step : (cs : List Conn) → has (is_of e.value) (rows w.past) ≡ true → Stands (onto (Called n a y ∷ w.past) (gone_by w e cs))
     step [] s =
-        gone_stands (Called n a y ∷ w.past) (waiting w.calls w.past) (managed w.calls w.past) e (is_some (latest decision_of w.past)) (voted e.value (rows w.past))
-        (is_handed (latest handed_of w.past) e.value) (call_alone n a y w.past k) (sym (enlisted_in_rows e.value w.past) ∙ s) (decision_seen w.past) (vote_seen w.past e.value k.keeps s)
+        gone_stands (Called n a y ∷ w.past) (waiting w.calls w.past) (managed w.calls w.past) e (has_answered_there (observe w.past) e.value) (is_some (latest decision_of w.past))
+        (voted e.value (rows w.past)) (is_handed (latest handed_of w.past) e.value) (call_alone n a y w.past k) (sym (enlisted_in_rows e.value w.past) ∙ s) refl (decision_seen w.past) (vote_seen w.past e.value k.keeps s)
         (hand_seen e.value w.past k.keeps)
     step (c ∷ cs) s =
         cuts_stand w.past (c ∷ cs) (Lost e ∷ Called n a y ∷ w.past) (lost_alone (Called n a y ∷ w.past) e (call_alone n a y w.past k) (sym (enlisted_in_rows e.value w.past) ∙ s))
@@ -336,6 +367,12 @@ branch_done true true v c r e x k = absurd cc
 branch_done true false true c r e x k = absurd cc
 branch_done true false false true r e x k = absurd cc
 branch_done true false false false r e x k = (refl, refl)
+
+-- and it isn't finished
+pub branch_unfinished : (a f v c : Bool) (r : RmNo) (e : EnlNo) (x : Answer) → has_facts (if not a then NoSuch else if f then Finished else if v then Over r else if c then Connected e else x) ≡ true → f ≡ false
+branch_unfinished false f v c r e x k = absurd cc
+branch_unfinished true true v c r e x k = absurd cc
+branch_unfinished true false v c r e x k = refl
 
 -- where a connection was opened and has nothing left, it was seen to end at both its ends
 pub both_ended : (o a b l r : Bool) → o ≡ true → (o && (not (a && b) || l || r)) ≡ false → b ≡ true
@@ -362,14 +399,23 @@ found_branch p q (x ∷ bs) b k e = step (p x) e (found_branch p q bs b (and_rig
     step true e f = let same : x ≡ b = cc in subst (λ z. q z ≡ true) same (and_left (q x) (each q bs) k)
     step false e f = f e
 
+-- who comes back is left alone: it wasn't handed the commit, and its own connection has ended
+left_alone : (e : EnlNo) (h : List Entry) → Keeps h → has (is_enlisted_got e.value) h ≡ true → is_handed (latest handed_of h) e.value ≡ false → is_connected e h ≡ false → is_left_alone (Again e) h ≡ true
+left_alone e h k g u n =
+    three_hold (has (is_enlisted_got e.value) h) (not (has (is_hand e.value) h)) (is_ended (OnEnl e) Down h) g (not_false (has (is_hand e.value) h) (sym (hand_seen e.value h k) ∙ u))
+    (both_ended (was_opened (OnEnl e) h) (is_ended (OnEnl e) Up h) (is_ended (OnEnl e) Down h) (has_left (OnEnl e) Up h) (has_left (OnEnl e) Down h)
+    (opened_since (OnEnl e) h (opened_if_got (OnEnl e) h k (has_more (is_enlist_got e.value) (is_opening_got (OnEnl e)) (enlist_opening e) h (came_if_enlisted e h k g))))
+    (or_first (is_linked (OnEnl e) h) (is_linked (Again e) h) n))
+
 reenlist_block : (t : ℕ) (h : List Entry) (b : Branch) → Stands h → has (is_enlisted_got b.enlistment.value) h ≡ true → (not (has (opens (Again b.enlistment)) h) || has is_severing h) ≡ true
-    → Stands (onto h (reenlist_facts t (Some b)))
-reenlist_block t h b k g l =
+    → is_left_alone (Again b.enlistment) h ≡ true → Stands (onto h (reenlist_facts t (Some b)))
+reenlist_block t h b k g l z =
     let promoting = promoting_if_enlisted b.enlistment.value h k.keeps g in
     stand (Sent (Again b.enlistment) Up (ReenlistReenlist (info t b.enlistment b.manager))) (Reenlisted b.enlistment ∷ h) refl tt
     (stand (Reenlisted b.enlistment) h refl tt k g (λ g. g))
-    (and_both (has is_promoting h && true) ((b.enlistment.value == b.enlistment.value) && (not (has (opens (Again b.enlistment)) h) || has is_severing h)) (and_both (has is_promoting h) true promoting refl)
-    (and_both (b.enlistment.value == b.enlistment.value) (not (has (opens (Again b.enlistment)) h) || has is_severing h) (eq_self b.enlistment.value) l)) (λ g. g)
+    (and_both (has is_promoting h && true) ((b.enlistment.value == b.enlistment.value) && (not (has (opens (Again b.enlistment)) h) || has is_severing h) && is_left_alone (Again b.enlistment) h)
+    (and_both (has is_promoting h) true promoting refl)
+    (three_hold (b.enlistment.value == b.enlistment.value) (not (has (opens (Again b.enlistment)) h) || has is_severing h) (is_left_alone (Again b.enlistment) h) (eq_self b.enlistment.value) l z)) (λ g. g)
 
 reenlist_call : (t : ℕ) (w : World) (n : ℕ) (a : ActorNo) (e : EnlNo) (l : Option ℕ) → Stands w.past
     → Stands (onto w.past (called t w n a (Reenlist e) (if_begun l (reenlist_answer w e))))
@@ -386,7 +432,9 @@ reenlist_call t w n a e (Some d) k = step (find (is_branch e.value) (branches w.
         let got : has (is_enlisted_got b.enlistment.value) w.past ≡ true =
         got_now b.enlisted (has (is_enlisted_got b.enlistment.value) w.past) g.0
         (found_branch (is_branch e.value) (λ b. not b.enlisted || has (is_enlisted_got b.enlistment.value) w.past) (branches w.past) b (branches_got w.past) q) in
-        reenlist_block t (Called n a (branch_answer w b) ∷ w.past) b (call_alone n a (branch_answer w b) w.past k) got (unlinked_row b.enlistment w.past k.keeps g.1))
+        reenlist_block t (Called n a (branch_answer w b) ∷ w.past) b (call_alone n a (branch_answer w b) w.past k) got (unlinked_row b.enlistment w.past k.keeps g.1)
+        (left_alone b.enlistment w.past k.keeps got (or_second (has (is_done_branch b.enlistment.value) (branches w.past) || has (is_out_row b.enlistment.value) (rows w.past)) (is_handed (latest handed_of w.past) b.enlistment.value)
+        (branch_unfinished b.enlisted (is_finished_there (half w).seen b.enlistment.value) (is_in b.manager.value (core w).recovered) (is_connected b.enlistment w.past) b.manager b.enlistment (unless_stopped w) f)) g.1))
       where
         got_now : (d g : Bool) → d ≡ true → (not d || g) ≡ true → g ≡ true
         got_now true g e k = k

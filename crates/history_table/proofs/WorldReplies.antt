@@ -1,5 +1,5 @@
 -- The block of each reply that is due keeps the table, promoted or not: a vote, the answer of a promotable, that of an owner, and an acknowledgement.
-use Rattle.std.proofs.Common.{◌≡◌, ℕ, ◌==◌, Bool, true, false, ◌&&◌, ◌||◌, List, [], ◌∷◌, Option, Some, None, refl, ◌∙◌, sym, subst, inl, inr}
+use Rattle.std.proofs.Common.{◌≡◌, ℕ, ◌==◌, Bool, true, false, ◌&&◌, ◌||◌, List, [], ◌∷◌, Option, Some, None, refl, ◌∙◌, ap, sym, subst, inl, inr}
 use Rattle.std.specs.Prelude.{is_some, not, if◌then◌else◌}
 use Rattle.std.proofs.lemmas.Bool.{eqb-true, false_from_ne_true, or_left}
 use Rattle.dtx_values.specs.declared.entry.Entry.{Entry}
@@ -25,35 +25,37 @@ use Rattle.dtx_values.specs.Lines.{has_line}
 use Rattle.dtx_values.specs.Row.{is_of}
 use Rattle.dtx_values.specs.Vote.{is_good, is_no}
 use Rattle.dtx_model.specs.Words.{all_of, each, has, latest, onto}
-use Rattle.dtx_model.specs.Entries.{decision_of, handed_of, is_any_hand, is_asked, is_decision, is_good_vote, is_hand, is_lost, is_owner, is_promoted, is_sealed, is_vote, is_yes}
+use Rattle.dtx_model.specs.Entries.{decision_of, handed_of, is_any_hand, is_asked, is_decision, is_good_vote, is_hand, is_lost, is_owner, is_owner_answer, is_promoted, is_sealed, is_vote, is_yes}
 use Rattle.dtx_model.specs.Observed.{is_ask_promote, is_ask_single, is_promote_reply, is_promotion_failed, is_request, observe, rows, track}
-use Rattle.dtx_model.specs.Outcome.{doubt, enlisted, evidence, owner_doubt}
+use Rattle.dtx_model.specs.Outcome.{doubt, durables, enlisted, evidence, owner_doubt}
 use Rattle.dtx_model.specs.Promotes.{is_begun_got, is_promoting, is_under_way}
 use Rattle.dtx_model.specs.Wires.{opens}
 use Rattle.dtx_model.specs.Waiting.{Waiter, managed, waiting}
 use Rattle.dtx_model.specs.Half.{decide, fails_if, is_handed, sees, to_up, veto_if, is_promoting as sees_promoting}
-use Rattle.dtx_model.specs.Replies.{ack_on, owes_outcome, owes_promotion, owes_request, owes_vote, conn_due, due_of, fits, owner_entries, promote_entries, reply_entries, request_message, request_of, vote_message, voted_by}
+use Rattle.dtx_model.specs.Replies.{ack_on, owes_outcome, owes_promotion, owes_request, owes_vote, conn_due, due_of, fits, is_unsettled, may_still_answer, one_message, owner_entries, promote_entries, reply_entries, request_message, request_of, vote_message, voted_by}
 use Rattle.dtx_model.specs.World.{World, half}
-use Rattle.dtx_model.proofs.Bools.{and_both, and_left, and_right, not_both, not_false, not_true, or_case, or_right}
+use Rattle.dtx_model.proofs.Bools.{and_both, and_left, and_right, not_both, not_false, not_true, or_case, or_right, three_hold}
 use Rattle.history_table.proofs.Tests.{eq_self, eq_swap, first_of_four, second_of_four, third_of_four, fourth_of_four, four_hold}
 use Rattle.history_table.proofs.Scans.{each_both, each_more, has_less, has_more}
 use Rattle.history_table.proofs.Lists.{found_at, has-at, none_each}
-use Rattle.history_table.proofs.EntryTests.{is_answer, is_enlisted, is_volatile_of}
+use Rattle.history_table.proofs.EntryTests.{has_promotable, is_answer, is_decided, is_enlisted, is_volatile_of, undecided}
 use Rattle.history_table.proofs.Handed.{answered_any, hand_listed, hand_any, is_answered}
 use Rattle.history_table.proofs.Owned.{decision_seen, has_rows}
 use Rattle.history_table.proofs.TableRows.{unvoted_unwell}
-use Rattle.history_table.proofs.Table.{calls_off, is_abort_decided, decision_row, is_there, message_row, rule, stands_promotable, stands_volatile}
+use Rattle.history_table.proofs.Table.{calls_off, is_abort_decided, is_abort_sent, is_commit_sent, is_lone_owner, is_promotable_of, decision_row, is_there, may_answer, may_commit, message_row, rule, stands_promotable, stands_volatile}
 use Rattle.history_table.proofs.Keeping.{Keeps, earlier}
 use Rattle.history_table.proofs.Crossed.{is_got_on, is_sent_on, was_sent}
-use Rattle.history_table.proofs.Recording.{promoted_if_yes, promoting_if_promoted, sealed_if_yes, well_if_yes}
+use Rattle.history_table.proofs.Recording.{promoted_if_sealed, promoted_if_yes, promoting_if_promoted, sealed_if_yes, well_if_yes}
 use Rattle.history_table.proofs.Standing.{opened_if_got}
-use Rattle.history_table.proofs.Evident.{evidence-handed, hand_stands, unsealed_open}
+use Rattle.history_table.proofs.Evident.{evidence-handed, sealed_if_handed, unsealed_open, unyes_open}
+use Rattle.history_table.proofs.Doubting.{owner_doubts}
+use Rattle.history_table.proofs.HalfOwner.{unlone_if_promotable}
 use Rattle.history_table.proofs.HalfRows.{voted_enlisted, voted_once}
 use Rattle.history_table.proofs.HalfKnows.{way_seen}
 use Rattle.history_table.proofs.Deciding.{decide_decides, decide_keeps, decided_there, one_more, seen_half}
-use Rattle.history_table.proofs.Undecided.{Stands, all_willing, decided_stand, goes_on, hand_seen, is_going, is_willing, promotes_on, stand, unwilling_open, way_unsealed}
+use Rattle.history_table.proofs.Undecided.{Stands, all_willing, decided_stand, goes_on, hand_seen, is_going, is_unanswered, is_willing, promotes_on, stand, unwilling_open, way_unsealed}
 use Rattle.history_table.proofs.HalfCalls.{begun_if_promoted, veto_stands}
-use Rattle.history_table.proofs.HalfReplies.{Answers, IsLeft, IsOwed, owed, to_up_stands, volatile_seen, vote_rule}
+use Rattle.history_table.proofs.HalfReplies.{Answers, IsLeft, IsOwed, owed, requested_if_sent, to_up_stands, unaborted_yet, volatile_seen, vote_rule}
 use Rattle.history_table.proofs.CoreKnown.{begun_on}
 use Rattle.history_table.proofs.Managed.{due_opened}
 
@@ -113,13 +115,16 @@ vote_block h ws ms e Done true k r s = stand (Voted e Done) h refl tt k r (going
 vote_block h ws ms e No true k r s =
     let d = other_false (stands_volatile e.value h) (has is_decision h) s (and_right (has (is_enlisted e.value) h && has (is_asked e.value) h && not (has (is_vote e.value) h) && not (has (is_lost e.value) h)) (not (stands_volatile e.value h && has is_decision h)) r) in
     let bare = unvoted_unwell e.value h (voted_once e No h r) in
-    veto_stands (Voted e No) h ws ms refl (one_more (Voted e No) h refl tt k.keeps r) d refl (unwilling_open h e.value (voted_enlisted e No h r) bare (goes_on h k d).unanswered)
-    (or_left (not (has is_yes h)) false (not_false (has is_yes h) (unyes bare)))
+    veto_stands (Voted e No) h ws ms refl (one_more (Voted e No) h refl tt k.keeps r) d refl (unmoved d bare (has is_promoted h) refl) (or_left (not (has is_yes h)) false (not_false (has is_yes h) (unyes bare)))
   where
     unyes : has (is_good_vote e.value) h ≡ false → has is_yes h ≡ false
     unyes n =
         false_from_ne_true (has is_yes h) (λ y. not_both (has (is_good_vote e.value) h)
         (well_passes e.value (λ n. has (is_good_vote n) h) (enlisted h) s (well_if_yes h k.keeps y)) n)
+
+    unmoved : has is_decision h ≡ false → has (is_good_vote e.value) h ≡ false → (p : Bool) → has is_promoted h ≡ p → evidence h ≡ false
+    unmoved d n true p = unyes_open h k.keeps (promoting_if_promoted h k.keeps p) (unyes n)
+    unmoved d n false p = unwilling_open h e.value k.keeps (voted_enlisted e No h r) n ((goes_on h k d).unanswered p)
 vote_block h ws ms e Yes false k r s =
     to_up_stands (Voted e Yes ∷ h) (Voted e Yes ∷ h) (OnEnl e) (vote_message Yes) (stand (Voted e Yes) h refl tt k r (going_voted h e Yes (good_willing h e Yes refl))) refl (λ o. o) (rw (eq_self e.value) refl)
 vote_block h ws ms e Done false k r s =
@@ -202,53 +207,84 @@ promote_reply w e false k p =
 
 -- An owner's answer to the handing.
 doubted : (h : List Entry) (e : EnlNo) → has (is_hand e.value) h ≡ true → doubt (OwnerAnswered e InDoubt ∷ h) ≡ true
-unfolding doubt owner_doubt
+unfolding owner_doubt
 doubted h e u =
     let heard : has (λ f. has (is_owner f.value InDoubt) (OwnerAnswered e InDoubt ∷ h)) (all_of handed_of h) ≡ true =
     has_more (λ f. f.value == e.value) (λ f. has (is_owner f.value InDoubt) (OwnerAnswered e InDoubt ∷ h))
     (λ f g. or_left ((f.value == e.value) && true) (has (is_owner f.value InDoubt) h) (and_both (f.value == e.value) true g refl)) (all_of handed_of h) (hand_listed e.value h u) in
-    or_left _ _ (or_left _ _ heard)
+    owner_doubts (OwnerAnswered e InDoubt ∷ h) (or_left (has (λ f. has (is_owner f.value InDoubt) (OwnerAnswered e InDoubt ∷ h)) (all_of handed_of h)) _ heard)
 
-owner_block : (h : List Entry) (ws : List Waiter) (ms : List (EnlNo × RmNo)) (e : EnlNo) (x : Outcome) → Stands h → has is_decision h ≡ false → has (is_hand e.value) h ≡ true
+owner_block : (h : List Entry) (ws : List Waiter) (ms : List (EnlNo × RmNo)) (e : EnlNo) (x : Outcome) → Stands h → has is_decision h ≡ false → has is_promoted h ≡ false → has (is_hand e.value) h ≡ true
     → Stands (onto (OwnerAnswered e x ∷ h) (decide (seen_half (OwnerAnswered e x ∷ h) ws ms) x))
-owner_block h ws ms e x k d u =
-    let row : rule h (OwnerAnswered e x) ≡ true = and_both (not (has is_decision h) && has (is_hand e.value) h) (not (has is_answer h))
-    (and_both (not (has is_decision h)) (has (is_hand e.value) h) (not_false (has is_decision h) d) u) (not_false (has is_answer h) (goes_on h k d).unanswered) in
+owner_block h ws ms e x k d p u =
+    let row : rule h (OwnerAnswered e x) ≡ true = three_hold (may_answer h) (has (is_hand e.value) h) (not (has is_answer h))
+    (or_left (not (has is_decision h)) _ (not_false (has is_decision h) d)) u (not_false (has is_answer h) ((goes_on h k d).unanswered p)) in
     let after = one_more (OwnerAnswered e x) h refl tt k.keeps row in
     decided_stand (onto (OwnerAnswered e x ∷ h) (decide (seen_half (OwnerAnswered e x ∷ h) ws ms) x))
     (decide_keeps (OwnerAnswered e x ∷ h) ws ms x after d (λ w. absurd (settled x w)) (λ b q. by_way b q x after))
     (decided_there (onto (OwnerAnswered e x ∷ h) (decide (seen_half (OwnerAnswered e x ∷ h) ws ms) x)) x (decide_decides (OwnerAnswered e x ∷ h) ws ms x))
   where
+    any : has is_any_hand h ≡ true
+    any = has_more (is_hand e.value) is_any_hand (hand_any e.value) h u
+
     unpromoting : has is_promoting h ≡ false
-    unpromoting = (hand_stands e.value h k.keeps u).settled
+    unpromoting = false_from_ne_true (has is_promoting h) (λ q. not_both (has is_promoted h) (promoted_if_sealed h k.keeps (sealed_if_handed h k.keeps any) q) p)
 
     settled : (y : Outcome) → is_under_way (OwnerAnswered e y ∷ h) ≡ true → ⊥
     settled y w = not_both (has is_promoting h) (way_promoting h w) unpromoting
 
-    unpromoted : has is_promoted h ≡ false
-    unpromoted = false_from_ne_true (has is_promoted h) (λ p. not_both (has is_promoting h) (promoting_if_promoted h k.keeps p) unpromoting)
-
-    any : has is_any_hand h ≡ true
-    any = has_more (is_hand e.value) is_any_hand (hand_any e.value) h u
-
     bare : evidence h ≡ false
-    bare = evidence-handed h k.keeps any ∙ has_less (is_answered Committed) is_answer (answered_any Committed) h (goes_on h k d).unanswered
+    bare = evidence-handed h k.keeps any ∙ has_less (is_answered Committed) is_answer (answered_any Committed) h ((goes_on h k d).unanswered p)
 
     unyes : has is_yes h ≡ false
-    unyes = false_from_ne_true (has is_yes h) (λ y. not_both (has is_promoted h) (promoted_if_yes h k.keeps y) unpromoted)
+    unyes = false_from_ne_true (has is_yes h) (λ y. not_both (has is_promoted h) (promoted_if_yes h k.keeps y) p)
 
     off : calls_off h (OwnerAnswered e Aborted) ≡ true
     off = rw (bare, unyes) refl
 
     by_outcome : (y : Outcome) → Keeps (OwnerAnswered e y ∷ h) → decision_row (OwnerAnswered e y ∷ h) y ≡ true
     by_outcome Committed a =
-        and_both (not (has is_promoted h)) (evidence (OwnerAnswered e Committed ∷ h)) (not_false (has is_promoted h) unpromoted) (evidence-handed (OwnerAnswered e Committed ∷ h) a any)
+        and_both (not (has is_promoted h)) (evidence (OwnerAnswered e Committed ∷ h)) (not_false (has is_promoted h) p) (evidence-handed (OwnerAnswered e Committed ∷ h) a any)
     by_outcome Aborted a = off
     by_outcome InDoubt a = doubted h e u
 
     by_way : (b : Bool) → sees_promoting (observe (OwnerAnswered e x ∷ h)) ≡ b → (y : Outcome) → Keeps (OwnerAnswered e y ∷ h) → decision_row (onto (OwnerAnswered e y ∷ h) (fails_if b)) y ≡ true
     by_way true q y a = absurd (settled x (sym (way_seen (OwnerAnswered e x ∷ h)) ∙ q))
     by_way false q y a = by_outcome y a
+
+-- of a promotion the coordinator is told
+told_block : (h : List Entry) (e : EnlNo) (x : Outcome) → Stands h → has is_promoted h ≡ true → may_answer h ≡ true → has (is_hand e.value) h ≡ true → has is_answer h ≡ false
+    → Stands (onto (OwnerAnswered e x ∷ h) (to_up (observe h) (OnEnl e) (one_message x)))
+told_block h e x k p m u n =
+    to_up_stands h (OwnerAnswered e x ∷ h) (OnEnl e) (one_message x)
+    (stand (OwnerAnswered e x) h refl tt k (three_hold (may_answer h) (has (is_hand e.value) h) (not (has is_answer h)) m u (not_false (has is_answer h) n))
+    (λ g. step (has is_decision h) (all_willing h) (is_unanswered h) (has is_promoted h) _ _ p g)) (line x) (λ o. o) (row x)
+  where
+    step : (d w a q c r : Bool) → q ≡ true → (d || (w && a && c && r)) ≡ true → (d || (w && q && c && r)) ≡ true
+    step true w a q c r t g = refl
+    step false true true q c r t g = rw t g
+    step false true false q c r t g = absurd cc
+    step false false a q c r t g = absurd cc
+
+    line : (y : Outcome) → has_line (OnEnl e) Up (one_message y) ≡ true
+    line Committed = refl
+    line Aborted = refl
+    line InDoubt = refl
+
+    row : (y : Outcome) → message_row (OwnerAnswered e y ∷ h) (OnEnl e) (one_message y) ≡ true
+    row Committed = and_both (e.value == e.value) true (eq_self e.value) refl
+    row Aborted = and_both (e.value == e.value) true (eq_self e.value) refl
+    row InDoubt = and_both (e.value == e.value) true (eq_self e.value) refl
+
+unsettled_answers : (h : List Entry) → has is_promoted h ≡ true → is_unsettled (latest decision_of h) ≡ true → may_answer h ≡ true
+unsettled_answers h p t = by (latest decision_of h) refl t
+  where
+    by : (o : Option Outcome) → latest decision_of h ≡ o → is_unsettled o ≡ true → may_answer h ≡ true
+    by None q t = or_left (not (has is_decision h)) _ (not_false (has is_decision h) (undecided h q))
+    by (Some InDoubt) q t =
+        or_right (not (has is_decision h)) (has is_promoted h && is_decided InDoubt (latest decision_of h)) (and_both (has is_promoted h) (is_decided InDoubt (latest decision_of h)) p (ap (is_decided InDoubt) q))
+    by (Some Committed) q t = absurd cc
+    by (Some Aborted) q t = absurd cc
 
 -- an owner's answer, to the handing or to the single phase
 owner_reply : (w : World) (e : EnlNo) (x : Outcome) (n : Note) → Stands w.past → IsAsked w.past → IsOwed w.past (OwnerReply x) n e.value → Stands (onto w.past (owner_entries (half w) e x (Some n)))
@@ -258,24 +294,50 @@ owner_reply w e x n k a o = by_note o.answers
     h : List Entry
     h = w.past
 
-    requested : (y : Outcome) → has is_decision w.past ≡ false → (has is_sealed w.past ≡ true) × (has is_promoted w.past ≡ true) → stands_promotable e.value w.past ≡ true
+    requested : (y : Outcome) → has is_decision w.past ≡ false → (has is_sealed w.past ≡ true) × (has is_promoted w.past ≡ true) → stands_promotable e.value w.past ≡ true → has is_request w.past ≡ false
         → Stands (onto w.past (Requested e (request_of y) ∷ to_up (half w).seen OnBegin (request_message y)))
-    requested y d s p = by_outcome y
+    requested y d s p u = by_outcome y
       where
+        promotable : has_promotable w.past ≡ true
+        promotable = has_more (is_promotable_of e.value) (λ x. is_promotable x.1) (λ x. and_right (e.value == x.0.value) (is_promotable x.1)) (enlisted w.past) p
+
+        uncommitted : has is_commit_sent w.past ≡ false
+        uncommitted =
+            false_from_ne_true (has is_commit_sent w.past) (λ s.
+            or_case (not (has_promotable w.past)) (has is_request w.past) (λ a. not_both (has_promotable w.past) promotable (not_true (has_promotable w.past) a)) (λ a. not_both (has is_request w.past) a u)
+            (requested_if_sent w.past k.keeps s))
+
         row : (r : Request) → Stands (Requested e r ∷ w.past)
         row r =
             stand (Requested e r) w.past refl tt k
-            (four_hold (not (has is_decision w.past)) (has is_promoted w.past) (has is_sealed w.past) (stands_promotable e.value w.past) (not_false (has is_decision w.past) d) s.1 s.0 p) (λ g. g)
+            (four_hold (not (has is_decision w.past)) (has is_promoted w.past) (has is_sealed w.past) (stands_promotable e.value w.past && not (has is_request w.past)) (not_false (has is_decision w.past) d) s.1 s.0
+            (and_both (stands_promotable e.value w.past) (not (has is_request w.past)) p (not_false (has is_request w.past) u))) (λ g. g)
 
         commits : (r : Request) → message_row (Requested e r ∷ w.past) OnBegin BeginCommit ≡ true
         commits r =
-            and_both (has is_sealed w.past && has is_promoted w.past) (not (has is_decision w.past)) (and_both (has is_sealed w.past) (has is_promoted w.past) s.0 s.1) (not_false (has is_decision w.past) d)
+            and_both (may_commit (Requested e r ∷ w.past)) (not (is_lone_owner (durables w.past)))
+            (four_hold (has is_sealed w.past) (has is_promoted w.past) (not (has is_decision w.past)) (not (has is_abort_sent w.past) && (not (has_promotable w.past) || true)) s.0 s.1 (not_false (has is_decision w.past) d)
+            (and_both (not (has is_abort_sent w.past)) (not (has_promotable w.past) || true) (not_false (has is_abort_sent w.past) (unaborted_yet w.past k.keeps d u)) (or_right (not (has_promotable w.past)) true refl)))
+            (not_false (is_lone_owner (durables w.past)) (unlone_if_promotable w.past promotable))
 
         by_outcome : (z : Outcome) → Stands (onto w.past (Requested e (request_of z) ∷ to_up (half w).seen OnBegin (request_message z)))
         by_outcome Aborted =
-            to_up_stands w.past (Requested e RequestAbort ∷ w.past) OnBegin BeginAbort (row RequestAbort) refl (λ q. q) (or_right (is_abort_decided w.past) true refl)
+            to_up_stands w.past (Requested e RequestAbort ∷ w.past) OnBegin BeginAbort (row RequestAbort) refl (λ q. q)
+            (and_both (is_abort_decided w.past || true) (not (has is_commit_sent w.past)) (or_right (is_abort_decided w.past) true refl) (not_false (has is_commit_sent w.past) uncommitted))
         by_outcome Committed = to_up_stands w.past (Requested e RequestCommit ∷ w.past) OnBegin BeginCommit (row RequestCommit) refl (λ q. q) (commits RequestCommit)
         by_outcome InDoubt = to_up_stands w.past (Requested e RequestCommit ∷ w.past) OnBegin BeginCommit (row RequestCommit) refl (λ q. q) (commits RequestCommit)
+
+    answered : (b : Bool) → has is_promoted w.past ≡ b → (if b then not (has is_owner_answer w.past) && is_unsettled (latest decision_of w.past) else not (is_some (latest decision_of w.past))) ≡ true → has (is_hand e.value) w.past ≡ true
+        → Stands (onto w.past (OwnerAnswered e x ∷ (if b then to_up (observe w.past) (OnEnl e) (one_message x) else decide (half w) x)))
+    answered true p t u =
+        told_block w.past e x k p (unsettled_answers w.past p (and_right (not (has is_owner_answer w.past)) (is_unsettled (latest decision_of w.past)) t)) u
+        (has_less is_answer is_owner_answer answers_own w.past (not_true (has is_owner_answer w.past) (and_left (not (has is_owner_answer w.past)) (is_unsettled (latest decision_of w.past)) t)))
+      where
+        answers_own : (y : Entry) → is_answer y ≡ true → is_owner_answer y ≡ true
+        answers_own (OwnerAnswered f z) a = refl
+        answers_own _ a = absurd cc
+    answered false p t u =
+        owner_block w.past (waiting w.calls w.past) (managed w.calls w.past) e x k (sym (decision_seen w.past) ∙ not_true (is_some (latest decision_of w.past)) t) p u
 
     by_note : Answers (OwnerReply x) n (owes_vote (observe w.past) o.row) (owes_promotion (observe w.past) o.row) (owes_outcome (observe w.past) o.row) (owes_request (observe w.past) o.row)
         → Stands (onto w.past (owner_entries (half w) e x (Some n)))
@@ -283,10 +345,9 @@ owner_reply w e x n k a o = by_note o.answers
         let place = found_at (is_of e.value) (rows w.past) o.row o.stands in
         let number : e.value ≡ o.row.number.value = eqb-true e.value o.row.number.value place.2 in
         let P : ℕ → Type 0 = λ m. is_handed (latest handed_of w.past) m ≡ true in
-        let handed = subst P (sym number) (and_left (is_handed (latest handed_of w.past) o.row.number.value) (not (is_some (latest decision_of w.past))) q.1) in
-        let d = sym (decision_seen w.past) ∙ not_true (is_some (latest decision_of w.past)) (and_right (is_handed (latest handed_of w.past) o.row.number.value) (not (is_some (latest decision_of w.past))) q.1) in
+        let handed = subst P (sym number) (and_left (is_handed (latest handed_of w.past) o.row.number.value) (may_still_answer (observe w.past)) q.1) in
         let N : Note → Type 0 = λ m. Stands (onto w.past (owner_entries (half w) e x (Some m))) in
-        subst N (sym q.0) (owner_block w.past (waiting w.calls w.past) (managed w.calls w.past) e x k d (sym (hand_seen e.value w.past k.keeps) ∙ handed))
+        subst N (sym q.0) (answered (has is_promoted w.past) refl (and_right (is_handed (latest handed_of w.past) o.row.number.value) (may_still_answer (observe w.past)) q.1) (sym (hand_seen e.value w.past k.keeps) ∙ handed))
     by_note (inr q) =
         let b1 = has is_ask_single w.past in
         let b2 = not (has is_request w.past) in
@@ -295,7 +356,7 @@ owner_reply w e x n k a o = by_note o.answers
         let N : Note → Type 0 = λ m. Stands (onto w.past (owner_entries (half w) e x (Some m))) in
         subst N (sym q.0)
         (requested x (sym (decision_seen w.past) ∙ not_true (is_some (latest decision_of w.past)) (fourth_of_four b1 b2 b3 b4 q.1)) (a.single (first_of_four b1 b2 b3 b4 q.1))
-        (promotable_row w.past (OwnerReply x) n e.value o (third_of_four b1 b2 b3 b4 q.1)))
+        (promotable_row w.past (OwnerReply x) n e.value o (third_of_four b1 b2 b3 b4 q.1)) (not_true (has is_request w.past) (second_of_four b1 b2 b3 b4 q.1)))
 
 -- An acknowledgement.
 ack_stands : (w : World) (e : EnlNo) (c : Option Conn) → conn_due (observe w.past) e.value ≡ c → Stands w.past → Stands (onto w.past (Acked e ∷ ack_on (half w).seen c))

@@ -3,7 +3,7 @@ use Rattle.std.proofs.Common.{◌≡◌, ℕ, ◌++◌, refl}
 use Rattle.dtx_values.specs.declared.message.Conn.{Conn}
 use Rattle.dtx_values.specs.declared.message.Conn.TheVariants.{Begin, Voter, Enl, Again}
 use Rattle.dtx_values.specs.declared.message.Message.{Message}
-use Rattle.dtx_values.specs.declared.message.Message.TheVariants.{BeginBegun, BeginCommitted, BeginAborted, VoterCreated, VoterRefused, VoterAsk, VoterCommit, VoterAbort, EnlistEnlisted, EnlistRefused, EnlistPrepare, EnlistCommit, EnlistAbort, ReenlistCommitted, ReenlistAborted}
+use Rattle.dtx_values.specs.declared.message.Message.TheVariants.{BeginBegun, BeginCommitted, BeginAborted, BeginInDoubt, VoterCreated, VoterRefused, VoterAsk, VoterCommit, VoterAbort, VoterInDoubt, EnlistEnlisted, EnlistRefused, EnlistPrepare, EnlistCommit, EnlistAbort, EnlistSingle, ReenlistCommitted, ReenlistAborted}
 use Rattle.dtx_values.specs.declared.number.EnlNo.{EnlNo}
 use Rattle.dtx_model.specs.Half.{Half}
 use Rattle.dtx_model.specs.Arrivals.{aborted_by, arrived, told_abort}
@@ -14,18 +14,21 @@ pub arrived-news : (t : ℕ) (h : Half) (c : Conn) (m : Message) → told_by t h
 arrived-news t h Begin (BeginBegun u) = refl
 arrived-news t h Begin BeginCommitted = refl
 arrived-news t h Begin BeginAborted = refl
+arrived-news t h Begin BeginInDoubt = refl
 arrived-news t h Begin _ = refl
 arrived-news t h Voter VoterCreated = refl
 arrived-news t h Voter (VoterRefused cause) = refl
 arrived-news t h Voter VoterAsk = refl
 arrived-news t h Voter VoterCommit = refl
 arrived-news t h Voter VoterAbort = refl
+arrived-news t h Voter VoterInDoubt = refl
 arrived-news t h Voter _ = refl
 arrived-news t h (Enl e) EnlistEnlisted = refl
 arrived-news t h (Enl e) (EnlistRefused cause) = refl
 arrived-news t h (Enl e) EnlistPrepare = refl
 arrived-news t h (Enl e) EnlistCommit = refl
 arrived-news t h (Enl e) EnlistAbort = refl
+arrived-news t h (Enl e) EnlistSingle = refl
 arrived-news t h (Enl e) _ = refl
 arrived-news t h (Again e) ReenlistCommitted = refl
 arrived-news t h (Again e) ReenlistAborted = refl

@@ -11,14 +11,14 @@ use Rattle.dtx_values.specs.declared.number.EnlNo.{EnlNo}
 use Rattle.dtx_values.specs.declared.words.Cause.{Cause}
 use Rattle.dtx_values.specs.declared.words.Outcome.TheVariants.{Committed, Aborted}
 use Rattle.tm_proxy.specs.declared.news.ProxyNews.{ProxyNews}
-use Rattle.tm_proxy.specs.declared.news.ProxyNews.TheVariants.{Begun, Created, Enlisted, Refused, AskVote, PrepareFor, CommitFor, AbortFor, OutcomeIs}
+use Rattle.tm_proxy.specs.declared.news.ProxyNews.TheVariants.{Begun, Created, Enlisted, Refused, AskVote, PrepareFor, CommitFor, AbortFor, SingleFor, OutcomeIs}
 use Rattle.promotion.specs.declared.handing.HandoverAct.{HandoverAct}
 use Rattle.promotion.specs.declared.handing.HandoverAct.TheVariants.{Over}
 use Rattle.promotion.specs.Handover.{Promotion, next_act}
 use Rattle.dtx_model.specs.Observed.{Observed}
 use Rattle.dtx_model.specs.Half.{Half, decide, promoted_by, to_up}
 use Rattle.dtx_model.specs.Acts.{commit_sent}
-use Rattle.dtx_model.specs.Arrivals.{aborted_by, begun, created, ended_by, enlisted_at, refused_by, told_abort, unless_decided}
+use Rattle.dtx_model.specs.Arrivals.{aborted_by, begun, created, ended_by, enlisted_at, handed_by, refused_by, told_abort, unless_decided}
 use Rattle.half_parts.specs.Taken.{MayTakeIn}
 use Rattle.dtx_values.specs.Outgoing.{sends_of}
 use Rattle.local_half.specs.declared.half.acts.LocalAct.{LocalAct}
@@ -39,6 +39,7 @@ told_by t h c AskVote = []
 told_by t h c (PrepareFor e) = Asked e Prepare ∷ []
 told_by t h c (CommitFor e) = Told (Member e) Committed ∷ []
 told_by t h c (AbortFor e) = aborted_for h c e
+told_by t h c (SingleFor e) = handed_by h e
 told_by t h c (OutcomeIs x) = unless_decided h (decide h x)
 told_by t h c _ = ended_by h c
 

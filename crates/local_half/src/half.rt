@@ -71,7 +71,9 @@ mod replies;
 ///    after the handing, that it is in doubt. Nothing is decided twice.
 /// 8. *Promoted*: a marshal call, or a durable call that can't own the commit beside what stands, makes the
 ///    coordinator decide. The call waits until the transaction is handed over, and `got` and `down` take what
-///    the coordinator sends. A commit, an abort, or the loss of both connections after yes decides then.
+///    the coordinator sends. A commit, an abort, in doubt, or the loss of both connections after yes decides then.
+///    Where its one durable can own the commit, COMMIT asks for a single phase: the coordinator hands that durable the
+///    commit once the local side said yes. Its answer goes to the coordinator, and decides nothing here.
 /// 9. *Told*: the enlistments are told the outcome in order of number, and then the client.
 ///
 /// # Driving one
@@ -142,6 +144,8 @@ pub struct LocalHalf {
     promote_replied: bool,
     single_asked: bool,
     requested: bool,
+    /// Whether the owner of the commit answered.
+    answered: bool,
     yes: bool,
     /// Its ends of the connections to the coordinator.
     proxy: Proxy,
@@ -184,6 +188,7 @@ impl Model for LocalHalf {
           promote_replied = m.promote_replied;
           single_asked = m.single_asked;
           requested = m.requested;
+          answered = m.answered;
           yes = m.yes;
           ends = m.proxy;
           branches = m.branches.items;
@@ -244,6 +249,7 @@ impl LocalHalf {
             promote_replied: false,
             single_asked: false,
             requested: false,
+            answered: false,
             yes: false,
             proxy: Proxy::new(),
             branches: Vec::with_capacity(alloc, DURABLES)?,
@@ -564,6 +570,7 @@ impl LocalHalf {
                 let _ = take_vote(&mut self.table, e, v);
             }
             Entry::Handed(e) => self.handed = Some(e),
+            Entry::OwnerAnswered(_, _) => self.answered = true,
             Entry::Lost(e) => {
                 self.any_lost = true;
                 lose(&mut self.listeners, e);
@@ -573,11 +580,7 @@ impl LocalHalf {
             Entry::Told(party, o) => self.tell(party, o),
             Entry::Answered(n, answer) => self.unwait(n, answer),
             Entry::Sent(c, Dir::Up, m) => self.send(c, m),
-            Entry::Init(_)
-            | Entry::RollbackAsked
-            | Entry::TimedOut
-            | Entry::Late
-            | Entry::OwnerAnswered(_, _) => {}
+            Entry::Init(_) | Entry::RollbackAsked | Entry::TimedOut | Entry::Late => {}
             _ => unreachable!(),
         }
     }
@@ -653,7 +656,7 @@ impl LocalHalf {
     {
         self.handover.place(
             self.handed.is_some(),
-            self.proxy.was_sent(Conn::Begin, &Message::BeginCommit),
+            self.proxy.was_commit_sent(),
             self.decided.is_some(),
         )
     }

@@ -3,7 +3,7 @@ use Rattle.std.proofs.Common.{◌≡◌, ℕ, ◌≤◌, Bool, true, List, [], �
 use Rattle.std.proofs.lemmas.List.{length-take-le, take-append-drop, take_at}
 use Rattle.dtx_values.specs.declared.message.Info.{Info}
 use Rattle.dtx_values.specs.declared.message.Message.{Message}
-use Rattle.dtx_values.specs.declared.message.Message.TheVariants.{BeginBegin, BeginCommit, BeginAbort, BeginBegun, BeginCommitted, BeginAborted, VoterVoter, VoterYes, VoterNo, VoterCreated, VoterRefused, VoterAsk, VoterCommit, VoterAbort, EnlistEnlist, EnlistPrepared, EnlistNo, EnlistReadonly, EnlistAck, EnlistEnlisted, EnlistRefused, EnlistPrepare, EnlistCommit, EnlistAbort, ReenlistReenlist, ReenlistAck, ReenlistCommitted, ReenlistAborted}
+use Rattle.dtx_values.specs.declared.message.Message.TheVariants.{BeginBegin, BeginCommit, BeginAbort, BeginBegun, BeginCommitted, BeginAborted, BeginCommitOne, BeginInDoubt, VoterVoter, VoterYes, VoterNo, VoterCreated, VoterRefused, VoterAsk, VoterCommit, VoterAbort, VoterInDoubt, EnlistEnlist, EnlistPrepared, EnlistNo, EnlistReadonly, EnlistAck, EnlistEnlisted, EnlistRefused, EnlistPrepare, EnlistCommit, EnlistAbort, EnlistSingle, EnlistOneCommitted, EnlistOneAborted, EnlistOneInDoubt, ReenlistReenlist, ReenlistAck, ReenlistCommitted, ReenlistAborted}
 use Rattle.dtx_model.specs.Frames.{BodyKind, FrameFault, IsFrame, bad_place, body_kind, body_length, frame, frame_fault, frame_of, is_valid}
 use Rattle.dtx_model.specs.Frames as kind
 use Rattle.dtx_values.specs.RecoveryInfo.{IsInfo, id_bytes, info_bytes, is_from_one, is_id, pair_bytes}
@@ -32,6 +32,8 @@ pieces_of BeginAbort = pieces 1 3 Empty
 pieces_of (BeginBegun u) = pieces 1 4 (Identifier u)
 pieces_of BeginCommitted = pieces 1 5 Empty
 pieces_of BeginAborted = pieces 1 6 Empty
+pieces_of BeginCommitOne = pieces 1 7 Empty
+pieces_of BeginInDoubt = pieces 1 8 Empty
 pieces_of (VoterVoter u) = pieces 2 1 (Identifier u)
 pieces_of VoterYes = pieces 2 2 Empty
 pieces_of VoterNo = pieces 2 3 Empty
@@ -40,6 +42,7 @@ pieces_of (VoterRefused cause) = pieces 2 5 (Reason cause)
 pieces_of VoterAsk = pieces 2 6 Empty
 pieces_of VoterCommit = pieces 2 7 Empty
 pieces_of VoterAbort = pieces 2 8 Empty
+pieces_of VoterInDoubt = pieces 2 9 Empty
 pieces_of (EnlistEnlist i) = pieces 3 1 (Information i)
 pieces_of EnlistPrepared = pieces 3 2 Empty
 pieces_of EnlistNo = pieces 3 3 Empty
@@ -50,6 +53,10 @@ pieces_of (EnlistRefused cause) = pieces 3 7 (Reason cause)
 pieces_of EnlistPrepare = pieces 3 8 Empty
 pieces_of EnlistCommit = pieces 3 9 Empty
 pieces_of EnlistAbort = pieces 3 10 Empty
+pieces_of EnlistSingle = pieces 3 11 Empty
+pieces_of EnlistOneCommitted = pieces 3 12 Empty
+pieces_of EnlistOneAborted = pieces 3 13 Empty
+pieces_of EnlistOneInDoubt = pieces 3 14 Empty
 pieces_of (ReenlistReenlist i) = pieces 4 1 (Information i)
 pieces_of ReenlistAck = pieces 4 2 Empty
 pieces_of ReenlistCommitted = pieces 4 3 Empty
@@ -58,9 +65,10 @@ pieces_of ReenlistAborted = pieces 4 4 Empty
 -- the message without a body of this type and tag
 abbrev plain : ℕ → ℕ → Message
 plain t n =
-    if t == 1 then (if n == 1 then BeginBegin else if n == 2 then BeginCommit else if n == 3 then BeginAbort else if n == 5 then BeginCommitted else BeginAborted)
-    else if t == 2 then (if n == 2 then VoterYes else if n == 3 then VoterNo else if n == 4 then VoterCreated else if n == 6 then VoterAsk else if n == 7 then VoterCommit else VoterAbort)
-    else if t == 3 then (if n == 2 then EnlistPrepared else if n == 3 then EnlistNo else if n == 4 then EnlistReadonly else if n == 5 then EnlistAck else if n == 6 then EnlistEnlisted else if n == 8 then EnlistPrepare else if n == 9 then EnlistCommit else EnlistAbort)
+    if t == 1 then (if n == 1 then BeginBegin else if n == 2 then BeginCommit else if n == 3 then BeginAbort else if n == 5 then BeginCommitted else if n == 6 then BeginAborted else if n == 7 then BeginCommitOne else BeginInDoubt)
+    else if t == 2 then (if n == 2 then VoterYes else if n == 3 then VoterNo else if n == 4 then VoterCreated else if n == 6 then VoterAsk else if n == 7 then VoterCommit else if n == 8 then VoterAbort else VoterInDoubt)
+    else if t == 3 then (if n == 2 then EnlistPrepared else if n == 3 then EnlistNo else if n == 4 then EnlistReadonly else if n == 5 then EnlistAck else if n == 6 then EnlistEnlisted else if n == 8 then EnlistPrepare else if n == 9 then EnlistCommit else if n == 10 then EnlistAbort
+    else if n == 11 then EnlistSingle else if n == 12 then EnlistOneCommitted else if n == 13 then EnlistOneAborted else EnlistOneInDoubt)
     else (if n == 2 then ReenlistAck else if n == 3 then ReenlistCommitted else ReenlistAborted)
 
 -- the message of these pieces

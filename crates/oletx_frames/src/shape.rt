@@ -45,6 +45,8 @@ fn begin(tag: u8) -> Option<Shape>
         4 => Some(Shape::Begun),
         5 => Some(Shape::Plain(Message::BeginCommitted)),
         6 => Some(Shape::Plain(Message::BeginAborted)),
+        7 => Some(Shape::Plain(Message::BeginCommitOne)),
+        8 => Some(Shape::Plain(Message::BeginInDoubt)),
         _ => None,
     }
 }
@@ -64,6 +66,7 @@ fn voter(tag: u8) -> Option<Shape>
         6 => Some(Shape::Plain(Message::VoterAsk)),
         7 => Some(Shape::Plain(Message::VoterCommit)),
         8 => Some(Shape::Plain(Message::VoterAbort)),
+        9 => Some(Shape::Plain(Message::VoterInDoubt)),
         _ => None,
     }
 }
@@ -85,6 +88,10 @@ fn enlist(tag: u8) -> Option<Shape>
         8 => Some(Shape::Plain(Message::EnlistPrepare)),
         9 => Some(Shape::Plain(Message::EnlistCommit)),
         10 => Some(Shape::Plain(Message::EnlistAbort)),
+        11 => Some(Shape::Plain(Message::EnlistSingle)),
+        12 => Some(Shape::Plain(Message::EnlistOneCommitted)),
+        13 => Some(Shape::Plain(Message::EnlistOneAborted)),
+        14 => Some(Shape::Plain(Message::EnlistOneInDoubt)),
         _ => None,
     }
 }

@@ -27,4 +27,4 @@ promoted_committed s t h named c settled can began =
     committed_at_rest (entered_in s h) h
     (at_rest s t h r began can.asked (none_open h (kept_shut h r.stands.keeps) can.completed)
     (all_heeded (plan_of (entered_in s h)) h (same_willing (plan_of (entered_in s h)) (plans_of s) h r.plans can.willing)))
-    (nothing_bad (plans_of s) h r.wired can.in_time can.ended_by_none can.unlost r.more.caused can.planned can.willing)
+    (nothing_bad (plans_of s) h r.wired r.lone can.in_time can.ended_by_none can.unlost r.more.caused can.planned can.willing)

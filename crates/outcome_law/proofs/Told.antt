@@ -1,12 +1,12 @@
 -- A settled history of a script in which the coordinator didn't stop, whatever else was lost, and in which the commit was asked for, promoted or not: the client was told, or there is something that
 -- it waits for.
-use Rattle.std.proofs.Common.{◌≡◌, false, List, [], ◌∷◌, refl, ℕ, true, Bool, ◌&&◌, ◌||◌, slice_get, Some, ◌∙◌, ap, sym, subst}
-use Rattle.std.specs.Prelude.{is_none, not, is_some}
+use Rattle.std.proofs.Common.{◌≡◌, false, List, refl, ℕ, true, Bool, ◌&&◌, ◌||◌, slice_get, Some, ◌∙◌, ap, sym, subst}
+use Rattle.std.specs.Prelude.{if◌then◌else◌, is_none, not, is_some}
 use Rattle.std.proofs.lemmas.Bool.{false_from_ne_true, or_left}
 use Rattle.dtx_values.specs.declared.call.Call.{Call}
 use Rattle.dtx_values.specs.declared.call.Call.TheVariants.{Volatile, Durable, Promotable}
 use Rattle.dtx_values.specs.declared.entry.Entry.{Entry}
-use Rattle.dtx_values.specs.declared.entry.Entry.TheVariants.{Restarted, PromoteReply, Requested, Promoting}
+use Rattle.dtx_values.specs.declared.entry.Entry.TheVariants.{OwnerAnswered, PromoteReply, Requested, Promoting}
 use Rattle.dtx_values.specs.declared.message.Conn.TheVariants.{Enl, Begin}
 use Rattle.dtx_values.specs.declared.message.Dir.TheVariants.{Up}
 use Rattle.dtx_values.specs.declared.note.Plan.{Plan}
@@ -19,16 +19,16 @@ use Rattle.dtx_values.specs.Clones.{is_open_block, blocks}
 use Rattle.dtx_values.specs.Row.{has_voted, is_marked}
 use Rattle.dtx_values.specs.declared.number.ActorNo.{ActorNo}
 use Rattle.dtx_model.specs.Words.{has, always, each, all_of, latest}
-use Rattle.dtx_model.specs.Entries.{is_promote_reply_of, is_request_of, is_asked_to_promote, is_any_owner, is_asked, is_asked_alone, is_hand, is_vote, is_decision, is_promoted, is_commit, client_told_of, clone_of}
+use Rattle.dtx_model.specs.Entries.{decision_of, handed_of, is_lost, is_owner_answer, is_promote_reply_of, is_request_of, is_asked_to_promote, is_any_owner, is_asked, is_asked_alone, is_hand, is_vote, is_decision, is_promoted, is_commit, client_told_of, clone_of}
 use Rattle.dtx_model.specs.Observed.{is_promote_reply, is_request, is_ask_promote, observe, is_ask_single, rows, clone_rows}
 use Rattle.dtx_model.specs.Outcome.{enlisted, is_complete}
 use Rattle.dtx_model.specs.Promotes.{is_promoting}
 use Rattle.dtx_model.specs.Tied.{is_stop}
-use Rattle.dtx_model.specs.Wires.{is_stopped, is_lost_wire, WireRun}
+use Rattle.dtx_model.specs.Wires.{is_lost_wire, WireRun}
 use Rattle.dtx_model.specs.declared.waiting.EnteredCall.{EnteredCall}
 use Rattle.dtx_model.specs.Waiting.{Waiter, waiting, call_at}
 use Rattle.dtx_model.specs.Plans.{plan_of}
-use Rattle.dtx_model.specs.Replies.{owes_promotion, may_still_vote, due_of, names}
+use Rattle.dtx_model.specs.Replies.{owes_promotion, may_still_answer, may_still_vote, due_of, is_unsettled, names}
 use Rattle.dtx_model.specs.Steps.{Step}
 use Rattle.dtx_model.specs.World.{World}
 use Rattle.dtx_model.specs.Grammar.{OfEnlistment, are_named_well}
@@ -36,40 +36,42 @@ use Rattle.dtx_model.specs.Caused.{AreMadeOnce, IsCallOf, Ran, entered_in, plans
 use Rattle.dtx_model.specs.History.{is_silent_to_promote, is_still_lost, is_silent, IsToldOrWaits, is_waiting}
 use Rattle.dtx_model.proofs.Bools.{not_both, or_second, and_left, and_right, and_both, not_false, not_true, or_first, or_right}
 use Rattle.dtx_model.proofs.Local.{free-local}
-use Rattle.dtx_model.specs.Half.{is_gone}
-use Rattle.dtx_model.specs.AtLog.{is_restart}
-use Rattle.history_table.proofs.Keeping.{Keeps, keeps_before, newest}
+use Rattle.dtx_model.specs.Half.{is_gone, is_handed}
+use Rattle.history_table.proofs.Keeping.{Keeps}
 use Rattle.history_table.proofs.Names.{script_once}
 use Rattle.history_table.proofs.Makers.{makes_enlistment, maker_called, AreMade, ran_made, all_unplaced, makes_volatile, lasting_makes, makes_name, makes_lasting}
 use Rattle.history_table.proofs.Scans.{has_less, has_more}
 use Rattle.history_table.proofs.HalfRows.{row_marked, row_voted, rows_enlisted, open_blocks}
 use Rattle.history_table.proofs.Lists.{has-at}
 use Rattle.history_table.proofs.Owned.{has_rows}
-use Rattle.history_table.proofs.EntryTests.{is_enlisted, is_unplanned, is_volatile_made}
-use Rattle.history_table.proofs.Undecided.{Stands}
+use Rattle.history_table.proofs.EntryTests.{is_answer, is_enlisted, is_unplanned, is_volatile_made}
+use Rattle.history_table.proofs.Undecided.{Stands, hand_seen}
 use Rattle.history_table.proofs.Steady.{run_steady}
 use Rattle.history_table.proofs.Messages.{COMMIT, ENLIST}
 use Rattle.history_table.proofs.Crossed.{is_sent_on, is_got_on}
 use Rattle.history_table.proofs.Waiters.{is_on_its_way, is_unplaced}
-use Rattle.settled_histories.proofs.Wired.{unstopped, IsWired}
+use Rattle.settled_histories.proofs.Wired.{IsWired}
 use Rattle.settled_histories.proofs.LostVoters.{lost_is_gone, AreVoters, gone_cast, gone_was_lost, ran_voters}
-use Rattle.settled_histories.proofs.Owed.{IsHeeded, IsUnowed, ArePromised, promotion_replied, AreHeeded, all_answered, all_voted, commit_requested, heeded_promised}
+use Rattle.settled_histories.proofs.Owed.{IsHeeded, IsUnowed, ArePromised, promotion_replied, AreHeeded, all_answered, all_owned, all_voted, commit_requested, heeded_promised}
 use Rattle.settled_histories.proofs.Joined.{IsJoined}
-use Rattle.settled_histories.proofs.Fine.{IsFine}
-use Rattle.settled_histories.proofs.Rest.{IsQuiet, IsUnmoved, IsAtRest}
+use Rattle.settled_histories.proofs.Fine.{IsFine, is_lone_asked}
+use Rattle.settled_histories.proofs.Rest.{IsQuiet, IsUnmoved, IsAtRest, is_once_committed}
 use Rattle.settled_histories.proofs.Idle.{IsIdle, ends_seen, idle, none_on_the_way}
 use Rattle.settled_histories.proofs.SameRows.{is_made_once}
 use Rattle.settled_histories.proofs.BeforeRows.{kept_ordered, kept_sound, kept_begun}
-use Rattle.settled_histories.proofs.Requests.{IsRequesting, ran_requests}
+use Rattle.settled_histories.proofs.Requests.{IsRequesting, once_got, ran_requests}
+use Rattle.settled_histories.proofs.AllCome.{ran_stood}
+use Rattle.settled_histories.proofs.LoneAsked.{lone_stood}
+use Rattle.settled_histories.proofs.Heard.{ran_heard}
 use Rattle.settled_histories.proofs.Foregoing.{vote_cast, commit_promoted, vote_stood}
 use Rattle.settled_histories.proofs.OnceMade.{ran_once}
 use Rattle.settled_histories.proofs.Meeting.{ran_paid}
-use Rattle.settled_histories.proofs.ByTable.{ruled_later, ruled_recorded}
+use Rattle.settled_histories.proofs.ByTable.{kept_committed, ruled_later}
 use Rattle.settled_histories.proofs.OpenedRows.{kept_opened}
 use Rattle.settled_histories.proofs.UnstoppedTies.{unstopped_tied}
 use Rattle.settled_histories.proofs.Ending.{ran_goes}
 use Rattle.settled_histories.proofs.Announced.{IsUnstopped, ran_announces}
-use Rattle.settled_histories.proofs.UndecidedFine.{IsSettling, undecided_fine, undecided_joined}
+use Rattle.settled_histories.proofs.UndecidedFine.{IsSettling, none_answered, undecided_fine, undecided_joined}
 use Rattle.settled_histories.proofs.Openings.{once_sent}
 use Rattle.settled_histories.proofs.Prepared.{ran_prepares}
 use Rattle.settled_histories.proofs.Climbed.{told_at_rest}
@@ -84,12 +86,6 @@ use Rattle.outcome_law.proofs.Settlings.{settled_act, settled_unplanned}
 use Rattle.outcome_law.proofs.Tabled.{KeepsMore, run_rows}
 use Rattle.outcome_law.proofs.ClosedRows.{kept_shut}
 
--- no restart comes where the coordinator didn't stop
-unrestarted : (h : List Entry) → Keeps h → has is_stop h ≡ false → has is_restart h ≡ false
-unrestarted [] k n = refl
-unrestarted (Restarted found ∷ h) k n = absurd (not_both (is_stopped h) (newest (Restarted found) h k) (unstopped h n))
-unrestarted (x ∷ h) k n = unrestarted h (keeps_before x h k) (or_second (is_stop x) (has is_stop h) n)
-
 -- The plan of one that isn't silent has each reply that is due of it.
 reply_of : (e : ℕ) (x : Entry) → is_promote_reply_of e x ≡ true → is_promote_reply x ≡ true
 reply_of e (PromoteReply f ok) k = refl
@@ -101,6 +97,10 @@ second a b c d k = and_right a b (and_left (a && b) c (and_left (a && b && c) d 
 request_of : (e : ℕ) (x : Entry) → is_request_of e x ≡ true → is_request x ≡ true
 request_of e (Requested f r) k = refl
 request_of e x k = absurd cc
+
+pub answer_of : (e : ℕ) (x : Entry) → is_any_owner e x ≡ true → is_owner_answer x ≡ true
+answer_of e (OwnerAnswered f o) k = refl
+answer_of e x k = absurd cc
 
 -- who was asked to promote and isn't silent to that, and owes its reply, plans one
 pub promise_planned : (p : Plan) (h : List Entry) (x : Row) → is_silent_to_promote p h x.number.value ≡ false → has (is_asked_to_promote x.number.value) h ≡ true → owes_promotion (observe h) x ≡ true
@@ -134,6 +134,12 @@ heeded p h i x k e there silent =
           (ap not (sym (row_voted h i x k e)) ∙ and_right (is_marked x) (not (has_voted x)) (and_left (is_marked x && not (has_voted x)) (may_still_vote (observe h) x) o)))
           (or_first prepare hand (or_first (prepare || hand) promote first));
       promotes = promise_planned p h x (or_second (prepare || hand) promote first);
+      owns = λ m c o z. not_both hand
+          (and_both (has (is_hand n) h && is_none p.owner) (not (has (is_any_owner n) h))
+          (and_both (has (is_hand n) h) (is_none p.owner) (sym (hand_seen n h k) ∙ and_left (is_handed (latest handed_of h) n) (may_still_answer (observe h)) o) z)
+          (not_false (has (is_any_owner n) h)
+          (has_less (is_any_owner n) is_owner_answer (answer_of n) h (unanswered_now (has is_promoted h) (has is_owner_answer h) m (and_right (is_handed (latest handed_of h) n) (may_still_answer (observe h)) o)))))
+          (or_second prepare hand (or_first (prepare || hand) promote first));
       commits = λ a o z. not_both single
           (and_both (has (is_asked_alone n) h && is_none p.owner) (not (has (is_request_of n) h)) (and_both (has (is_asked_alone n) h) (is_none p.owner) a z)
           (not_false (has (is_request_of n) h) (has_less (is_request_of n) is_request (request_of n) h (not_true (has is_request h) (second (has is_ask_single h) (not (has is_request h)) (is_promotable x.class) _ o)))))
@@ -161,6 +167,11 @@ heeded p h i x k e there silent =
     first : (prepare || hand || promote) ≡ false
     first = or_first (prepare || hand || promote) single quiet
 
+    unanswered_now : (m a : Bool) → m ≡ true → (if m then not a && is_unsettled (latest decision_of h) else not (is_some (latest decision_of h))) ≡ true → a ≡ false
+    unanswered_now true true q k = absurd cc
+    unanswered_now true false q k = refl
+    unanswered_now false a q k = absurd cc
+
 -- what no enlistment passes, no row does
 pub none_row : (q : ℕ → Bool) (h : List Entry) (i : ℕ) (x : Row) → has (λ y. q y.0.value) (enlisted h) ≡ false → slice_get (rows h) i ≡ Some x → q x.number.value ≡ false
 none_row q h i x quiet e =
@@ -184,14 +195,31 @@ pub record IsSettledRun (s : List Line) (t : ℕ) (h : List Entry) : Type 0 wher
   pub pended : IsIdle (entered_in s h) h
   pub plans : (e : ℕ) → has (is_enlisted e) h ≡ true → plan_of (entered_in s h) e ≡ plans_of s e
   pub unowed : has is_decision h ≡ false → IsUnowed (plan_of (entered_in s h)) h
+  pub committed : always is_once_committed h ≡ true
+  pub lone : always is_lone_asked h ≡ true
+  pub unanswered : has is_decision h ≡ false → has is_owner_answer h ≡ false
+  pub spared : has is_decision h ≡ false → (e : EnlNo) → has (is_lost e.value) h ≡ true → has (is_vote e.value) h ≡ true
 
--- where nothing is decided, and each that is lost is spared
-unowed_of : (p : ℕ → Plan) (h : List Entry) → KeepsMore h → always is_made_once h ≡ true → IsFine h → IsJoined h → IsRequesting h → AreVoters h
-    → each (λ e. is_unplanned (p e.value) (due_of (observe h) e.value)) (names (observe h)) ≡ true → has is_decision h ≡ false → IsUnowed p h
-unowed_of p h m once f j q voters unanswered d =
+-- where nothing is decided, each that is lost has voted
+pub lost_cast : (h : List Entry) → KeepsMore h → IsJoined h → IsRequesting h → AreVoters h → has is_owner_answer h ≡ false → has is_decision h ≡ false → (e : EnlNo) → has (is_lost e.value) h ≡ true
+    → has (is_vote e.value) h ≡ true
+lost_cast h m j q voters n d e l = gone_cast h q m.table.wires voters j.commit (λ e l. vote_cast e h m.table (j.cast e l)) n d e l
+
+-- no owner answered, by either test
+pub none_owned : (h : List Entry) → has is_answer h ≡ false → has is_owner_answer h ≡ false
+none_owned h n = has_less is_owner_answer is_answer one h n
+  where
+    one : (x : Entry) → is_owner_answer x ≡ true → is_answer x ≡ true
+    one (OwnerAnswered f o) k = refl
+    one x k = absurd cc
+
+-- so none is owed
+pub unowed_of : (p : ℕ → Plan) (h : List Entry) → KeepsMore h → always is_made_once h ≡ true → IsFine h → IsJoined h → ((e : EnlNo) → has (is_lost e.value) h ≡ true → has (is_vote e.value) h ≡ true) → IsRequesting h
+    → each (λ e. is_unplanned (p e.value) (due_of (observe h) e.value)) (names (observe h)) ≡ true → IsUnowed p h
+unowed_of p h m once f j lost q unanswered =
     record {
       fine = f;
-      spared = λ i x e g. record { has_cast = row_voted h i x m.table e ∙ gone_cast h q m.table.wires voters j.commit cast d x.number (gone_was_lost h x g) };
+      spared = λ i x e g. record { has_cast = row_voted h i x m.table e ∙ lost x.number (gone_was_lost h x g) };
       carried = λ i x e l. record { has_cast = row_voted h i x m.table e ∙ cast x.number l };
       requests = q.asked;
       sound = kept_sound h m.table;
@@ -225,10 +253,9 @@ settled_run s t h named c running settled =
     let pays = ran_paid G t steps w ran
     (record {
       run = keeps.wires;
-      unrestarted = unrestarted h keeps running;
       later = ruled_later h keeps.rules;
       sound = kept_sound h keeps;
-      recorded = ruled_recorded h keeps.rules;
+      committed = kept_committed h keeps;
       once = more.placed;
     }) in
     let i = idle (entered_in s h) h settled in
@@ -243,8 +270,13 @@ settled_run s t h named c running settled =
       going = ran_goes G t steps w once ran tie;
       announced = ran_announces G t steps w ran stopless;
       requests = requests;
+      stood = ran_stood G t steps w ran keeps;
+      heard = ran_heard G t steps w ran;
       ended = λ c p l d. ends_seen c h wired i.undelivered p l d;
     } in
+    let unanswered : has is_decision h ≡ false → has is_owner_answer h ≡ false = λ d. none_owned h (none_answered h settling d (undecided_joined h settling d)) in
+    let voters = ran_voters G t steps w once ran stopless in
+    let spared : has is_decision h ≡ false → (e : EnlNo) → has (is_lost e.value) h ≡ true → has (is_vote e.value) h ≡ true = λ d. lost_cast h more (undecided_joined h settling d) requests voters (unanswered d) d in
     record {
       calls = calls;
       steps = steps;
@@ -261,7 +293,11 @@ settled_run s t h named c running settled =
       plans = λ e q. let m = (made.enlisted e q).0 in
           plan_same s t e h named (record { number = m.number; actor = m.actor; call = m.call; given = m.may; passes = maker_called e m.call m.passes; called = m.called });
       unowed =
-          λ d. unowed_of (plan_of (entered_in s h)) h more made_once (undecided_fine h settling d) (undecided_joined h settling d) requests (ran_voters G t steps w once ran stopless) i.unanswered d;
+          λ d. unowed_of (plan_of (entered_in s h)) h more made_once (undecided_fine h settling d) (undecided_joined h settling d) (spared d) requests i.unanswered;
+      committed = once_got h keeps.wires requests.once;
+      lone = lone_stood h keeps settling.stood;
+      unanswered = unanswered;
+      spared = spared;
     }
 
 -- where a promotion began in it, and the promotable's plan has a reply to that, it can't go on
@@ -327,14 +363,18 @@ at_rest s t h r began asked closed all =
       begun = kept_begun h keeps;
       zeros = sealed_zeros h (kept_shut h keeps);
       closed = closed;
+      once = r.committed;
       prepares =
           λ d n. ran_prepares G t r.steps w r.ran
-          (record { fine = r.fine d; sound = kept_sound h keeps; ordered = kept_ordered h keeps; begun = kept_begun h keeps; undecided = (r.joined d).undecided });
+          (record { fine = r.fine d; sound = kept_sound h keeps; ordered = kept_ordered h keeps; begun = kept_begun h keeps; once = r.committed; undecided = (r.joined d).undecided });
       lasting = all_lasting G r.calls h r.made (ran_made G t r.steps w r.ran) keeps.wires;
       append = r.pended.append;
       answered = λ d. all_answered p h (r.unowed d) all d;
       voted = λ d l e k. all_voted p h (r.unowed d) all d l e.value k;
       requested = λ d. commit_requested p h (r.unowed d) all d;
+      owned = λ d e k. all_owned p h keeps (r.unowed d) all began d e k;
+      unanswered = r.unanswered;
+      spared = r.spared;
       asked = asked;
     }
 

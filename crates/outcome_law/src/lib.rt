@@ -64,7 +64,8 @@ pub fn own_outcome()
 {}
 
 /// What appends to the log have to do with the outcome, whatever was cut, stopped and started again. Where an abort is decided, nothing was logged, there is no
-/// record, and none may be appended; nor will one be, since the local side said no yes, the coordinator aborted, or the vote of one whose ENLIST it got never comes. Where an append may be tried, was done, or may have been tried where the log stopped first, and where there is a record, the
+/// record, and none may be appended; nor will one be, since the local side said no yes, the coordinator aborted or let one decide, or the vote of one whose ENLIST it got never
+/// comes; and no owner answered committed, nor will one. Where an append may be tried, was done, or may have been tried where the log stopped first, and where there is a record, the
 /// transaction is ready, and the coordinator got COMMIT, YES, and the vote of each whose ENLIST it got.
 pub fn appends()
     ensures unlogged { (s : List Line) (t : ℕ) (h : List Entry) → are_named_well s ≡ true → FreelyCaused (IsCallOf s t) t h → tied h ≡ true → has is_abort_decision h ≡ true
@@ -76,7 +77,8 @@ pub fn appends()
 {}
 
 /// What stops of the log do to the outcome, whatever was cut, stopped and started again. From a stop where an append may have been tried to the restart after it, nobody is
-/// told committed or aborted, neither is decided, and no owner answers so. And where a restart found no record, and there was no evidence before it, there is never evidence.
+/// told committed or aborted, neither is decided, and no owner answers so. And where a restart found no record, and before it there was no evidence and nobody was let decide,
+/// there is never evidence.
 /// Where no restart came, there is none that found what may not be found.
 pub fn stops()
     ensures withheld { (s : List Line) (t : ℕ) (h : List Entry) → are_named_well s ≡ true → FreelyCaused (IsCallOf s t) t h → tied h ≡ true → always is_outcome_withheld h ≡ true }

@@ -8,7 +8,7 @@ use Rattle.dtx_values.specs.declared.entry.Party.TheVariants.{Client}
 use Rattle.dtx_values.specs.declared.words.Outcome.{Outcome}
 use Rattle.dtx_values.specs.declared.words.Outcome.TheVariants.{Aborted, Committed, InDoubt}
 use Rattle.dtx_model.specs.Entries.{client_told_of}
-use Rattle.dtx_model.specs.Outcome.{coordinator_doubt, doubt, evidence, is_first_veto, is_just, is_veto, justified, may_tell, owner_doubt, ready, vetoed}
+use Rattle.dtx_model.specs.Outcome.{coordinator_doubt, doubt, evidence, is_first_veto, is_just, is_veto, justified, may_tell, owner_doubt, ready, single_doubt, vetoed}
 use Rattle.dtx_model.specs.Traces.{Placed, history, is_at}
 use Rattle.dtx_model.specs.Words.{always, ever, latest, or_else, past_of}
 use Rattle.outcome_reasons.specs.Claims.{IsFirst, IsVetoAt, after}
@@ -77,7 +77,7 @@ unfolding evidence ready
 no_evidence = refl
 
 no_doubt : doubt [] ≡ false
-unfolding doubt owner_doubt coordinator_doubt
+unfolding doubt owner_doubt coordinator_doubt single_doubt
 no_doubt = refl
 
 pub evidence-first : {A : Type 0} (r : List Entry → Entry → A) (t : ℕ) (T : List Placed) (i : ℕ) (a : A) → first_of (λ past x. when (evidence (x ∷ past)) (r past x)) (history t (past_of T)) ≡ Some (i, a)

@@ -21,7 +21,7 @@ use Rattle.outcome_reasons.specs.declared.said.PromotionReason.{PromotionReason}
 use Rattle.outcome_reasons.specs.declared.said.Why.{Why}
 use Rattle.outcome_reasons.specs.Claims.{HaveOneEnding, is_ending, is_ending_of}
 use Rattle.outcome_reasons.specs.Commits.{evident}
-use Rattle.outcome_reasons.specs.Doubts.{decided_there, doubtful, recorded_at}
+use Rattle.outcome_reasons.specs.Doubts.{decided_there, doubtful, committed_at}
 use Rattle.outcome_reasons.specs.First.{first_of, first_where}
 use Rattle.outcome_reasons.specs.Histories.{Numbered, numbered}
 use Rattle.outcome_reasons.specs.Owed.{is_owed, owed, owes_if, prepared}
@@ -70,7 +70,7 @@ none_there ns None (Some i) = refl
 none_there ns None None = refl
 
 none_after : (ns : List ℕ) (h : List Entry) (b : Bool) → filter is_ending (there_after ns h b) ≡ []
-none_after ns h true = none_there ns (first_where recorded_at h) (first_where is_first_abort h)
+none_after ns h true = none_there ns (first_where committed_at h) (first_where is_first_abort h)
 none_after ns h false = refl
 
 one_doubt : (ns : List ℕ) (h : List Entry) (o : Option (ℕ × DoubtReason)) → length (filter is_ending (doubt_lines ns h o)) ≡ 1

@@ -28,7 +28,7 @@ use Rattle.outcome_reasons.specs.declared.said.Why.{Why}
 use Rattle.outcome_reasons.specs.declared.said.Why.TheVariants.{Open}
 use Rattle.outcome_reasons.specs.Claims.{Holds, IsExcuse, IsVetoAt, whole}
 use Rattle.outcome_reasons.specs.Commits.{commit_reason, evident}
-use Rattle.outcome_reasons.specs.Doubts.{decided_there, doubt_reason, doubtful, recorded_at}
+use Rattle.outcome_reasons.specs.Doubts.{decided_there, doubt_reason, doubtful, committed_at}
 use Rattle.outcome_reasons.specs.First.{first_of, first_where, when}
 use Rattle.outcome_reasons.specs.Moments.{moment, number_at, numbers_of}
 use Rattle.outcome_reasons.specs.Opens.{blocking, open_by, open_reason, unanswered}
@@ -66,7 +66,7 @@ there_holds s T t ns None (Some i) = tt
 there_holds s T t ns None None = tt
 
 after_holds : (s : List Line) (T : List Placed) (t : ℕ) (ns : List ℕ) (h : List Entry) (b : Bool) → AllHold s T t (there_after ns h b)
-after_holds s T t ns h true = one_holds s T t _ (there_holds s T t ns (first_where recorded_at h) (first_where is_first_abort h))
+after_holds s T t ns h true = one_holds s T t _ (there_holds s T t ns (first_where committed_at h) (first_where is_first_abort h))
 after_holds s T t ns h false = All-nil (λ x. Holds s T t x)
 
 commit_holds : (s : List Line) (T : List Placed) (t : ℕ) (o : Option (ℕ × CommitReason)) → latest client_told_of (whole t T) ≡ Some CommittedWord → first_of evident (whole t T) ≡ o → Holds s T t (committed_line (numbers_of t (past_of T)) o)

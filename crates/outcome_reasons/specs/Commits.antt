@@ -4,9 +4,7 @@ use Rattle.dtx_values.specs.declared.entry.Entry.{Entry}
 use Rattle.dtx_values.specs.declared.entry.Entry.TheVariants.{Logged, OwnerAnswered, Restarted, Sealed}
 use Rattle.dtx_values.specs.declared.number.EnlNo.{EnlNo}
 use Rattle.dtx_values.specs.declared.words.Class.{Class}
-use Rattle.dtx_model.specs.Entries.{is_promoted}
-use Rattle.dtx_model.specs.Outcome.{durables, evidence}
-use Rattle.dtx_model.specs.Words.{has}
+use Rattle.dtx_model.specs.Outcome.{all_vote, durables, evidence}
 use Rattle.outcome_reasons.specs.declared.said.CommitReason.{CommitReason}
 use Rattle.outcome_reasons.specs.declared.said.CommitReason.TheVariants.{Logged as ByLog, Owner as ByOwner, Sealed as BySeal}
 use Rattle.outcome_reasons.specs.First.{when}
@@ -16,9 +14,9 @@ commit_by true owner = ByLog
 commit_by false (Some x) = ByOwner x.0
 commit_by false None = BySeal
 
--- what the evidence in h is: after a promotion the log, else the answer of the durable or promotable, else the seal
+-- what the evidence in h is: the log where the durables and promotables vote too; else the answer of the durable or promotable, else the seal
 abbrev pub commit_reason : List Entry → CommitReason
-commit_reason h = commit_by (has is_promoted h) (slice_get (durables h) 0)
+commit_reason h = commit_by (all_vote h) (slice_get (durables h) 0)
 
 -- the evidence, where it stands after this entry
 abbrev pub evident : List Entry → Entry → Option CommitReason

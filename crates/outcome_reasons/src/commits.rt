@@ -6,7 +6,7 @@ ghost use Rattle.outcome_reasons.specs.First.{first_of};
 
 use crate::said::CommitReason;
 use dtx_values::Entry;
-use history_judge::{has_evidence, has_promotion, newest_durable};
+use history_judge::{all_vote, has_evidence, newest_durable};
 
 /// Whether evidence may come of the entry, or of what comes after it: without such an entry there is none.
 fn is_mark(x: &Entry) -> bool
@@ -23,7 +23,7 @@ fn is_mark(x: &Entry) -> bool
 fn commit_reason(h: &[Entry]) -> CommitReason
     ensures { result ≡ commit_reason (past_of h.now) }
 {
-    if has_promotion(h) {
+    if all_vote(h) {
         return CommitReason::Logged;
     }
     match newest_durable(h) {

@@ -3,14 +3,14 @@ ghost use Rattle.std.specs.Prelude.{◌≡◌, ◌∷◌, List};
 ghost use Rattle.dtx_values.specs.declared.entry.Entry.{Entry};
 ghost use Rattle.dtx_model.specs.Learned.{is_abort, is_first_abort};
 ghost use Rattle.dtx_model.specs.Words.{past_of};
-ghost use Rattle.outcome_reasons.specs.Doubts.{at_coordinator, doubt_reason, doubtful, recorded_at};
+ghost use Rattle.outcome_reasons.specs.Doubts.{at_coordinator, doubt_reason, doubtful, committed_at, is_commit_there};
 ghost use Rattle.outcome_reasons.specs.First.{first_of, first_where};
 
 use crate::callers::number_at;
-use crate::ends::{begin_root, voter_root};
+use crate::ends::{begin_root, enlistment_root, voter_root};
 use crate::said::{DoubtReason, Why};
 use dtx_values::{Conn, Dir, Entry, Message, has_line};
-use history_judge::{has_doubt, has_record, is_record, is_veto_end};
+use history_judge::{has_doubt, has_record, is_lone, is_record, is_veto_end};
 
 /// What makes the doubt that stands after h, which ends with x.
 fn doubt_reason(numbers: &[u64], h: &[Entry], x: &Entry) -> DoubtReason
@@ -19,6 +19,9 @@ fn doubt_reason(numbers: &[u64], h: &[Entry], x: &Entry) -> DoubtReason
     match *x {
         Entry::Handed(e) | Entry::OwnerAnswered(e, _) => DoubtReason::Answered(e),
         Entry::Lost(e) => DoubtReason::Lost(e),
+        Entry::Down(Conn::Enl(e), Dir::Up) | Entry::Got(Conn::Enl(e), Dir::Up, _) => {
+            DoubtReason::Unheard(enlistment_root(numbers, e, h), e)
+        }
         _ => DoubtReason::Ended(begin_root(numbers, h), voter_root(numbers, h)),
     }
 }
@@ -35,13 +38,23 @@ pub(crate) fn first_doubt(numbers: &[u64], h: &[Entry]) -> Option<(usize, DoubtR
     None
 }
 
-/// The place of the coordinator's first record.
+/// Whether the coordinator commits at the entry.
+fn is_commit_there(x: &Entry) -> bool
+    ensures { result ≡ is_commit_there x.now }
+{
+    matches!(
+        x,
+        Entry::Got(Conn::Enl(_), Dir::Up, Message::EnlistOneCommitted)
+    ) || is_record(x)
+}
+
+/// The place at which the coordinator committed.
 #[tactic(auto, using(crate::proofs::Firsts::firsts))]
-fn first_record(h: &[Entry]) -> Option<usize>
-    ensures { result ≡ first_where recorded_at (past_of h.now) }
+fn first_commit(h: &[Entry]) -> Option<usize>
+    ensures { result ≡ first_where committed_at (past_of h.now) }
 {
     for (i, x) in h.iter().enumerate() {
-        if is_record(x) {
+        if is_commit_there(x) {
             return Some(i);
         }
     }
@@ -56,7 +69,11 @@ fn is_abort(h: &[Entry], x: &Entry) -> bool
         Entry::Got(Conn::Begin, Dir::Up, Message::BeginAbort)
         | Entry::Got(Conn::Voter, Dir::Up, Message::VoterNo)
         | Entry::Got(Conn::Enl(_), Dir::Up, Message::EnlistNo)
+        | Entry::Got(Conn::Enl(_), Dir::Up, Message::EnlistOneAborted)
         | Entry::LogFull => true,
+        Entry::Got(Conn::Begin, Dir::Up, Message::BeginCommitOne) => {
+            !is_lone(h) && is_veto_end(h, Conn::Begin, Dir::Up)
+        }
         Entry::Got(c, Dir::Up, m) => !has_line(c, Dir::Up, m) && is_veto_end(h, c, Dir::Up),
         Entry::Down(c, Dir::Up) => is_veto_end(h, c, Dir::Up),
         Entry::Restarted(found) => !found,
@@ -89,7 +106,7 @@ fn first_abort(h: &[Entry]) -> Option<usize>
 pub(crate) fn at_coordinator(numbers: &[u64], h: &[Entry]) -> Why
     ensures { result ≡ at_coordinator (past_of numbers.now) (past_of h.now) }
 {
-    if let Some(i) = first_record(h) {
+    if let Some(i) = first_commit(h) {
         return Why::CoordinatorCommitted(number_at(numbers, i));
     }
     match first_abort(h) {

@@ -2,13 +2,14 @@
 ghost use Rattle.std.specs.Prelude.{◌≡◌, if◌then◌else◌};
 ghost use Rattle.dtx_model.specs.Outcome.{is_begin_end, is_voter_end};
 ghost use Rattle.dtx_model.specs.Words.{past_of};
-ghost use Rattle.dtx_values.specs.declared.message.Conn.TheVariants.{Begin, Voter};
+ghost use Rattle.dtx_values.specs.declared.message.Conn.TheVariants.{Begin, Enl, Voter};
+ghost use Rattle.outcome_reasons.specs.Doubts.{is_its_end};
 ghost use Rattle.outcome_reasons.specs.Roots.{end_root, root, root_after};
 
 use crate::callers::{newest_line, number_at};
 use crate::said::Root;
-use dtx_values::{Conn, Entry};
-use history_judge::{is_begin_end, is_voter_end};
+use dtx_values::{Conn, EnlNo, Entry};
+use history_judge::{ended_there, is_begin_end, is_voter_end};
 
 /// The root of an end of c after one more entry.
 fn root_after(numbers: &[u64], c: Conn, h: &[Entry], x: &Entry, before: Root) -> Root
@@ -59,6 +60,29 @@ pub(crate) fn voter_root(numbers: &[u64], h: &[Entry]) -> Root
     for (i, x) in h.iter().enumerate() {
         if is_voter_end(x) {
             found = root(numbers, Conn::Voter, &h[..i]);
+        }
+    }
+    found
+}
+
+/// Whether the coordinator's connection to this enlistment ends by the entry.
+fn is_its_end(e: EnlNo, x: &Entry) -> bool
+    ensures { result ≡ is_its_end e x.now }
+{
+    match ended_there(x) {
+        Some(f) => e == f,
+        None => false,
+    }
+}
+
+/// The same of the connection of an enlistment, by what stands before the newest entry at which the coordinator saw its end.
+pub(crate) fn enlistment_root(numbers: &[u64], e: EnlNo, h: &[Entry]) -> Root
+    ensures { result ≡ end_root (past_of numbers.now) (Enl e) (is_its_end e) (past_of h.now) }
+{
+    let mut found = Root::Unsaid(Conn::Enl(e));
+    for (i, x) in h.iter().enumerate() {
+        if is_its_end(e, x) {
+            found = root(numbers, Conn::Enl(e), &h[..i]);
         }
     }
     found

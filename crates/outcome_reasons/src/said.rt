@@ -92,6 +92,8 @@ pub enum DoubtReason {
     Lost(EnlNo),
     /// The connections b and v ended after the local yes, each for its cause, and no outcome had come.
     Ended(Root, Root),
+    /// The coordinator had let it decide, and saw the end of its connection, for this cause, before an answer came.
+    Unheard(Root, EnlNo),
 }
 
 /// Why a transaction is open.
@@ -122,7 +124,7 @@ pub enum Why {
     InDoubt(DoubtReason, u64),
     /// Its client was told this outcome, which nothing justifies: so only in a history that isn't justified.
     Unjust(Outcome),
-    /// The coordinator committed it, at the entry of this number, while its client is in doubt.
+    /// The coordinator committed it while its client is in doubt: at the entry of this number its record was in the log, or the one that it let decide said committed.
     CoordinatorCommitted(u64),
     /// The coordinator aborted it.
     CoordinatorAborted(u64),

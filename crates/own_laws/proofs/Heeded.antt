@@ -1,25 +1,26 @@
 -- Where no enlistment is silent by its plan, the plans have each reply that is due.
 use Rattle.std.proofs.Common.{◌≡◌, ℕ, Bool, true, false, ◌&&◌, ◌||◌, List, slice_get, Some, refl, ◌∙◌, ap, sym}
-use Rattle.std.specs.Prelude.{is_none, not}
+use Rattle.std.specs.Prelude.{if◌then◌else◌, is_none, is_some, not}
 use Rattle.dtx_values.specs.declared.entry.Entry.{Entry}
 use Rattle.dtx_values.specs.declared.entry.Entry.TheVariants.{Requested}
 use Rattle.dtx_values.specs.declared.note.Plan.{Plan}
 use Rattle.dtx_values.specs.declared.row.Row.{Row}
 use Rattle.dtx_values.specs.Class.{is_promotable}
 use Rattle.dtx_values.specs.Row.{has_voted, is_marked}
-use Rattle.dtx_model.specs.Words.{has}
-use Rattle.dtx_model.specs.Entries.{is_any_owner, is_asked, is_asked_alone, is_hand, is_request_of, is_vote}
+use Rattle.dtx_model.specs.Words.{has, latest}
+use Rattle.dtx_model.specs.Entries.{decision_of, handed_of, is_any_owner, is_asked, is_asked_alone, is_hand, is_owner_answer, is_promoted, is_request_of, is_vote}
 use Rattle.dtx_model.specs.Observed.{is_ask_single, is_request, observe, rows}
 use Rattle.dtx_model.specs.Outcome.{enlisted}
-use Rattle.dtx_model.specs.Half.{is_gone}
-use Rattle.dtx_model.specs.Replies.{may_still_vote, owes_vote}
+use Rattle.dtx_model.specs.Half.{is_gone, is_handed}
+use Rattle.dtx_model.specs.Replies.{is_unsettled, may_still_answer, may_still_vote, owes_vote}
 use Rattle.dtx_model.specs.History.{is_silent, is_silent_to_promote}
 use Rattle.dtx_model.proofs.Bools.{and_both, and_left, and_right, not_both, not_false, not_true, or_first, or_second}
 use Rattle.history_table.proofs.Keeping.{Keeps}
 use Rattle.history_table.proofs.HalfRows.{row_marked, row_voted}
 use Rattle.history_table.proofs.Scans.{has_less}
+use Rattle.history_table.proofs.Undecided.{hand_seen}
 use Rattle.settled_histories.proofs.Owed.{AreHeeded, IsHeeded}
-use Rattle.outcome_law.proofs.Told.{none_row, promise_planned, unlost_row}
+use Rattle.outcome_law.proofs.Told.{answer_of, none_row, promise_planned, unlost_row}
 
 -- the four notes to which an enlistment is silent, if it isn't lost: its plan has no reply, and it gave none
 abbrev pub is_silent_to_prepare : Plan → List Entry → ℕ → Bool
@@ -88,6 +89,12 @@ heeded p h i x k e heard =
           (ap not (sym (row_voted h i x k e)) ∙ and_right (is_marked x) (not (has_voted x)) (open_vote o)))
           heard.prepare;
       promotes = promise_planned p h x heard.promote;
+      owns = λ m c o z. not_both (is_silent_to_hand p h n)
+          (and_both (has (is_hand n) h && is_none p.owner) (not (has (is_any_owner n) h))
+          (and_both (has (is_hand n) h) (is_none p.owner) (sym (hand_seen n h k) ∙ and_left (is_handed (latest handed_of h) n) (may_still_answer (observe h)) o) z)
+          (not_false (has (is_any_owner n) h)
+          (has_less (is_any_owner n) is_owner_answer (answer_of n) h (unanswered_now (has is_promoted h) (has is_owner_answer h) m (and_right (is_handed (latest handed_of h) n) (may_still_answer (observe h)) o)))))
+          heard.hand;
       commits = λ a o z. not_both (is_silent_to_single p h n)
           (and_both (has (is_asked_alone n) h && is_none p.owner) (not (has (is_request_of n) h)) (and_both (has (is_asked_alone n) h) (is_none p.owner) a z)
           (not_false (has (is_request_of n) h)
@@ -97,6 +104,11 @@ heeded p h i x k e heard =
   where
     n : ℕ
     n = x.number.value
+
+    unanswered_now : (m a : Bool) → m ≡ true → (if m then not a && is_unsettled (latest decision_of h) else not (is_some (latest decision_of h))) ≡ true → a ≡ false
+    unanswered_now true true q k = absurd cc
+    unanswered_now true false q k = refl
+    unanswered_now false a q k = absurd cc
 
     open_vote : owes_vote (observe h) x ≡ true → (is_marked x && not (has_voted x)) ≡ true
     open_vote o = and_left (is_marked x && not (has_voted x)) (may_still_vote (observe h) x) o

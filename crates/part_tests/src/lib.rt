@@ -13,6 +13,8 @@ mod proxy;
 #[cfg(test)]
 mod rows;
 #[cfg(test)]
+mod single;
+#[cfg(test)]
 mod values;
 #[cfg(test)]
 mod verdicts;

@@ -11,7 +11,8 @@ use tm_proxy::ProxyNews;
 pub enum Right {
     /// The local side decides.
     Local,
-    /// The commit was handed to the one enlistment that owns it. (Single-phase commit of System.Transactions.)
+    /// The commit was handed to the one enlistment that owns it, by the local side or by the coordinator. (Single-phase commit of
+    /// System.Transactions.)
     Owner,
     /// The transaction is on its way to the coordinator.
     InFlight,

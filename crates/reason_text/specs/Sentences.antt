@@ -22,7 +22,7 @@ use Rattle.outcome_reasons.specs.declared.said.Caller.{Caller}
 use Rattle.outcome_reasons.specs.declared.said.CommitReason.{CommitReason}
 use Rattle.outcome_reasons.specs.declared.said.CommitReason.TheVariants.{Logged, Owner, Sealed}
 use Rattle.outcome_reasons.specs.declared.said.DoubtReason.{DoubtReason}
-use Rattle.outcome_reasons.specs.declared.said.DoubtReason.TheVariants.{Answered, Ended as BothEnded, Lost as OwnerLost}
+use Rattle.outcome_reasons.specs.declared.said.DoubtReason.TheVariants.{Answered, Ended as BothEnded, Lost as OwnerLost, Unheard}
 use Rattle.outcome_reasons.specs.declared.said.Moment.{Moment}
 use Rattle.outcome_reasons.specs.declared.said.OpenReason.{OpenReason}
 use Rattle.outcome_reasons.specs.declared.said.OpenReason.TheVariants.{NotAsked, OpenClone as Blocking, Silent, Unsettled}
@@ -130,6 +130,7 @@ abbrev pub doubt_said : DoubtReason → List Phrase
 doubt_said (Answered e) = one_said e (codes ", which was handed the commit, answered in doubt")
 doubt_said (OwnerLost e) = one_said e (codes " was lost after it was handed the commit, without an answer")
 doubt_said (BothEnded b v) = roots_said b v ++ words_said (codes ": b and v ended after the local yes, and no outcome had come")
+doubt_said (Unheard r e) = root_said r ++ ((Nothing, codes ": the coordinator had let ") ∷ (Enlistment (Some e), codes " decide, and no answer had come") ∷ [])
 
 -- the note to which an enlistment is silent
 abbrev pub note_said : Note → List ℕ

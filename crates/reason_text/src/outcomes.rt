@@ -5,7 +5,7 @@ ghost use Rattle.reason_text.specs.Sentences.{commit_said, doubt_said, note_said
 
 use crate::aborts::push_root;
 use crate::phrases::{Head, push_one, push_phrases, push_words};
-use dtx_values::Note;
+use dtx_values::{EnlNo, Note};
 use outcome_reasons::{Caller, CommitReason, DoubtReason, OpenReason, PromotionReason, Root};
 use std::alloc::AllocError;
 
@@ -111,6 +111,24 @@ fn push_both_ended(text: &mut Vec<u8>, b: Root, v: Root) -> Result<(), AllocErro
     )
 }
 
+/// Appends why the coordinator doesn't know what the one decided that it let decide.
+#[tactic(auto, using(crate::proofs::Joined::joined))]
+fn push_unheard(text: &mut Vec<u8>, r: Root, e: EnlNo) -> Result<(), AllocError>
+    ensures { OnOk result (text.new.items ≡ text.old.items ++ phrases_text (doubt_said (DoubtReason.Unheard r e))) }
+{
+    push_root(text, r)?;
+    push_phrases(
+        text,
+        &[
+            (Head::Nothing, b": the coordinator had let "),
+            (
+                Head::Enlistment(Some(e)),
+                b" decide, and no answer had come",
+            ),
+        ],
+    )
+}
+
 /// Appends why an outcome is in doubt.
 pub(crate) fn push_doubt(text: &mut Vec<u8>, reason: DoubtReason) -> Result<(), AllocError>
     ensures { OnOk result (text.new.items ≡ text.old.items ++ phrases_text (doubt_said reason)) }
@@ -125,6 +143,7 @@ pub(crate) fn push_doubt(text: &mut Vec<u8>, reason: DoubtReason) -> Result<(), 
             b" was lost after it was handed the commit, without an answer",
         ),
         DoubtReason::Ended(b, v) => push_both_ended(text, b, v),
+        DoubtReason::Unheard(r, e) => push_unheard(text, r, e),
     }
 }
 

@@ -5,13 +5,15 @@ use Rattle.std.proofs.lemmas.Bool.{eqb-true}
 use Rattle.std.proofs.lemmas.List.{length-take}
 use Rattle.dtx_values.specs.declared.entry.Answer.TheVariants.{Fine, NoSuch, Finished, Over, Connected, Stopped as IsStopped}
 use Rattle.dtx_values.specs.declared.entry.Entry.{Entry}
-use Rattle.dtx_values.specs.declared.entry.Entry.TheVariants.{Stopped, Restarted}
+use Rattle.dtx_values.specs.declared.entry.Entry.TheVariants.{Handed, Stopped, Restarted}
 use Rattle.dtx_values.specs.declared.message.Conn.TheVariants.{Enl, Again}
 use Rattle.dtx_values.specs.declared.message.Dir.TheVariants.{Up, Down}
 use Rattle.dtx_values.specs.declared.number.EnlNo.{EnlNo}
 use Rattle.dtx_values.specs.Ends.{is_in}
 use Rattle.dtx_model.specs.declared.branch.Branch.{Branch}
 use Rattle.dtx_model.specs.Coordinated.{coordinate, follow, stopped_after}
+use Rattle.dtx_model.specs.Entries.{handed_of}
+use Rattle.dtx_model.specs.Half.{is_handed}
 use Rattle.dtx_model.specs.Observed.{branches, is_branch, observe, rows}
 use Rattle.dtx_model.specs.Wires.{is_stopped, stop_of}
 use Rattle.dtx_model.specs.Words.{holds, latest, or_else, past_of}
@@ -24,7 +26,7 @@ use Rattle.reenlist_recovery.specs.declared.wire.Wire.{Wire}
 use Rattle.reenlist_recovery.specs.Connections.{wire_after, wire_of}
 use Rattle.reenlist_recovery.specs.Enlisted.{is_accepted}
 use Rattle.reenlist_recovery.specs.Recovery.{reenlisted}
-use Rattle.reenlist_recovery.specs.Standing.{HasRoom, answer_by, answer_for, at_first, standing_after, standing_of}
+use Rattle.reenlist_recovery.specs.Standing.{HasRoom, answer_by, answer_for, at_first, handed_after, standing_after, standing_of}
 use Rattle.reenlist_recovery.proofs.Ballots.{ballot-more}
 use Rattle.reenlist_recovery.proofs.Found.{found}
 use Rattle.reenlist_recovery.proofs.Seats.{seat-more}
@@ -41,6 +43,11 @@ unfolding coordinate follow
 stopped_is [] = refl
 stopped_is (x ∷ past) = stop_more x (latest stop_of past) ∙ ap (stopped_after x) (stopped_is past)
 
+-- the commit is handed to it by the last handing
+handed_more : (e : ℕ) (x : Entry) (o : Option EnlNo) → is_handed (or_else (handed_of x) o) e ≡ handed_after e x (is_handed o e)
+handed_more e (Handed f) o = refl
+handed_more e _ o = refl
+
 -- one more entry
 standing_more : (e : EnlNo) (past : List Entry) (x : Entry) → standing_of e (x ∷ past) ≡ standing_after e x (standing_of e past)
 unfolding coordinate follow
@@ -48,6 +55,7 @@ standing_more e past x = λ k.
     record {
       seat = seat-more e.value x (branches past) k;
       ballot = ballot-more e.value x (rows past) k;
+      handed = handed_more e.value x (latest handed_of past) k;
       recovered = (standing_after e x (standing_of e past)).recovered;
       stopped = (standing_after e x (standing_of e past)).stopped;
       own = (wire-more (Enl e) past x ∙ (λ j. wire_after (Enl e) (stopped_is past j) x (wire_of (Enl e) past))) k;
@@ -96,7 +104,7 @@ answer_with e past (Some b) is =
     if not b.enlisted then NoSuch else if is_finished_there (observe past) (same k).value then Finished else if is_in b.manager.value s.recovered then Over b.manager
     else if is_connected (same k) past then Connected (same k) else if s.stopped then IsStopped else Fine)
     ∙ (λ k.
-    if not (is_accepted (sym is k)) then NoSuch else if s.seat.told || s.ballot.out then Finished else if is_in b.manager.value s.recovered then Over b.manager
+    if not (is_accepted (sym is k)) then NoSuch else if s.seat.told || s.ballot.out || s.handed then Finished else if is_in b.manager.value s.recovered then Over b.manager
     else if linked-is (Enl e) past k || linked-is (Again e) past k then Connected e else if s.stopped then IsStopped else Fine)
 
 -- what a `reenlist` is answered

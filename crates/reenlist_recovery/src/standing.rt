@@ -4,7 +4,7 @@ ghost use Rattle.dtx_model.specs.Coordinated.{recovered_after, stopped_after};
 ghost use Rattle.dtx_model.specs.Words.{past_of};
 ghost use Rattle.dtx_values.specs.Ends.{is_in};
 ghost use Rattle.reenlist_recovery.specs.Recovery.{refusal_of};
-ghost use Rattle.reenlist_recovery.specs.Standing.{HasRoom, answer_by, answer_for, at_first, standing_after, standing_of};
+ghost use Rattle.reenlist_recovery.specs.Standing.{HasRoom, answer_by, answer_for, at_first, handed_after, standing_after, standing_of};
 
 use crate::ballot::Ballot;
 use crate::refusal::ReenlistRefusal;
@@ -18,6 +18,8 @@ use entry_lists::Entries;
 pub(crate) struct Standing {
     pub seat: Seat,
     pub ballot: Ballot,
+    /// Whether the commit was handed to it.
+    pub handed: bool,
     /// The managers that have recovered: the bit of each is 1.
     pub recovered: u32,
     /// Whether the coordinator stands stopped.
@@ -49,6 +51,16 @@ fn stopped_after(x: &Entry, stopped: bool) -> bool
     }
 }
 
+/// Whether the commit is handed to the enlistment after an entry.
+fn handed_after(e: EnlNo, x: &Entry, handed: bool) -> bool
+    ensures { result ≡ handed_after e.value x.now handed }
+{
+    match *x {
+        Entry::Handed(f) => e == f,
+        _ => handed,
+    }
+}
+
 impl Standing {
     /// What no entry says.
     fn at_first() -> Standing
@@ -57,6 +69,7 @@ impl Standing {
         Standing {
             seat: Seat::none(),
             ballot: Ballot::none(),
+            handed: false,
             recovered: 0,
             stopped: false,
             own: Wire::unopened(),
@@ -73,6 +86,7 @@ impl Standing {
         Standing {
             seat: self.seat.follow(e, x),
             ballot: self.ballot.follow(e, x),
+            handed: handed_after(e, x, self.handed),
             recovered: recovered_after(x, self.recovered),
             stopped: stopped_after(x, self.stopped),
             own: self.own.follow(Conn::Enl(e), self.stopped, x),
@@ -93,7 +107,7 @@ impl Standing {
     {
         if !self.seat.enlisted {
             Some(ReenlistRefusal::NoSuch)
-        } else if self.seat.told || self.ballot.out {
+        } else if self.seat.told || self.ballot.out || self.handed {
             Some(ReenlistRefusal::Finished(e))
         } else if self.has_recovered(r) {
             Some(ReenlistRefusal::RecoveryOver(r))

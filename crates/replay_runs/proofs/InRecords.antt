@@ -11,12 +11,13 @@ use Rattle.dtx_values.specs.declared.message.Dir.TheVariants.{Up, Down}
 use Rattle.dtx_values.specs.declared.message.Info.{Info}
 use Rattle.dtx_values.specs.declared.message.Message.TheVariants.{EnlistEnlist}
 use Rattle.dtx_model.specs.declared.desk.Desk.{Desk}
-use Rattle.dtx_model.specs.Words.{all_of, each, has}
+use Rattle.dtx_model.specs.Words.{all_of, each, has, latest}
 use Rattle.dtx_model.specs.Log.{CommitRecord, first_of, is_record_of}
 use Rattle.dtx_model.specs.Coordinated.{coordinate, is_desk_of, is_prepared}
 use Rattle.dtx_model.specs.Tied.{before_last_stop, can_free, enlist_got, has_mark, is_acked, is_done_there, is_prepared_got, is_recovery, tied}
 use Rattle.dtx_model.specs.Wires.{WireRun, is_stopped}
-use Rattle.dtx_model.specs.Entries.{is_record}
+use Rattle.dtx_model.specs.Entries.{handed_of, is_record}
+use Rattle.dtx_model.specs.Half.{is_handed}
 use Rattle.dtx_model.specs.Observed.{observe}
 use Rattle.dtx_model.specs.World.{core, is_finished_there}
 use Rattle.dtx_model.specs.Caused.{IsIn}
@@ -24,7 +25,7 @@ use Rattle.dtx_model.proofs.Bools.{and_both, and_left, and_right, not_both, or_c
 use Rattle.dtx_model.proofs.Quiet.{wire_run}
 use Rattle.history_table.proofs.CoreStages.{stopped_same}
 use Rattle.history_table.proofs.Crossed.{nothing_up}
-use Rattle.settled_histories.proofs.Finished.{finished_seen}
+use Rattle.settled_histories.proofs.Finished.{finished_seen, is_finished}
 use Rattle.settled_histories.proofs.FreedDesks.{AreFreed}
 use Rattle.settled_histories.proofs.FreedDesks.{IsDone}
 use Rattle.history_table.proofs.Keeping.{Keeps}
@@ -191,7 +192,9 @@ ever_named h rs k freed named r = by (has_mark h) refl
     wider false b c t = or_right b c t
 
     gone : (i : Info) → has (is_enlist_by i.enl.value i.rm.value) h ≡ true → IsDone i.enl h → (is_done_there h i || is_finished_there (observe h) i.enl.value) ≡ true
-    gone i sent (inl f) = or_right (is_done_there h i) (is_finished_there (observe h) i.enl.value) (finished_seen i.enl.value h ∙ f)
+    gone i sent (inl f) =
+        or_right (is_done_there h i) (is_finished_there (observe h) i.enl.value)
+        (finished_seen i.enl.value h ∙ or_left (is_finished i.enl.value h) (is_handed (latest handed_of h) i.enl.value) f)
     gone i sent (inr w) =
         let manager : i.rm.value ≡ w.0 = one_manager i.enl i.rm.value w.0 h k sent w.1 in
         or_left (is_done_there h i) (is_finished_there (observe h) i.enl.value)

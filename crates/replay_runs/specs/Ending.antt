@@ -33,7 +33,7 @@ names i r = has (λ p. (i.rm.value == p.0) && (i.enl.value == p.1)) r.enlistment
 abbrev pub are_named : List Entry → List CommitRecord → Bool
 are_named h rs = each (λ i. is_done_there h i || has (names i) rs) (all_of enlist_got h)
 
--- The same, but one that is finished at its own side, since it acknowledged, need not be named.
+-- The same, but one that is finished at its own side, since it acknowledged or was handed the commit, need not be named.
 abbrev pub are_ever_named : List Entry → List CommitRecord → Bool
 are_ever_named h rs = each (λ i. is_done_there h i || is_finished_there (observe h) i.enl.value || has (names i) rs) (all_of enlist_got h)
 

@@ -16,15 +16,15 @@ pub record HasOneRight (T : List Placed) : Type 0 where
   pub seen : (t : TxNo) → right_seen (observe (history t.value (past_of T))) ≡ right_of (history t.value (past_of T))
   pub moves : (t : TxNo) (past es : List Entry) (x : Entry) → history t.value (past_of T) ≡ onto past (x ∷ es) → right_of (x ∷ past) ≡ right_after x (right_of past)
 
--- in each transaction that is decided to be aborted no append was tried and none may be, nor will be (`is_barred` says why); and where one may be tried or was, or
--- there is a record, the transaction is ready, and COMMIT, YES and each vote were got
+-- in each transaction that is decided to be aborted no append was tried and none may be, nor will be (`is_barred` says why), and no owner answered Committed; and where one may
+-- be tried or was, or there is a record, the transaction is ready, and COMMIT, YES and each vote were got
 pub record AreAppendsBacked (T : List Placed) : Type 0 where
   pub untried : (t : TxNo) → has is_abort_decision (history t.value (past_of T)) ≡ true → (has_append (history t.value (past_of T)) || stopped_at_append (history t.value (past_of T))) ≡ false
   pub barred : (t : TxNo) → has is_abort_decision (history t.value (past_of T)) ≡ true → is_barred (history t.value (past_of T)) ≡ true
   pub backed : (t : TxNo) → (has_append (history t.value (past_of T)) || stopped_at_append (history t.value (past_of T))) ≡ true → backs_append (history t.value (past_of T)) ≡ true
 
--- in each transaction, from a stop that leaves it unknown whether its record is there to the restart after it, nobody says committed or aborted; and where a restart found no record, and there was no evidence before, there is
--- never evidence
+-- in each transaction, from a stop that leaves it unknown whether its record is there to the restart after it, nobody says committed or aborted; and where a restart found no record, there was no
+-- evidence before, and SINGLE wasn't sent, there is never evidence
 pub record AreOutcomesWithheld (T : List Placed) : Type 0 where
   pub withheld : (t : TxNo) → always is_outcome_withheld (history t.value (past_of T)) ≡ true
   pub never : (t : TxNo) → ever restarts_without_evidence (history t.value (past_of T)) ≡ true → evidence (history t.value (past_of T)) ≡ false

@@ -11,7 +11,7 @@ use Rattle.dtx_values.specs.declared.message.Conn.TheVariants.{Begin, Voter, Enl
 use Rattle.dtx_values.specs.declared.message.Dir.{Dir}
 use Rattle.dtx_values.specs.declared.message.Dir.TheVariants.{Up, Down}
 use Rattle.dtx_values.specs.declared.message.Message.{Message}
-use Rattle.dtx_values.specs.declared.message.Message.TheVariants.{BeginBegin, BeginCommit, EnlistAck, ReenlistAck}
+use Rattle.dtx_values.specs.declared.message.Message.TheVariants.{BeginBegin, EnlistAck, ReenlistAck}
 use Rattle.dtx_values.specs.declared.note.Note.{Note}
 use Rattle.dtx_values.specs.declared.note.Note.TheVariants.{Single}
 use Rattle.dtx_values.specs.declared.note.Reply.{Reply}
@@ -27,7 +27,7 @@ use Rattle.dtx_model.specs.Coordinated.{Coordinated, commit_sends, core_got, fol
 use Rattle.dtx_model.specs.Half.{Half, sees, to_up}
 use Rattle.dtx_model.specs.Arrivals.{local_got}
 use Rattle.dtx_model.specs.Acts.{act_entries}
-use Rattle.dtx_model.specs.Replies.{ack_on, conn_due, due_of, is_volatile_row, owner_entries, promote_entries, reply_entries, request_message, request_of, vote_message, voted_by}
+use Rattle.dtx_model.specs.Replies.{ack_on, conn_due, due_of, is_volatile_row, one_message, owner_entries, promote_entries, reply_entries, request_message, request_of, vote_message, voted_by}
 use Rattle.dtx_model.specs.Facts.{facts_if, has_facts}
 use Rattle.dtx_model.specs.World.{World, half, core, answer_at, facts_at}
 use Rattle.dtx_model.specs.Steps.{LogAnswer, Done, Full, StoppedNow, StoppedBefore, Step, Calls, Replies, Acts, Coordinates, Delivers, Stops, Restarts, appended, block_at, delivered, ended_at, freed, got_by, restarted}
@@ -111,7 +111,7 @@ deed_delivered t w c d (m ∷ ms) = e_cons (Got c d m) refl (deed_got t w c d m)
 deed_act : (h : Half) → Each is_deed (act_entries h)
 deed_act h =
     of_whole_act deeds h (deed_entry (ByAct (is_some h.seen.decided)) refl) (λ e. e_one (Asked e Promote) refl) (λ e. e_one (Asked e AskSingle) refl) (e_one Sealed refl)
-    (e_one (Sent Begin Up BeginCommit) refl)
+    (λ m c. e_one (Sent Begin Up m) refl)
 
 deed_called : (t : ℕ) (w : World) (c : Call) (a : Answer) → Each is_deed (facts_if (has_facts a) (facts_at t w c a))
 deed_called t w c a = of_called deeds t w c a (deed_entry (ByCall c) refl) (λ d n m. e_one (Cut d n m) refl) (λ r. e_one (RecoveredEntry r) refl)
@@ -160,7 +160,7 @@ of_promote p q h e false k = e_cons (PromoteReply e false) k (of_deeds p q (of_v
 of_owner : (p : Entry → Bool) → ((x : Entry) → is_deed x ≡ true → p x ≡ true) → (h : Half) (e : EnlNo) (x : Outcome) (n : Option Note) → p (OwnerAnswered e x) ≡ true → p (Requested e (request_of x)) ≡ true
     → Each p (owner_entries h e x n)
 of_owner p q h e x (Some Single) k r = e_cons (Requested e (request_of x)) r (of_deeds p q (up_deed h.seen Begin (request_message x)))
-of_owner p q h e x _ k r = e_cons (OwnerAnswered e x) k (of_deeds p q (deeds.decides h x))
+of_owner p q h e x _ k r = e_cons (OwnerAnswered e x) k (of_deeds p q (e_if h.seen.promoted (up_deed h.seen (Enl e) (one_message x)) (deeds.decides h x)))
 
 of_reply_block : (p : Entry → Bool) → ((x : Entry) → is_deed x ≡ true → p x ≡ true) → (h : Half) (e : EnlNo) (r : Reply) → OfReply p e r → Each p (reply_entries h e r)
 unfolding reply_entries

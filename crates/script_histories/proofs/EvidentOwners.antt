@@ -4,7 +4,7 @@ use Rattle.std.specs.Prelude.{not, if◌then◌else◌, filter}
 use Rattle.std.proofs.lemmas.Bool.{or_left, eqb-true, false_from_ne_true}
 use Rattle.dtx_values.specs.declared.entry.Ask.TheVariants.{Prepare}
 use Rattle.dtx_values.specs.declared.entry.Entry.{Entry}
-use Rattle.dtx_values.specs.declared.entry.Entry.TheVariants.{Got, OwnerAnswered, Asked}
+use Rattle.dtx_values.specs.declared.entry.Entry.TheVariants.{Got, Asked}
 use Rattle.dtx_values.specs.declared.message.Conn.TheVariants.{Enl}
 use Rattle.dtx_values.specs.declared.message.Dir.TheVariants.{Down}
 use Rattle.dtx_values.specs.declared.message.Message.TheVariants.{EnlistPrepare}
@@ -14,36 +14,29 @@ use Rattle.dtx_values.specs.Class.{is_volatile}
 use Rattle.dtx_values.specs.declared.message.Message.{Message}
 use Rattle.dtx_values.specs.Lines.{has_line}
 use Rattle.dtx_model.specs.Words.{has, each}
-use Rattle.dtx_model.specs.Entries.{is_promoted, is_any_hand, is_decision, is_hand, is_commit, is_asked, is_good_vote, is_vote}
+use Rattle.dtx_model.specs.Entries.{is_promoted, is_commit_got, is_decision, is_commit, is_two_phase_got, is_asked, is_good_vote, is_vote}
 use Rattle.dtx_model.specs.Outcome.{by_log, by_owner, by_seal, enlisted, evidence, ready, voters}
 use Rattle.dtx_model.proofs.Bools.{or_right, or_case, and_right, and_left, not_both}
-use Rattle.history_table.proofs.Table.{message_row, rule, ends_with, is_prepare_got, ask_row, stands_volatile}
-use Rattle.history_table.proofs.Keeping.{Keeps, before, earlier}
+use Rattle.history_table.proofs.Table.{message_row, rule, ends_with, is_prepare_got, ask_row, stands_volatile, volatiles_well}
+use Rattle.history_table.proofs.Keeping.{Keeps, earlier}
 use Rattle.history_table.proofs.Messages.{PREPARE}
 use Rattle.history_table.proofs.Sendings.{promoted_if_commit, by_got}
-use Rattle.history_table.proofs.Tests.{second_of_three, first_of_three}
+use Rattle.history_table.proofs.Tests.{first_of_three}
 use Rattle.history_table.proofs.Scans.{has_more}
-use Rattle.history_table.proofs.EntryTests.{is_answer, is_volatile_of, all_complete}
-use Rattle.history_table.proofs.Handed.{hand_any}
+use Rattle.history_table.proofs.Lists.{each_filter}
+use Rattle.history_table.proofs.EntryTests.{is_volatile_of, all_complete}
+use Rattle.history_table.proofs.Recording.{two_phase_commit}
+pub use Rattle.history_table.proofs.LetDecide.{handed_if_answered}
 use Rattle.history_table.proofs.Evident.{volatile_more, local_voters, good_voted}
 
 -- It was promoted where an enlistment got PREPARE.
 prepare_of : (e : EnlNo) (m : Message) (h : List Entry) → Keeps h → PREPARE m ≡ true → has_line (Enl e) Down m ≡ true → message_row h (Enl e) m ≡ true → has is_promoted h ≡ true
-prepare_of e EnlistPrepare h k t l r = promoted_if_commit h k r
+prepare_of e EnlistPrepare h k t l r = promoted_if_commit h k (has_more is_two_phase_got is_commit_got two_phase_commit h r)
 prepare_of e _ h k t l r = absurd cc
 
 pub promoted_by_prepare : (e : EnlNo) (h : List Entry) → Keeps (Got (Enl e) Down EnlistPrepare ∷ h) → has is_promoted h ≡ true
 promoted_by_prepare e h k =
     by_got (Enl e) Down PREPARE (λ g. has is_promoted g) (λ x g t. or_right (is_promoted x) (has is_promoted g) t) (prepare_of e) EnlistPrepare h k refl
-
--- no owner answers before the commit is handed over
-answer_handed : (x : Entry) (h : List Entry) → Keeps h → rule h x ≡ true → is_answer x ≡ true → has is_any_hand h ≡ true
-answer_handed (OwnerAnswered e o) h k r t =
-    has_more (is_hand e.value) is_any_hand (hand_any e.value) h (second_of_three (not (has is_decision h)) (has (is_hand e.value) h) (not (has is_answer h)) r)
-answer_handed _ h k r t = absurd cc
-
-pub handed_if_answered : (h : List Entry) → Keeps h → has is_answer h ≡ true → has is_any_hand h ≡ true
-handed_if_answered h k s = before is_answer is_any_hand answer_handed h k s
 
 -- Who is asked is volatile, or it is promoted.
 prepare_promoted : (n : ℕ) (h : List Entry) → Keeps h → ends_with (is_prepare_got n) h ≡ true → has is_promoted h ≡ true
@@ -89,3 +82,7 @@ unvoted_open e h s v p =
     let all = and_right (has is_commit h && all_complete h) (each (λ x. has (is_good_vote x.0.value) h) (voters h)) (and_left (ready h) (by_seal h || by_owner h || by_log h) t) in
     let good = volatile_passes e (λ n. has (is_good_vote n) h) (enlisted h) s (subst (λ xs. each (λ x. has (is_good_vote x.0.value) h) xs ≡ true) (local_voters h p) all) in
     not_both (has (is_vote e) h) (has_more (is_good_vote e) (is_vote e) (good_voted e) h good) v)
+
+-- a volatile that stands voted well where each volatile did
+pub volatile_good : (e : ℕ) (h : List Entry) → stands_volatile e h ≡ true → volatiles_well h ≡ true → has (is_good_vote e) h ≡ true
+volatile_good e h s w = volatile_passes e (λ n. has (is_good_vote n) h) (enlisted h) s (each_filter (λ x. is_volatile x.1) (λ x. has (is_good_vote x.0.value) h) (enlisted h) w)

@@ -14,7 +14,7 @@ use Rattle.dtx_values.specs.declared.words.Outcome.TheVariants.{Committed, Abort
 use Rattle.dtx_values.specs.declared.words.Vote.TheVariants.{Yes, No, Done}
 use Rattle.dtx_model.specs.Words.{always, past_of}
 use Rattle.dtx_model.specs.Seen.{is_timely}
-use Rattle.dtx_model.specs.Outcome.{ready, by_seal, by_owner, by_log, evidence, vetoed, owner_doubt, coordinator_doubt, doubt, may_tell, justified, agree}
+use Rattle.dtx_model.specs.Outcome.{ready, by_seal, by_owner, by_log, evidence, vetoed, owner_doubt, coordinator_doubt, single_doubt, doubt, may_tell, justified, agree}
 use Rattle.dtx_model.proofs.Cast.{a1, e1, e2}
 
 abbrev pub c1 : CloneNo
@@ -142,17 +142,17 @@ timeout_behind_handing = refl
 
 -- an owner that is lost after the handing leaves doubt
 pub lost_owner_is_doubt : just_in (handed_e2 ++ Lost e2 ∷ Decided InDoubt ∷ Told Client InDoubt ∷ []) ≡ true
-unfolding justified may_tell evidence ready by_seal by_owner by_log vetoed doubt owner_doubt coordinator_doubt
+unfolding justified may_tell evidence ready by_seal by_owner by_log vetoed doubt owner_doubt coordinator_doubt single_doubt
 lost_owner_is_doubt = refl
 
 -- that loss doesn't justify an abort
 pub lost_owner_is_no_abort : just_in (handed_e2 ++ Lost e2 ∷ Decided Aborted ∷ []) ≡ false
-unfolding justified may_tell evidence ready by_seal by_owner by_log vetoed doubt owner_doubt coordinator_doubt
+unfolding justified may_tell evidence ready by_seal by_owner by_log vetoed doubt owner_doubt coordinator_doubt single_doubt
 lost_owner_is_no_abort = refl
 
 -- an owner that is only silent leaves no doubt
 pub silent_owner_is_no_doubt : just_in (handed_e2 ++ Told Client InDoubt ∷ []) ≡ false
-unfolding justified may_tell evidence ready by_seal by_owner by_log vetoed doubt owner_doubt coordinator_doubt
+unfolding justified may_tell evidence ready by_seal by_owner by_log vetoed doubt owner_doubt coordinator_doubt single_doubt
 silent_owner_is_no_doubt = refl
 
 -- after a promotion the durables vote too, and the record is the evidence

@@ -14,9 +14,9 @@ use Rattle.dtx_values.specs.declared.words.Outcome.TheVariants.{Aborted, InDoubt
 use Rattle.dtx_values.specs.declared.words.Vote.TheVariants.{Yes, Done, No}
 use Rattle.dtx_values.specs.Clones.{blocks}
 use Rattle.dtx_values.specs.Class.{is_volatile}
-use Rattle.dtx_model.specs.Words.{has, each, all_of, put}
+use Rattle.dtx_model.specs.Words.{ever, has, each, all_of, put}
 use Rattle.dtx_model.specs.Entries.{is_commit, is_decision, is_vote, is_sealed, clone_of, is_yes, is_any_hand, is_good_vote, is_hand, is_lost, is_any_owner, is_owner, handed_of}
-use Rattle.dtx_model.specs.Outcome.{can_own, durables, is_empty, is_complete, may_tell, evidence, vetoed, is_veto, ready, by_seal, by_owner, by_log, is_rollback, enlisted, is_lost_owner, owner_doubt, doubt}
+use Rattle.dtx_model.specs.Outcome.{can_own, durables, is_empty, is_complete, may_tell, evidence, vetoed, is_veto, ready, by_seal, by_owner, by_log, is_rollback, enlisted, is_lost_owner, owner_doubt}
 use Rattle.dtx_model.proofs.Bools.{or_right, and_both, not_false, not_both, three_hold, and_right, and_never, or_false, not_true, and_left}
 use Rattle.history_table.proofs.EntryTests.{is_answer, all_closed, is_no_vote, is_enlisted, is_cloned, enlisted_passes}
 use Rattle.history_table.proofs.Scans.{each_more, has_less, has_more}
@@ -25,6 +25,7 @@ use Rattle.history_table.proofs.Lists.{none_each}
 use Rattle.history_table.proofs.TableRows.{unvoted_unwell}
 use Rattle.history_table.proofs.Handed.{any_answer, answered_any, is_answered, hand_any, hand_listed}
 use Rattle.script_histories.proofs.Rule.{ruled, rule}
+use Rattle.history_table.proofs.Doubting.{owner_doubts}
 use Rattle.script_histories.proofs.Evidence.{none_yes, unsealed_unhanded, unsealed_open, sealed_closed, all_well, evidence-sealed, evidence-handed}
 use Rattle.script_histories.proofs.RuledRows.{voted_enlisted, voted_once}
 use Rattle.script_histories.proofs.Rules.{open_rule}
@@ -250,20 +251,16 @@ lost_aborts h e k d q v u =
 
 -- the one that was handed the commit is lost before its answer: that leaves it in doubt
 pub lost_doubts : (h : List Entry) (e : EnlNo) → IsKept h → has is_decision h ≡ false → rule h (Lost e) ≡ true → has (is_hand e.value) h ≡ true → IsKept (Decided InDoubt ∷ Lost e ∷ h)
-unfolding may_tell doubt owner_doubt
+unfolding may_tell owner_doubt
 lost_doubts h e k d q u =
     let silent = has_less (is_any_owner e.value) is_answer (any_answer e.value) h (going_unanswered h d k.going) in
     let lost : is_lost_owner h (Lost e) ≡ true = and_both (has (is_hand e.value) h) (not (has (is_any_owner e.value) h)) u (not_false (has (is_any_owner e.value) h) silent) in
-    decided_keeps (Lost e ∷ h) InDoubt (and_both (rule h (Lost e)) (ruled h) q k.rules) d (lost_step _ (is_lost_owner h (Lost e)) _ _ lost)
-  where
-    lost_step : (w q l c : Bool) → q ≡ true → ((w || (q || l)) || c) ≡ true
-    lost_step true q l c k = refl
-    lost_step false true l c k = refl
-    lost_step false false l c k = absurd cc
+    decided_keeps (Lost e ∷ h) InDoubt (and_both (rule h (Lost e)) (ruled h) q k.rules) d
+    (owner_doubts (Lost e ∷ h) (or_right _ (ever is_lost_owner (Lost e ∷ h)) (or_left (is_lost_owner h (Lost e)) (ever is_lost_owner h) lost)))
 
 -- the owner's answer decides
 pub answer_keeps : (h : List Entry) (e : EnlNo) (x : Outcome) → IsKept h → rule h (OwnerAnswered e x) ≡ true → IsKept (Decided x ∷ OwnerAnswered e x ∷ h)
-unfolding may_tell doubt owner_doubt
+unfolding may_tell owner_doubt
 answer_keeps h e x k q =
     let d = not_true (has is_decision h) (open_rule h (OwnerAnswered e x) refl q) in
     let rules : ruled (OwnerAnswered e x ∷ h) ≡ true = and_both (rule h (OwnerAnswered e x)) (ruled h) q k.rules in
@@ -281,4 +278,4 @@ answer_keeps h e x k q =
         let heard : has (λ f. has (is_owner f.value InDoubt) (OwnerAnswered e InDoubt ∷ h)) (all_of handed_of h) ≡ true =
         has_more (λ f. f.value == e.value) (λ f. has (is_owner f.value InDoubt) (OwnerAnswered e InDoubt ∷ h))
         (λ f g. or_left ((f.value == e.value) && true) (has (is_owner f.value InDoubt) h) (and_both (f.value == e.value) true g refl)) (all_of handed_of h) (hand_listed e.value h s) in
-        decided_keeps (OwnerAnswered e InDoubt ∷ h) InDoubt r d (or_left _ _ (or_left _ _ heard))
+        decided_keeps (OwnerAnswered e InDoubt ∷ h) InDoubt r d (owner_doubts (OwnerAnswered e InDoubt ∷ h) (or_left (has (λ f. has (is_owner f.value InDoubt) (OwnerAnswered e InDoubt ∷ h)) (all_of handed_of h)) _ heard))

@@ -23,7 +23,7 @@ use Rattle.dtx_model.specs.Caused.{Caused}
 use Rattle.dtx_model.specs.Seen.{is_away}
 use Rattle.dtx_model.specs.Replay.{HasDoneAt, HasSettled, IsReplayed, LinesRan}
 use Rattle.dtx_values.specs.Owners.{may_own, owner_of}
-use Rattle.dtx_model.specs.Outcome.{ready, by_seal, by_owner, by_log, evidence, vetoed, owner_doubt, coordinator_doubt, doubt, may_tell, justified}
+use Rattle.dtx_model.specs.Outcome.{ready, by_seal, by_owner, by_log, evidence, vetoed, owner_doubt, coordinator_doubt, single_doubt, doubt, may_tell, justified}
 use Rattle.script_histories.proofs.Examples.{just_in, handed_e2}
 use Rattle.script_histories.proofs.ReplayExample.{at_t1, planned_at_t1}
 use Rattle.script_histories.proofs.OwnerExample.{begin_line, promotable_line, commit_line, await_line, owner_joined}
@@ -100,7 +100,7 @@ losing_caused = replayed_caused losing (at_t1 losing_whole) losing_replayed 0 (�
 
 -- it is just
 pub losing_is_just : just_in losing_whole ≡ true
-unfolding justified may_tell doubt owner_doubt coordinator_doubt
+unfolding justified may_tell doubt owner_doubt coordinator_doubt single_doubt
 losing_is_just = refl
 
 -- a volatile that voted beside an owner, which is lost after the handing
@@ -109,7 +109,7 @@ lost_beside_e1 = Began 600000 ∷ Enlisted e1 One ∷ Enlisted e2 DurableSingle 
 
 -- the volatile may hear that it is in doubt too
 pub volatile_hears_doubt : just_in (lost_beside_e1 ++ Decided InDoubt ∷ Told (Enl e1) InDoubt ∷ []) ≡ true
-unfolding justified may_tell doubt owner_doubt coordinator_doubt
+unfolding justified may_tell doubt owner_doubt coordinator_doubt single_doubt
 volatile_hears_doubt = refl
 
 -- a loss after the handing is no veto
@@ -129,12 +129,12 @@ lost_unhanded = refl
 
 -- and leaves no doubt
 pub lost_unhanded_is_no_doubt : just_in (Began 600000 ∷ Enlisted e2 DurableSingle ∷ CommitAsked ∷ Sealed ∷ Lost e2 ∷ Told Client InDoubt ∷ []) ≡ false
-unfolding justified may_tell doubt owner_doubt coordinator_doubt
+unfolding justified may_tell doubt owner_doubt coordinator_doubt single_doubt
 lost_unhanded_is_no_doubt = refl
 
 -- an owner that answered before it was lost leaves none
 pub lost_behind_answer : just_in (handed_e2 ++ OwnerAnswered e2 Committed ∷ Decided Committed ∷ Lost e2 ∷ Told Client InDoubt ∷ []) ≡ false
-unfolding justified may_tell evidence ready by_seal by_owner by_log doubt owner_doubt coordinator_doubt
+unfolding justified may_tell evidence ready by_seal by_owner by_log doubt owner_doubt coordinator_doubt single_doubt
 lost_behind_answer = refl
 
 -- who comes back is lost no longer, and who is lost after that is lost

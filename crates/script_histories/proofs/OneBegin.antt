@@ -14,7 +14,7 @@ use Rattle.dtx_values.specs.declared.message.Conn.TheVariants.{Begin, Voter}
 use Rattle.dtx_values.specs.declared.message.Dir.{Dir}
 use Rattle.dtx_values.specs.declared.message.Dir.TheVariants.{Up, Down}
 use Rattle.dtx_values.specs.declared.message.Message.{Message}
-use Rattle.dtx_values.specs.declared.message.Message.TheVariants.{BeginBegin, BeginAbort, VoterNo, BeginCommit}
+use Rattle.dtx_values.specs.declared.message.Message.TheVariants.{BeginBegin, BeginAbort, VoterNo, BeginCommit, BeginCommitOne}
 use Rattle.dtx_values.specs.declared.note.Note.{Note}
 use Rattle.dtx_values.specs.declared.note.Reply.{Reply}
 use Rattle.dtx_values.specs.declared.note.Reply.TheVariants.{Promote as Promotes, Vote as VoteReply, Owner as OwnerReply, Ack}
@@ -30,7 +30,7 @@ use Rattle.dtx_values.specs.declared.script.Support.TheVariants.{SinglePhase, Tw
 use Rattle.dtx_values.specs.Class.{is_promotable}
 use Rattle.dtx_values.specs.Ends.{knows}
 use Rattle.dtx_values.specs.Lines.{has_line}
-use Rattle.dtx_values.specs.Owners.{cause_of, may_own}
+use Rattle.dtx_values.specs.Owners.{commits_alone, cause_of, may_own}
 use Rattle.dtx_values.specs.Support.{is_single}
 use Rattle.dtx_model.specs.declared.waiting.EnteredCall.{EnteredCall}
 use Rattle.dtx_model.specs.Words.{each, has, or_else, latest, onto}
@@ -308,13 +308,14 @@ calm_act h =
       rest = λ es r. r;
       promote = λ e d p o. calm_one (Asked e Promote) (and_left (is_some h.seen.cause) (not h.seen.promoted) (and_left (is_some h.seen.cause && not h.seen.promoted) (not h.seen.failed) p)) refl;
       single = λ e d s p o. calm_one (Asked e AskSingle) refl refl;
-      seal = λ d s u. calm_join (Sealed ∷ []) (commit_sent h.seen) (calm_one Sealed refl refl) (sent (h.seen.promoted && not (is_some (promotable_in h.seen.table))) (knows Begin h.seen.ends));
+      seal = λ d s u. calm_join (Sealed ∷ []) (commit_sent h.seen) (calm_one Sealed refl refl) (sent (h.seen.promoted && not (is_some (promotable_in h.seen.table))) (knows Begin h.seen.ends) (commits_alone h.seen.table));
     })
   where
-    sent : (a k : Bool) → Calm (is_some h.seen.cause) (if a then (if k then Sent Begin Up BeginCommit ∷ [] else []) else [])
-    sent true true = calm_one (Sent Begin Up BeginCommit) refl refl
-    sent true false = calm_none
-    sent false k = calm_none
+    sent : (a k l : Bool) → Calm (is_some h.seen.cause) (if a then (if k then Sent Begin Up (if l then BeginCommitOne else BeginCommit) ∷ [] else []) else [])
+    sent true true true = calm_one (Sent Begin Up BeginCommitOne) refl refl
+    sent true true false = calm_one (Sent Begin Up BeginCommit) refl refl
+    sent true false l = calm_none
+    sent false k l = calm_none
 
 -- A durable call: its ENLIST is sent, a promotion begins, or its enlistment is made.
 adds_durable : (t : ℕ) (h : List Entry) (v : Half) (e : EnlNo) (r : RmNo) (single : Bool) (x : Answer) → v.seen ≡ observe h → (has_facts x ≡ true → latest decision_of h ≡ None) → Once h

@@ -1,6 +1,6 @@
 -- The law of one outcome over lists: where each entry keeps its rule, each restart finds what may be found, and what is got was sent, what is told is just, no two are told
 -- opposite outcomes, and who came back learns the logged outcome, or abort.
-use Rattle.std.proofs.Common.{◌≡◌, ℕ, true, List, ◌∷◌, refl, [], ◌||◌, Some, ◌&&◌, Bool, sym, subst, false, ◌∙◌, ◌==◌}
+use Rattle.std.proofs.Common.{◌≡◌, ℕ, true, List, ◌∷◌, refl, [], ◌||◌, Some, ◌&&◌, Bool, sym, subst, false, ◌∙◌, ◌==◌, ◌⊎◌, inl, inr}
 use Rattle.std.specs.Prelude.{not}
 use Rattle.std.proofs.lemmas.Bool.{or_left}
 use Rattle.dtx_values.specs.declared.entry.Entry.{Entry}
@@ -14,26 +14,28 @@ use Rattle.dtx_values.specs.declared.number.EnlNo.{EnlNo}
 use Rattle.dtx_values.specs.declared.words.Outcome.{Outcome}
 use Rattle.dtx_values.specs.declared.words.Outcome.TheVariants.{Committed, Aborted, InDoubt}
 use Rattle.dtx_model.specs.Words.{has, latest, always, ever}
-use Rattle.dtx_model.specs.Entries.{is_record, decision_of, is_decision, same_outcome, is_final, is_any_hand, is_hand, is_promoted}
+use Rattle.dtx_model.specs.Entries.{is_record, decision_of, is_decision, same_outcome, is_final, is_promoted}
 use Rattle.dtx_model.specs.Outcome.{hears_doubt, evidence, vetoed, doubt, may_tell, is_just, justified, is_decided_again, agree, by_log}
 use Rattle.dtx_model.specs.Learned.{coordinator_aborted, may_learn, is_learned, Learned}
+use Rattle.dtx_model.specs.Promotes.{is_promoting}
 use Rattle.dtx_model.specs.Tied.{tied}
 use Rattle.dtx_model.specs.Wires.{WireRun}
 use Rattle.dtx_model.proofs.Bools.{and_both, not_false, or_case, and_right, or_right, not_true, not_both, and_left, or_false}
 use Rattle.history_table.proofs.Table.{brings_commit, ends_with, brings_abort, brings, hears_here, ends_again, hears_decision, decision_row, rule, ruled}
 use Rattle.history_table.proofs.Keeping.{Keeps, keeps_before, newest, third_of_three}
-use Rattle.history_table.proofs.Sendings.{record_by_got, aborted_by_got, aborted_more}
+use Rattle.history_table.proofs.Sendings.{record_by_got, aborted_by_got, aborted_more, for_good_by_got, for_good_more, got_promoting}
+use Rattle.history_table.proofs.CameBack.{alone_by_got, alone_more}
 use Rattle.history_table.proofs.Tests.{first_of_three, second_of_three}
-use Rattle.history_table.proofs.EntryTests.{is_certain, is_decided, is_answer}
-use Rattle.history_table.proofs.Aborting.{IsOff, off_open, aborted_off, decided_off, decided_evident, row_off, commit_evident, decision_stands}
+use Rattle.history_table.proofs.EntryTests.{is_certain, is_decided}
+use Rattle.history_table.proofs.Aborting.{IsCalledOff, IsOff, called_off, called_off_more, off_open, decided_off, decided_evident, row_off, commit_evident, decision_stands}
 use Rattle.history_table.proofs.Recording.{evidence_if_record, promoted_if_yes, yes_if_record}
 use Rattle.history_table.proofs.Doubting.{decided_doubt}
 use Rattle.history_table.proofs.Handed.{is_answered}
+pub use Rattle.history_table.proofs.LetDecide.{answered_handed}
+use Rattle.history_table.proofs.LetDecide.{answered_once}
 use Rattle.history_table.proofs.Evident.{not_after, evidence-handed}
-use Rattle.history_table.proofs.Scans.{has_more, has_less}
 use Rattle.script_histories.proofs.Rules.{decided_same, not_opposite}
-use Rattle.script_histories.proofs.Vetoing.{vetoes}
-use Rattle.script_histories.proofs.EvidentOwners.{handed_if_answered}
+use Rattle.script_histories.proofs.Vetoing.{called_off_vetoed, vetoes}
 
 -- What a durable or promotable hears over a connection: a commit where there is a record, an abort where the coordinator aborted.
 brought_record : (e : ℕ) (h : List Entry) → Keeps h → ends_with (brings_commit e) h ≡ true → has is_record h ≡ true
@@ -46,6 +48,23 @@ brought_aborted e (Got (OnEnl f) Down EnlistAbort ∷ h) k t = aborted_more (Got
 brought_aborted e (Got (Again f) Down ReenlistAborted ∷ h) k t = aborted_more (Got (Again f) Down ReenlistAborted) h (aborted_by_got (Again f) ReenlistAborted h k refl)
 brought_aborted e _ k t = absurd cc
 
+-- and its abort stands
+abbrev HeardOff : List Entry → Type 0
+HeardOff h = IsCalledOff h × (has is_promoting h ≡ true)
+
+brought_off : (e : ℕ) (h : List Entry) → Keeps h → ends_with (brings_abort e) h ≡ true → HeardOff h
+brought_off e (Got (OnEnl f) Down EnlistAbort ∷ h) k t =
+    (inl (for_good_more (Got (OnEnl f) Down EnlistAbort) h (newest (Got (OnEnl f) Down EnlistAbort) h k) (for_good_by_got (OnEnl f) EnlistAbort h k refl)), got_promoting (OnEnl f) Down EnlistAbort h k)
+brought_off e (Got (Again f) Down ReenlistAborted ∷ h) k t = (
+  inr (inr (record {
+    name = f;
+    alone = alone_more f (Got (Again f) Down ReenlistAborted) h k (alone_by_got f ReenlistAborted h k);
+    aborted = aborted_more (Got (Again f) Down ReenlistAborted) h (aborted_by_got (Again f) ReenlistAborted h k refl);
+  })),
+  got_promoting (Again f) Down ReenlistAborted h k,
+)
+brought_off e _ k t = absurd cc
+
 pub heard_record : (p : Party) (h : List Entry) → Keeps h → hears_here h p Committed ≡ true → has is_record h ≡ true
 heard_record Client h k t = absurd cc
 heard_record (Enl e) h k t = brought_record e.value h k (brings_is h t)
@@ -57,6 +76,14 @@ heard_record (Enl e) h k t = brought_record e.value h k (brings_is h t)
 pub heard_aborted : (p : Party) (h : List Entry) → Keeps h → hears_here h p Aborted ≡ true → coordinator_aborted h ≡ true
 heard_aborted Client h k t = absurd cc
 heard_aborted (Enl e) h k t = brought_aborted e.value h k (brings_is h t)
+  where
+    brings_is : (h : List Entry) → ends_with (brings e.value Aborted) h ≡ true → ends_with (brings_abort e.value) h ≡ true
+    brings_is [] t = t
+    brings_is (x ∷ h) t = t
+
+heard_off : (p : Party) (h : List Entry) → Keeps h → hears_here h p Aborted ≡ true → HeardOff h
+heard_off Client h k t = absurd cc
+heard_off (Enl e) h k t = brought_off e.value h k (brings_is h t)
   where
     brings_is : (h : List Entry) → ends_with (brings e.value Aborted) h ≡ true → ends_with (brings_abort e.value) h ≡ true
     brings_is [] t = t
@@ -82,7 +109,7 @@ told_just p Committed h k r =
     or_case (hears_here h p Committed) (hears_decision h p Committed) (λ t. evidence_if_record h k (heard_record p h k t)) (λ t. decided_evident h k (heard_decided p Committed h t)) r
 told_just p Aborted h k r =
     or_case (hears_here h p Aborted) (hears_decision h p Aborted)
-    (λ t. let a = heard_aborted p h k t in aborted_just h k ((vetoes h k).aborted a) (aborted_off h k a))
+    (λ t. let w = heard_off p h k t in aborted_just h k (called_off_vetoed h k w.0) (called_off h k w.1 w.0))
     (λ t. let d = heard_decided p Aborted h t in aborted_just h k ((vetoes h k).decided d) (decided_off h k d)) r
 told_just p InDoubt h k r =
     or_case (hears_here h p InDoubt) (hears_decision h p InDoubt) (λ t. absurd (heard_doubt p h t))
@@ -109,17 +136,17 @@ all_just [] k = refl
 all_just (x ∷ h) k = and_both (is_just h x) (always is_just h) (just_now x h k) (all_just h (keeps_before x h k))
 
 -- No two are told opposite outcomes. What is final was decided, or an owner's answer, or shows at the coordinator.
+abbrev is_said : Outcome → List Entry → Bool
+is_said o h = is_decided o (latest decision_of h) || has (is_answered o) h
+
 abbrev pub has_cause : Outcome → (List Entry → Bool) → List Entry → Bool
 has_cause o q h = is_decided o (latest decision_of h) || has (is_answered o) h || q h
 
-cause_more : (o : Outcome) (q : List Entry → Bool) → ((x : Entry) (h : List Entry) → q h ≡ true → q (x ∷ h) ≡ true) → (x : Entry) (h : List Entry) → Keeps (x ∷ h) → has_cause o q h ≡ true
-    → has_cause o q (x ∷ h) ≡ true
-cause_more o q stays x h k t =
-    or_case (is_decided o (latest decision_of h) || has (is_answered o) h) (q h)
-    (λ a. or_left (is_decided o (latest decision_of (x ∷ h)) || has (is_answered o) (x ∷ h)) (q (x ∷ h))
-    (or_case (is_decided o (latest decision_of h)) (has (is_answered o) h) (λ d. or_left (is_decided o (latest decision_of (x ∷ h))) (has (is_answered o) (x ∷ h)) (decided_more o x h (newest x h k) d))
-    (λ b. or_right (is_decided o (latest decision_of (x ∷ h))) (has (is_answered o) (x ∷ h)) (or_right (is_answered o x) (has (is_answered o) h) b)) a))
-    (λ b. or_right (is_decided o (latest decision_of (x ∷ h)) || has (is_answered o) (x ∷ h)) (q (x ∷ h)) (stays x h b)) t
+said_more : (o : Outcome) (x : Entry) (h : List Entry) → Keeps (x ∷ h) → is_said o h ≡ true → is_said o (x ∷ h) ≡ true
+said_more o x h k t =
+    or_case (is_decided o (latest decision_of h)) (has (is_answered o) h)
+    (λ d. or_left (is_decided o (latest decision_of (x ∷ h))) (has (is_answered o) (x ∷ h)) (decided_more o x h (newest x h k) d))
+    (λ b. or_right (is_decided o (latest decision_of (x ∷ h))) (has (is_answered o) (x ∷ h)) (or_right (is_answered o x) (has (is_answered o) h) b)) t
   where
     decided_more : (o : Outcome) (x : Entry) (h : List Entry) → rule h x ≡ true → is_decided o (latest decision_of h) ≡ true → is_decided o (latest decision_of (x ∷ h)) ≡ true
     decided_more o (Decided y) h r d = not_after (Decided y) h refl r (decision_stands h o (decided_same o (latest decision_of h) d))
@@ -131,47 +158,38 @@ same_outcome_is Aborted Aborted t = refl
 same_outcome_is InDoubt InDoubt t = refl
 same_outcome_is _ _ t = absurd cc
 
-cause_now : (o : Outcome) (q : List Entry → Bool) → ((x : Entry) (h : List Entry) → q h ≡ true → q (x ∷ h) ≡ true)
-    → ((p : Party) (h : List Entry) → Keeps h → hears_here h p o ≡ true → q h ≡ true) → (x : Entry) (h : List Entry) → Keeps (x ∷ h) → is_final o x ≡ true → has_cause o q (x ∷ h) ≡ true
-cause_now o q stays heard (Told p y) h k t =
+said_now : (o : Outcome) (x : Entry) (h : List Entry) → Keeps (x ∷ h) → is_final o x ≡ true → (is_said o (x ∷ h) ≡ true) ⊎ ((p : Party) × (hears_here h p o ≡ true))
+said_now o (Told p y) h k t =
     let same : y ≡ o = sym (same_outcome_is o y t) in
     let P : Outcome → Type 0 = λ z. (hears_here h p z || hears_decision h p z) ≡ true in
-    or_case (hears_here h p o) (hears_decision h p o)
-    (λ b. or_right (is_decided o (latest decision_of h) || has (is_answered o) h) (q (Told p y ∷ h)) (stays (Told p y) h (heard p h (keeps_before (Told p y) h k) b)))
-    (λ d. or_left (is_decided o (latest decision_of h) || has (is_answered o) h) (q (Told p y ∷ h))
-    (or_left (is_decided o (latest decision_of h)) (has (is_answered o) h) (first_of_three (is_decided o (latest decision_of h)) (is_certain o || hears_doubt h p) (not (ends_again h p)) d)))
+    or_case (hears_here h p o) (hears_decision h p o) (λ b. inr (p, b))
+    (λ d. inl (or_left (is_decided o (latest decision_of h)) (has (is_answered o) h) (first_of_three (is_decided o (latest decision_of h)) (is_certain o || hears_doubt h p) (not (ends_again h p)) d)))
     (subst P same (newest (Told p y) h k))
-cause_now o q stays heard (Decided y) h k t =
-    or_left (same_outcome o y || has (is_answered o) h) (q (Decided y ∷ h)) (or_left (same_outcome o y) (has (is_answered o) h) t)
-cause_now o q stays heard (OwnerAnswered f y) h k t =
-    or_left (is_decided o (latest decision_of h) || (same_outcome o y || has (is_answered o) h)) (q (OwnerAnswered f y ∷ h))
-    (or_right (is_decided o (latest decision_of h)) (same_outcome o y || has (is_answered o) h) (or_left (same_outcome o y) (has (is_answered o) h) t))
-cause_now o q stays heard _ h k t = absurd cc
+said_now o (Decided y) h k t = inl (or_left (same_outcome o y) (has (is_answered o) h) t)
+said_now o (OwnerAnswered f y) h k t = inl (or_right (is_decided o (latest decision_of h)) (same_outcome o y || has (is_answered o) h) (or_left (same_outcome o y) (has (is_answered o) h) t))
+said_now o _ h k t = absurd cc
+
+-- what is final was said so, or was heard, of which Q goes on standing
+final_by : (o : Outcome) (Q : List Entry → Type 0) → ((x : Entry) (h : List Entry) → Keeps (x ∷ h) → Q h → Q (x ∷ h)) → ((p : Party) (h : List Entry) → Keeps h → hears_here h p o ≡ true → Q h)
+    → (h : List Entry) → Keeps h → has (is_final o) h ≡ true → (is_said o h ≡ true) ⊎ Q h
+final_by o Q stays heard [] k t = absurd cc
+final_by o Q stays heard (x ∷ h) k t =
+    or_case (is_final o x) (has (is_final o) h) (λ a. now (said_now o x h k a)) (λ b. later (final_by o Q stays heard h (keeps_before x h k) b)) t
+  where
+    now : (is_said o (x ∷ h) ≡ true) ⊎ ((p : Party) × (hears_here h p o ≡ true)) → (is_said o (x ∷ h) ≡ true) ⊎ Q (x ∷ h)
+    now (inl a) = inl a
+    now (inr b) = inr (stays x h k (heard b.0 h (keeps_before x h k) b.1))
+
+    later : (is_said o h ≡ true) ⊎ Q h → (is_said o (x ∷ h) ≡ true) ⊎ Q (x ∷ h)
+    later (inl a) = inl (said_more o x h k a)
+    later (inr b) = inr (stays x h k b)
 
 pub final_cause : (o : Outcome) (q : List Entry → Bool) → ((x : Entry) (h : List Entry) → q h ≡ true → q (x ∷ h) ≡ true)
     → ((p : Party) (h : List Entry) → Keeps h → hears_here h p o ≡ true → q h ≡ true) → (h : List Entry) → Keeps h → has (is_final o) h ≡ true → has_cause o q h ≡ true
-final_cause o q stays heard [] k t = absurd cc
-final_cause o q stays heard (x ∷ h) k t =
-    or_case (is_final o x) (has (is_final o) h) (λ a. cause_now o q stays heard x h k a) (λ b. cause_more o q stays x h k (final_cause o q stays heard h (keeps_before x h k) b)) t
-
--- an owner that answered was handed the commit, and answered once
-answered_any : (o : Outcome) (x : Entry) → is_answered o x ≡ true → is_answer x ≡ true
-answered_any o (OwnerAnswered e y) t = refl
-answered_any o _ t = absurd cc
-
-pub answered_handed : (o : Outcome) (h : List Entry) → Keeps h → has (is_answered o) h ≡ true → has is_any_hand h ≡ true
-answered_handed o h k t = handed_if_answered h k (has_more (is_answered o) is_answer (answered_any o) h t)
-
-unanswered : (o : Outcome) (e : EnlNo) (y : Outcome) (h : List Entry) → rule h (OwnerAnswered e y) ≡ true → has (is_answered o) h ≡ false
-unanswered o e y h r =
-    has_less (is_answered o) is_answer (answered_any o) h
-    (not_true (has is_answer h) (third_of_three (not (has is_decision h)) (has (is_hand e.value) h) (not (has is_answer h)) r))
-
-answered_once : (h : List Entry) → Keeps h → has (is_answered Aborted) h ≡ true → has (is_answered Committed) h ≡ false
-answered_once [] k t = refl
-answered_once (OwnerAnswered f Committed ∷ h) k t = absurd (not_both (has (is_answered Aborted) h) t (unanswered Aborted f Committed h (newest (OwnerAnswered f Committed) h k)))
-answered_once (OwnerAnswered f Aborted ∷ h) k t = unanswered Committed f Aborted h (newest (OwnerAnswered f Aborted) h k)
-answered_once (x ∷ h) k t = answered_once h (keeps_before x h k) t
+final_cause o q stays heard h k t = elim (final_by o (λ g. q g ≡ true) (λ x g j w. stays x g w) heard h k t) [
+  | inl a ↦ or_left (is_said o h) (q h) a
+  | inr b ↦ or_right (is_said o h) (q h) b
+]
 
 pub final_evident : (h : List Entry) → Keeps h → has (is_final Committed) h ≡ true → evidence h ≡ true
 final_evident h k t =
@@ -180,13 +198,17 @@ final_evident h k t =
     (λ b. evidence-handed h k (answered_handed Committed h k b) ∙ b) a)
     (λ r. evidence_if_record h k r) (final_cause Committed (λ g. has is_record g) (λ x g s. or_right (is_record x) (has is_record g) s) heard_record h k t)
 
+-- where abort is final, the coordinator's abort stands, or the local side decided it
+off_more : (x : Entry) (h : List Entry) → Keeps (x ∷ h) → HeardOff h → HeardOff (x ∷ h)
+off_more x h k w = (called_off_more x h k w.0, or_right (is_promoting x) (has is_promoting h) w.1)
+
 final_open : (h : List Entry) → Keeps h → has (is_final Aborted) h ≡ true → evidence h ≡ false
-final_open h k t =
-    or_case (is_decided Aborted (latest decision_of h) || has (is_answered Aborted) h) (coordinator_aborted h)
-    (λ a. or_case (is_decided Aborted (latest decision_of h)) (has (is_answered Aborted) h)
-    (λ d. off_open h k (decided_off h k (decided_same Aborted (latest decision_of h) d)))
-    (λ b. evidence-handed h k (answered_handed Aborted h k b) ∙ answered_once h k b) a)
-    (λ c. off_open h k (aborted_off h k c)) (final_cause Aborted coordinator_aborted aborted_more heard_aborted h k t)
+final_open h k t = elim (final_by Aborted HeardOff off_more heard_off h k t) [
+  | inl a ↦ or_case (is_decided Aborted (latest decision_of h)) (has (is_answered Aborted) h)
+      (λ d. off_open h k (decided_off h k (decided_same Aborted (latest decision_of h) d)))
+      (λ b. evidence-handed h k (answered_handed Aborted h k b) ∙ answered_once h k b) a
+  | inr w ↦ off_open h k (called_off h k w.1 w.0)
+]
 
 -- it is decided once
 one_decision : (x : Entry) (h : List Entry) → Keeps (x ∷ h) → is_decided_again h x ≡ false

@@ -28,7 +28,7 @@ use Rattle.dtx_model.specs.Steps.{Replies, ReplyOf, block_at, local_pending, pen
 use Rattle.dtx_model.specs.Caused.{Caused, IsNamed}
 use Rattle.dtx_model.specs.Replay.{HasSettled, IsReplayed, LinesRan, StepsRan, world_at}
 use Rattle.dtx_values.specs.Owners.{may_own, owner_of}
-use Rattle.dtx_model.specs.Outcome.{ready, by_seal, by_owner, by_log, evidence, vetoed, owner_doubt, coordinator_doubt, doubt, may_tell, justified, agree}
+use Rattle.dtx_model.specs.Outcome.{ready, by_seal, by_owner, by_log, evidence, vetoed, owner_doubt, coordinator_doubt, single_doubt, doubt, may_tell, justified, agree}
 use Rattle.script_histories.proofs.Examples.{just_in, agree_in, handed_e2}
 use Rattle.script_histories.proofs.ReplayExample.{at_t1, planned_at_t1, acted}
 use Rattle.script_histories.proofs.Replays.{replayed_caused}
@@ -163,12 +163,12 @@ doubted_e2 = handed_e2 ++ OwnerAnswered e2 InDoubt ∷ Decided InDoubt ∷ []
 
 -- the client may be told that it is in doubt
 pub client_hears_doubt : just_in (doubted_e2 ++ Told Client InDoubt ∷ []) ≡ true
-unfolding justified may_tell doubt owner_doubt coordinator_doubt
+unfolding justified may_tell doubt owner_doubt coordinator_doubt single_doubt
 client_hears_doubt = refl
 
 -- a durable may not
 pub durable_hears_none : just_in (doubted_e2 ++ Told (Enl e2) InDoubt ∷ []) ≡ false
-unfolding justified may_tell doubt owner_doubt coordinator_doubt
+unfolding justified may_tell doubt owner_doubt coordinator_doubt single_doubt
 durable_hears_none = refl
 
 -- one owner, which answered aborted

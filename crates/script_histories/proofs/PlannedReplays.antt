@@ -27,9 +27,9 @@ use Rattle.dtx_values.specs.declared.words.Vote.TheVariants.{Yes, No, Done as Do
 use Rattle.dtx_model.specs.Words.{always, onto, past_of}
 use Rattle.dtx_model.specs.Entries.{same_outcome}
 use Rattle.dtx_model.specs.Coordinated.{Coordinated, abort_sends, follow, may_free, may_log}
-use Rattle.dtx_model.specs.Half.{Half, decide, sees, to_up, veto}
+use Rattle.dtx_model.specs.Half.{Half, sees, to_up, veto}
 use Rattle.dtx_model.specs.Plans.{manager_of}
-use Rattle.dtx_model.specs.Replies.{due_of, fits, owner_entries, reply_entries, request_message, voted_by}
+use Rattle.dtx_model.specs.Replies.{answered_by, due_of, fits, owner_entries, reply_entries, request_message, voted_by}
 use Rattle.dtx_model.specs.Traces.{Placed, history, noted}
 use Rattle.dtx_model.specs.World.{core, half}
 use Rattle.dtx_model.specs.Steps.{LogAnswer, Done, Full, StoppedNow, StoppedBefore, Step, Calls, Coordinates, StepName, ReplyOf, LocalAct, CoordinatorAct, Delivery, appended, block_at, freed}
@@ -198,14 +198,14 @@ requests_same s h o e InDoubt Aborted k j = absurd (apart_requests s h o e j k)
 requests_same s h o e _ _ k j = refl
 
 -- an owner's answers,
-answers_same : (s : List Line) (h : List Entry) (o : Half) (e : EnlNo) (x y : Outcome) → IsPlanned s (onto h (OwnerAnswered e x ∷ decide o x)) → IsPlanned s (onto h (OwnerAnswered e y ∷ decide o y))
+answers_same : (s : List Line) (h : List Entry) (o : Half) (e : EnlNo) (x y : Outcome) → IsPlanned s (onto h (OwnerAnswered e x ∷ answered_by o e x)) → IsPlanned s (onto h (OwnerAnswered e y ∷ answered_by o e y))
     → x ≡ y
-answers_same s h o e x y k j = one_outcome (plans_of s e.value).owner x y (outcome_planned s h e x (decide o x) k) (outcome_planned s h e y (decide o y) j)
+answers_same s h o e x y k j = one_outcome (plans_of s e.value).owner x y (outcome_planned s h e x (answered_by o e x) k) (outcome_planned s h e y (answered_by o e y) j)
 
 owners_same : (s : List Line) (h : List Entry) (o : Half) (e : EnlNo) (n : Option Note) (x y : Outcome) → IsPlanned s (onto h (owner_entries o e x n)) → IsPlanned s (onto h (owner_entries o e y n))
     → owner_entries o e x n ≡ owner_entries o e y n
 owners_same s h o e (Some Single) x y k j = requests_same s h o e x y k j
-owners_same s h o e n x y k j = ap (λ z. OwnerAnswered e z ∷ decide o z) (answers_same s h o e x y k j)
+owners_same s h o e n x y k j = ap (λ z. OwnerAnswered e z ∷ answered_by o e z) (answers_same s h o e x y k j)
 
 -- and all
 abbrev is_same_kind : Reply → Reply → Bool

@@ -18,7 +18,7 @@ use Rattle.dtx_values.specs.declared.words.Class.TheVariants.{DurableTwo}
 use Rattle.dtx_values.specs.declared.words.Outcome.TheVariants.{Committed, Aborted, InDoubt}
 use Rattle.dtx_values.specs.declared.words.Vote.TheVariants.{Yes}
 use Rattle.dtx_model.specs.Words.{past_of}
-use Rattle.dtx_model.specs.Outcome.{ready, by_seal, by_owner, by_log, evidence, vetoed, owner_doubt, coordinator_doubt, doubt, may_tell, justified, agree}
+use Rattle.dtx_model.specs.Outcome.{ready, by_seal, by_owner, by_log, evidence, vetoed, owner_doubt, coordinator_doubt, single_doubt, doubt, may_tell, justified, agree}
 use Rattle.dtx_values.specs.Owners.{cause_of}
 use Rattle.dtx_model.specs.Promotes.{ends_refused, promotes}
 use Rattle.dtx_model.specs.Wires.{MayCross, WireRun, in_transit}
@@ -67,7 +67,7 @@ over_the_wire_runs =
 
 -- what is told is just
 over_the_wire_is_just : just_in over_the_wire ≡ true
-unfolding justified may_tell evidence ready by_seal by_owner by_log vetoed doubt owner_doubt coordinator_doubt
+unfolding justified may_tell evidence ready by_seal by_owner by_log vetoed doubt owner_doubt coordinator_doubt single_doubt
 over_the_wire_is_just = refl
 
 -- and its outcomes agree
@@ -93,7 +93,7 @@ begin_lost_runs =
 
 -- what is told is just
 begin_lost_is_just : just_in begin_lost ≡ true
-unfolding justified may_tell evidence ready by_seal by_owner by_log vetoed doubt owner_doubt coordinator_doubt
+unfolding justified may_tell evidence ready by_seal by_owner by_log vetoed doubt owner_doubt coordinator_doubt single_doubt
 begin_lost_is_just = refl
 
 -- and its outcomes agree
@@ -128,7 +128,7 @@ stopped_at_the_gate_runs =
 
 -- what is told is just: the client in doubt, and the durable the logged outcome
 stopped_at_the_gate_is_just : just_in stopped_at_the_gate ≡ true
-unfolding justified may_tell evidence ready by_seal by_owner by_log vetoed doubt owner_doubt coordinator_doubt
+unfolding justified may_tell evidence ready by_seal by_owner by_log vetoed doubt owner_doubt coordinator_doubt single_doubt
 stopped_at_the_gate_is_just = refl
 
 -- and its outcomes agree

@@ -12,7 +12,7 @@ use Rattle.dtx_values.specs.declared.words.Outcome.{Outcome}
 use Rattle.dtx_values.specs.declared.words.Outcome.TheVariants.{Committed, Aborted, InDoubt}
 use Rattle.dtx_model.specs.Words.{has, latest, ever, always}
 use Rattle.dtx_model.specs.Entries.{decision_of, is_decision, is_commit, is_asked, is_vote, is_hand, is_any_hand, same_outcome, is_final}
-use Rattle.dtx_model.specs.Outcome.{evidence, vetoed, doubt, may_tell, hears_doubt, ready, by_seal, by_owner, by_log, is_first_veto, is_lost_owner, owner_doubt, coordinator_doubt, is_just, justified, is_decided_again, agree}
+use Rattle.dtx_model.specs.Outcome.{evidence, vetoed, doubt, may_tell, hears_doubt, ready, by_seal, by_owner, by_log, is_first_veto, is_lost_owner, owner_doubt, coordinator_doubt, single_doubt, is_just, justified, is_decided_again, agree}
 use Rattle.dtx_model.proofs.Bools.{and_both, and_left, and_right, not_true, not_both, or_right, or_false, or_case}
 use Rattle.history_table.proofs.EntryTests.{is_certain, is_cloned, all_complete, zeros_cast, is_answer, is_decided}
 use Rattle.history_table.proofs.Tests.{first_of_three, first_of_four, first_of_five}
@@ -91,14 +91,14 @@ decision_rule : (h : List Entry) (x : Outcome) → rule h (Decided x) ≡ true �
 decision_rule h x k = client_may_be h x (and_right (not (has is_decision h)) (may_tell h Client x) k)
 
 -- doubt stays with one more that is lost
-doubt_step : (w q l c : Bool) → ((w || l) || c) ≡ true → ((w || (q || l)) || c) ≡ true
-doubt_step true q l c k = refl
-doubt_step false true l c k = refl
-doubt_step false false l c k = k
+doubt_step : (w q l c s : Bool) → ((w || l) || c || s) ≡ true → ((w || (q || l)) || c || s) ≡ true
+doubt_step true q l c s k = refl
+doubt_step false true l c s k = refl
+doubt_step false false l c s k = k
 
 -- what is decided may be told
 pub decided_may : (h : List Entry) → ruled h ≡ true → (x : Outcome) → latest decision_of h ≡ Some x → may_be h x ≡ true
-unfolding evidence ready by_seal by_owner by_log vetoed doubt owner_doubt coordinator_doubt
+unfolding evidence ready by_seal by_owner by_log vetoed doubt owner_doubt coordinator_doubt single_doubt
 decided_may [] r x e = absurd cc
 decided_may (Decided y ∷ h) r x e =
     let same : y ≡ x = cc in
@@ -108,7 +108,7 @@ decided_may (RollbackAsked ∷ h) r x e =
 decided_may (TimedOut ∷ h) r x e =
     may_more h (TimedOut ∷ h) x refl (or_right (is_first_veto h TimedOut) (vetoed h)) (λ k. k) (decided_may h (other_rules TimedOut h r) x e)
 decided_may (Lost f ∷ h) r x e =
-    may_more h (Lost f ∷ h) x refl (or_right (is_first_veto h (Lost f)) (vetoed h)) (doubt_step _ (is_lost_owner h (Lost f)) (ever is_lost_owner h) (coordinator_doubt h))
+    may_more h (Lost f ∷ h) x refl (or_right (is_first_veto h (Lost f)) (vetoed h)) (doubt_step _ (is_lost_owner h (Lost f)) (ever is_lost_owner h) (coordinator_doubt h) (single_doubt h))
     (decided_may h (other_rules (Lost f) h r) x e)
 decided_may (Called n a y ∷ h) r x e = may_more h (Called n a y ∷ h) x refl (λ k. k) (λ k. k) (decided_may h (other_rules (Called n a y) h r) x e)
 decided_may (Began d ∷ h) r x e = may_more h (Began d ∷ h) x refl (λ k. k) (λ k. k) (decided_may h (other_rules (Began d) h r) x e)

@@ -21,9 +21,9 @@ use Rattle.dtx_values.specs.Vote.{voted_well}
 use Rattle.dtx_values.specs.Waves.{next_ask, is_over, all_voted}
 use Rattle.dtx_values.specs.Class.{is_volatile, is_promotable, is_zero}
 use Rattle.dtx_model.specs.Words.{has, each, ever, latest, holds, all_of, always}
-use Rattle.dtx_model.specs.Entries.{decision_of, client_told_of, is_client_told, is_hand, is_decision, same_outcome, is_owner, is_yes, handed_of, is_asked, is_vote, is_commit, is_sealed, is_lost, clone_of}
+use Rattle.dtx_model.specs.Entries.{decision_of, client_told_of, is_any_single_sent, is_client_told, is_hand, is_decision, same_outcome, is_owner, handed_of, is_asked, is_vote, is_commit, is_sealed, is_lost, clone_of}
 use Rattle.dtx_model.specs.History.{is_loss, is_committed, is_willing, CanCommit, is_asked_in_time, is_ending}
-use Rattle.dtx_model.specs.Outcome.{evidence, is_veto, is_first_veto, vetoed, doubt, is_lost_owner, can_own, enlisted, owner_doubt, is_begin_end, is_voter_end, is_outcome_got, coordinator_doubt, is_complete}
+use Rattle.dtx_model.specs.Outcome.{evidence, is_veto, is_first_veto, vetoed, doubt, is_lost_owner, can_own, enlisted, owner_doubt, is_begin_end, is_voter_end, is_outcome_got, coordinator_doubt, single_doubt, is_complete}
 use Rattle.dtx_model.specs.Observed.{observe, rows, clone_rows}
 use Rattle.dtx_model.specs.Half.{is_handed, is_gone}
 use Rattle.dtx_model.specs.Plans.{vote_reply, owner_reply}
@@ -33,13 +33,14 @@ use Rattle.dtx_model.proofs.Bools.{and_never, and_left, not_both, or_second, and
 use Rattle.history_table.proofs.Scans.{none_more, has_less, each_more, each_both}
 use Rattle.history_table.proofs.EntryTests.{is_decided, is_certain, is_only, is_answer, is_enlisted, enlisted_passes, all_complete, zeros_cast, is_unplanned}
 use Rattle.history_table.proofs.Tests.{second_of_three, second_of_four, first_of_three, fourth_of_four, or_between}
+use Rattle.history_table.proofs.Doubting.{single_if_doubt}
 use Rattle.history_table.proofs.Handed.{is_answered, hand_name}
 use Rattle.history_table.proofs.NextActs.{asked_well, has_answered, zeros_done, ones_done, told_all}
 use Rattle.history_table.proofs.TableRows.{each_rows}
 use Rattle.history_table.proofs.Owned.{any_hand_seen}
 use Rattle.script_histories.proofs.Rule.{ruled, first_rule, other_rules}
 use Rattle.script_histories.proofs.Rules.{decided_same, not_behind, decided_may}
-use Rattle.script_histories.proofs.Evidence.{hand_stands, none_yes}
+use Rattle.script_histories.proofs.Evidence.{hand_stands, none_single, none_yes}
 use Rattle.script_histories.proofs.Plans.{planned_owner, planned_promotion, planned_vote, is_planned, each_as_planned}
 use Rattle.script_histories.proofs.RuledRows.{lost_seen, hand_seen, zeros_seen, open_blocks}
 
@@ -153,9 +154,10 @@ no_doubt s h r p can =
     let none : has (is_answered InDoubt) h ≡ false = none_doubts s h h (λ e. hand_willing s h e r can.willing) r p (λ e k. k) in
     let answers : has (λ e. has (is_owner e.value InDoubt) h) (all_of handed_of h) ≡ false =
     nowhere (λ e. has (is_owner e.value InDoubt) h) (λ e. has_less (is_owner e.value InDoubt) (is_answered InDoubt) (owner_answered e.value InDoubt) h none) (all_of handed_of h) in
-    or_false (has (λ e. has (is_owner e.value InDoubt) h) (all_of handed_of h) || ever is_lost_owner h) (has is_yes h && has is_begin_end h && has is_voter_end h && not (has is_outcome_got h))
-    (or_false (has (λ e. has (is_owner e.value InDoubt) h) (all_of handed_of h)) (ever is_lost_owner h) answers (unlost_owner h can.unlost))
-    (ap (λ b. b && has is_begin_end h && has is_voter_end h && not (has is_outcome_got h)) (none_yes h r))
+    or_false (owner_doubt h || coordinator_doubt h) (single_doubt h)
+    (or_false (owner_doubt h) (coordinator_doubt h) (or_false (has (λ e. has (is_owner e.value InDoubt) h) (all_of handed_of h)) (ever is_lost_owner h) answers (unlost_owner h can.unlost))
+    (ap (λ b. b && has is_begin_end h && has is_voter_end h && not (has is_outcome_got h)) (none_yes h r)))
+    (false_from_ne_true (single_doubt h) (λ t. not_both (has is_any_single_sent h) (single_if_doubt h t) (none_single h r)))
   where
     nowhere : (q : EnlNo → Bool) → ((e : EnlNo) → q e ≡ false) → (xs : List EnlNo) → has q xs ≡ false
     nowhere q f [] = refl

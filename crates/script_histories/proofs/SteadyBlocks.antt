@@ -8,7 +8,6 @@ use Rattle.dtx_values.specs.declared.message.Conn.TheVariants.{Begin}
 use Rattle.dtx_values.specs.declared.message.Dir.{Dir}
 use Rattle.dtx_values.specs.declared.message.Dir.TheVariants.{Up, Down}
 use Rattle.dtx_values.specs.declared.message.Message.{Message}
-use Rattle.dtx_values.specs.declared.message.Message.TheVariants.{BeginCommit}
 use Rattle.dtx_values.specs.Table.{how_many}
 use Rattle.dtx_model.specs.Words.{each, onto}
 use Rattle.dtx_model.specs.Promotes.{identifier_of}
@@ -79,7 +78,7 @@ steady_got t w c Down (m ∷ ms) = e_cons (Got c Down m) refl (let g = sees (hal
 steady_act : (h : Half) → Each is_steady (act_entries h)
 steady_act h =
     of_whole_act steady h (steady_entry (ByAct (is_some h.seen.decided))) (λ e. e_one (Asked e Promote) refl) (λ e. e_one (Asked e AskSingle) refl) (e_one Sealed refl)
-    (e_one (Sent Begin Up BeginCommit) refl)
+    (λ m c. e_one (Sent Begin Up m) refl)
 
 -- the block of a step that goes on
 pub steady_block : (t : ℕ) (w : World) (m : Step) → goes_on m ≡ true → each is_steady (block_at t w m) ≡ true

@@ -1,6 +1,6 @@
 -- In each world that steps made, in which the coordinator didn't stop: where it has decided, it said so on b, unless it saw the end of b; and on v where it had asked the voter, unless it saw
 -- the end of v or got its NO.
-use Rattle.std.proofs.Common.{◌≡◌, ℕ, Bool, true, false, ◌&&◌, List, [], ◌∷◌, ◌++◌, refl, ◌∙◌, ap, subst, sym, if◌then◌else◌, Option, Some, None, is_some}
+use Rattle.std.proofs.Common.{◌≡◌, ℕ, Bool, true, false, ◌&&◌, ◌⊎◌, inl, inr, List, [], ◌∷◌, ◌++◌, refl, ◌∙◌, ap, subst, sym, if◌then◌else◌, Option, Some, None, is_some}
 use Rattle.std.specs.Prelude.{filter, find, not}
 use Rattle.std.proofs.lemmas.Bool.{false_from_ne_true, or_left}
 use Rattle.dtx_values.specs.declared.call.Call.{Call}
@@ -14,21 +14,21 @@ use Rattle.dtx_values.specs.declared.message.Conn.TheVariants.{Begin, Voter, Enl
 use Rattle.dtx_values.specs.declared.message.Dir.{Dir}
 use Rattle.dtx_values.specs.declared.message.Dir.TheVariants.{Up, Down}
 use Rattle.dtx_values.specs.declared.message.Message.{Message}
-use Rattle.dtx_values.specs.declared.message.Message.TheVariants.{BeginAborted, BeginBegin, BeginCommit, BeginCommitted, VoterAbort, VoterAsk, VoterCommit, VoterNo, VoterVoter, EnlistAbort, EnlistCommit, EnlistEnlist, EnlistPrepare, ReenlistAborted, ReenlistCommitted, ReenlistReenlist}
+use Rattle.dtx_values.specs.declared.message.Message.TheVariants.{BeginAborted, BeginCommit, BeginCommitOne, BeginCommitted, BeginInDoubt, EnlistSingle, VoterInDoubt, VoterAbort, VoterAsk, VoterCommit, VoterNo, EnlistAbort, EnlistCommit, EnlistPrepare, ReenlistAborted, ReenlistCommitted}
 use Rattle.dtx_values.specs.declared.note.Reply.{Reply}
 use Rattle.dtx_values.specs.declared.number.ActorNo.{ActorNo}
 use Rattle.dtx_values.specs.declared.number.EnlNo.{EnlNo}
 use Rattle.dtx_values.specs.Ends.{same_connection}
 use Rattle.dtx_values.specs.Lines.{has_line, is_opening}
 use Rattle.dtx_model.specs.declared.desk.Stage.{Stage}
-use Rattle.dtx_model.specs.declared.desk.Stage.TheVariants.{Idle, Active, Recorded}
+use Rattle.dtx_model.specs.declared.desk.Stage.TheVariants.{Active, Answered, Given, Recorded, Sole}
 use Rattle.dtx_model.specs.Words.{each, has, onto}
 use Rattle.dtx_model.specs.declared.branch.Branch.{Branch}
 use Rattle.dtx_model.specs.Observed.{is_branch}
-use Rattle.dtx_model.specs.Promotes.{identifier_of, is_begun_got}
+use Rattle.dtx_model.specs.Promotes.{identifier_of}
 use Rattle.dtx_model.specs.Tied.{is_stop}
 use Rattle.dtx_model.specs.Wires.{in_transit, is_stopped}
-use Rattle.dtx_model.specs.Coordinated.{Coordinated, abort_if, abort_sends, aborts, begin_if, commit_sends, coordinate, core_got, follow, is_active, is_early, is_no_got, is_recorded, is_undecided, may_free, may_log, stage_after, still_hears, to, to_each, to_waiting}
+use Rattle.dtx_model.specs.Coordinated.{Coordinated, abort_sends, accepts, commit_sends, coordinate, core_got, doubt_sends, follow, is_active, is_going, is_no_got, is_one, is_recorded, is_sole, may_free, one_sends, stage_if, may_log, stage_after, still_hears, to, to_each, to_waiting}
 use Rattle.dtx_model.specs.Coordinated.{core_down, is_prepared}
 use Rattle.dtx_model.specs.Half.{Half, sees}
 use Rattle.dtx_model.specs.Arrivals.{local_got}
@@ -50,17 +50,19 @@ use Rattle.history_table.proofs.Table.{is_opening_got}
 use Rattle.history_table.proofs.Keeping.{Keeps, keeps_before, newest}
 use Rattle.settled_histories.proofs.OpenedRows.{kept_opened}
 use Rattle.settled_histories.proofs.Knowledge.{opening_known}
-use Rattle.history_table.proofs.Standing.{begun_if_enlist, begun_if_voter}
-use Rattle.history_table.proofs.CoreStages.{active_open, begun_if_active}
-use Rattle.history_table.proofs.CoreKnown.{begun_on, got_there, later_opened, sent_opened_there, work_begun}
-use Rattle.history_table.proofs.Crossed.{end_opened, is_sent_on, is_got_on}
-use Rattle.settled_histories.proofs.MildBlocks.{IsWide, Mild, is_mild, m_abort, m_act, m_commit, m_core_got, m_ended_at, m_local_got, wide_called, wide_mild, wide_reply}
+use Rattle.history_table.proofs.CoreStages.{begun_if_active}
+use Rattle.history_table.proofs.CoreKnown.{sent_opened_there}
+use Rattle.history_table.proofs.Crossed.{is_sent_on, is_got_on}
+use Rattle.settled_histories.proofs.MildBlocks.{IsWide, Mild, is_mild, m_abort, m_act, m_commit, m_core_got, m_doubt, m_ended_at, m_local_got, m_one, wide_called, wide_mild, wide_reply}
 use Rattle.history_table.proofs.Leading.{opening_on}
+use Rattle.history_table.proofs.Sendings.{got_line}
+use Rattle.settled_histories.proofs.Awaits.{awaits, awaits_upheld}
+use Rattle.settled_histories.proofs.Verdicts.{IsVerdict, begun_then, end_begun, end_verdict, got_verdict}
 
 -- Where the coordinator has decided, it sent its decision on b, unless it saw the end of b; and on v, where it had sent ASK, unless it saw the end of v or got NO.
 pub record IsAnnounced (h : List Entry) : Type 0 where
-  pub on_begin : is_undecided (coordinate h).stage ≡ false → has (is_end_on Begin Up) h ≡ false → has (is_sent_on Begin Down OUTCOME) h ≡ true
-  pub on_voter : is_undecided (coordinate h).stage ≡ false → has (is_sent_on Voter Down ASK) h ≡ true → has (is_end_on Voter Up) h ≡ false → has (is_got_on Voter Up VOTER_NO) h ≡ false
+  pub on_begin : awaits (coordinate h).stage ≡ false → has (is_end_on Begin Up) h ≡ false → has (is_sent_on Begin Down OUTCOME) h ≡ true
+  pub on_voter : awaits (coordinate h).stage ≡ false → has (is_sent_on Voter Down ASK) h ≡ true → has (is_end_on Voter Up) h ≡ false → has (is_got_on Voter Up VOTER_NO) h ≡ false
       → has (is_sent_on Voter Down VOTER_OUTCOME) h ≡ true
 
 -- a history that keeps the table and in which the coordinator never stopped
@@ -80,7 +82,7 @@ unstopped_under h (x ∷ es) u = unstopped_before x h (unstopped_under (x ∷ h)
 pub unstopped_wired : (h : List Entry) → IsUnstopped h → IsWired h
 unstopped_wired h u = record { opened = kept_opened h u.keeps; unstopped = u.unstopped; run = u.keeps.wires }
 
--- the entry leaves the coordinator's stage as it is: it is neither got, an end, an act of the log, nor a restart
+-- with the entry the coordinator goes on awaiting where it awaited: it is neither got, an end, an act of the log, nor a restart
 abbrev pub is_apart : Entry → Bool
 is_apart (Got c d m) = false
 is_apart (Ended c d) = false
@@ -105,16 +107,21 @@ wide_apart = record { mild = one; commit = refl; rollback = refl; timeout = refl
 mild_apart : (es : List Entry) → Mild es → each is_apart es ≡ true
 mild_apart es q = wide_mild is_apart wide_apart es q
 
-stage_apart : (k : Coordinated) (x : Entry) → is_apart x ≡ true → stage_after k x ≡ k.stage
+stage_apart : (k : Coordinated) (x : Entry) → is_apart x ≡ true → awaits (stage_after k x) ≡ awaits k.stage
 stage_apart k (Got c d m) q = absurd cc
 stage_apart k (Ended c d) q = absurd cc
 stage_apart k Logged q = absurd cc
 stage_apart k LogFull q = absurd cc
 stage_apart k Freed q = absurd cc
 stage_apart k (Restarted b) q = absurd cc
+stage_apart k (Sent (Enl e) Down EnlistSingle) q = by k.stage
+  where
+    by : (s : Stage) → awaits (stage_if (is_sole s) Given s) ≡ awaits s
+    by Sole = refl
+    by _ = refl
 stage_apart k _ q = refl
 
-stage_block : (h es : List Entry) → each is_apart es ≡ true → (coordinate (onto h es)).stage ≡ (coordinate h).stage
+stage_block : (h es : List Entry) → each is_apart es ≡ true → awaits (coordinate (onto h es)).stage ≡ awaits (coordinate h).stage
 unfolding coordinate follow
 stage_block h [] q = refl
 stage_block h (x ∷ es) q = stage_block (x ∷ h) es (and_right (is_apart x) (each is_apart es) q) ∙ stage_apart (coordinate h) x (and_left (is_apart x) (each is_apart es) q)
@@ -149,16 +156,30 @@ unasking_core : (id : ℕ) (k : Coordinated) (c : Conn) (m : Message) → is_ask
 unasking_core id k c m n = (of_core_got (unasking.lists []) id k c m (λ d i l a. e_one (Sent d Down i) (unasking_answer c m n i a))).proof
 
 -- where it has decided, that of COMMIT too
-unasking_commit : (id : ℕ) (k : Coordinated) → is_undecided k.stage ≡ false → each is_unasking (core_got id k Begin BeginCommit) ≡ true
+active_awaits : (s : Stage) → is_active s ≡ true → awaits s ≡ true
+active_awaits Active t = refl
+active_awaits _ t = absurd cc
+
+unasking_commit : (id : ℕ) (k : Coordinated) → awaits k.stage ≡ false → each is_unasking (core_got id k Begin BeginCommit) ≡ true
 unfolding core_got
-unasking_commit id k n = by (is_active k.stage) (λ a. not_both (is_undecided k.stage) (active_open k.stage a) n)
+unasking_commit id k n = by (is_active k.stage) (λ a. not_both (awaits k.stage) (active_awaits k.stage a) n)
   where
     by : (b : Bool) → (b ≡ true → ⊥) → each is_unasking (if b then to k Voter VoterAsk ++ to_each k EnlistPrepare k.desks else []) ≡ true
     by true f = absurd (f refl)
     by false f = refl
 
-unasking_got : (id : ℕ) (k : Coordinated) (c : Conn) (m : Message) → is_undecided k.stage ≡ false → each is_unasking (core_got id k c m) ≡ true
+unasking_one : (id : ℕ) (k : Coordinated) → awaits k.stage ≡ false → each is_unasking (core_got id k Begin BeginCommitOne) ≡ true
+unfolding core_got
+unasking_one id k n = by (accepts k) (λ a. not_both (awaits k.stage) (active_awaits k.stage (and_left (is_active k.stage) (not k.commit) a)) n)
+  where
+    by : (b : Bool) → (b ≡ true → ⊥)
+        → each is_unasking (if not b then [] else if is_one k.desks then to k Voter VoterAsk else abort_sends (follow k (Got Begin Up BeginCommitOne))) ≡ true
+    by true f = absurd (f refl)
+    by false f = refl
+
+unasking_got : (id : ℕ) (k : Coordinated) (c : Conn) (m : Message) → awaits k.stage ≡ false → each is_unasking (core_got id k c m) ≡ true
 unasking_got id k Begin BeginCommit n = unasking_commit id k n
+unasking_got id k Begin BeginCommitOne n = unasking_one id k n
 unasking_got id k c m n = unasking_core id k c m refl
 
 unasking_abort : (k : Coordinated) → each is_unasking (abort_sends k) ≡ true
@@ -185,7 +206,7 @@ unasking_reply h e r = (of_reply unasking h e r (unasking_entry (ByReply r))).pr
 unasking_act : (h : Half) → each is_unasking (act_entries h) ≡ true
 unasking_act h =
     (of_whole_act unasking h (unasking_entry (ByAct (is_some h.seen.decided))) (λ e. e_one (Asked e Promote) refl) (λ e. e_one (Asked e AskSingle) refl) (e_one Sealed refl)
-    (e_one (Sent Begin Up BeginCommit) refl)).proof
+    (λ m t. e_one (Sent Begin Up m) refl)).proof
 
 -- what is sent, in a block or before it
 sent_there : (c : Conn) (p : Message → Bool) (h es : List Entry) → has (is_sent_on c Down p) h ≡ true → has (is_sent_on c Down p) (onto h es) ≡ true
@@ -210,22 +231,22 @@ apart_ungot c _ t = refl
 apart_announces : (h es : List Entry) → each is_apart es ≡ true → each is_unasking es ≡ true → IsAnnounced h → IsAnnounced (onto h es)
 apart_announces h es q s a =
     record {
-      on_begin = λ n u. sent_there Begin OUTCOME h es (a.on_begin (ap is_undecided (sym (stage_block h es q)) ∙ n) (none_before (is_end_on Begin Up) h es u));
+      on_begin = λ n u. sent_there Begin OUTCOME h es (a.on_begin (sym (stage_block h es q) ∙ n) (none_before (is_end_on Begin Up) h es u));
       on_voter = λ n k u v. sent_there Voter VOTER_OUTCOME h es
-          (a.on_voter (ap is_undecided (sym (stage_block h es q)) ∙ n) (stood_before (is_sent_on Voter Down ASK) is_unasking unasking_unsent h es s k) (none_before (is_end_on Voter Up) h es u)
+          (a.on_voter (sym (stage_block h es q) ∙ n) (stood_before (is_sent_on Voter Down ASK) is_unasking unasking_unsent h es s k) (none_before (is_end_on Voter Up) h es u)
           (none_before (is_got_on Voter Up VOTER_NO) h es v));
     }
 
 -- a block whose first entry may decide
-head_announces : (x : Entry) (h es : List Entry) → each is_apart es ≡ true → is_unasking x ≡ true → (is_undecided (coordinate h).stage ≡ false → each is_unasking es ≡ true) → IsAnnounced h
-    → (is_undecided (coordinate h).stage ≡ true → is_undecided (stage_after (coordinate h) x) ≡ false → IsAnnounced (onto (x ∷ h) es)) → IsAnnounced (onto (x ∷ h) es)
+head_announces : (x : Entry) (h es : List Entry) → each is_apart es ≡ true → is_unasking x ≡ true → (awaits (coordinate h).stage ≡ false → each is_unasking es ≡ true) → IsAnnounced h
+    → (awaits (coordinate h).stage ≡ true → awaits (stage_after (coordinate h) x) ≡ false → IsAnnounced (onto (x ∷ h) es)) → IsAnnounced (onto (x ∷ h) es)
 unfolding coordinate follow
-head_announces x h es q s d a f = by (is_undecided (coordinate h).stage) refl (is_undecided (stage_after (coordinate h) x)) refl
+head_announces x h es q s d a f = by (awaits (coordinate h).stage) refl (awaits (stage_after (coordinate h) x)) refl
   where
-    open_still : is_undecided (stage_after (coordinate h) x) ≡ true → is_undecided (coordinate (onto (x ∷ h) es)).stage ≡ false → ⊥
-    open_still c n = not_both (is_undecided (stage_after (coordinate h) x)) c (ap is_undecided (sym (stage_block (x ∷ h) es q)) ∙ n)
+    open_still : awaits (stage_after (coordinate h) x) ≡ true → awaits (coordinate (onto (x ∷ h) es)).stage ≡ false → ⊥
+    open_still c n = not_both (awaits (stage_after (coordinate h) x)) c (sym (stage_block (x ∷ h) es q) ∙ n)
 
-    by : (b : Bool) → is_undecided (coordinate h).stage ≡ b → (c : Bool) → is_undecided (stage_after (coordinate h) x) ≡ c → IsAnnounced (onto (x ∷ h) es)
+    by : (b : Bool) → awaits (coordinate h).stage ≡ b → (c : Bool) → awaits (stage_after (coordinate h) x) ≡ c → IsAnnounced (onto (x ∷ h) es)
     by true e false c = f e c
     by true e true c = record { on_begin = λ n u. absurd (open_still c n); on_voter = λ n k u v. absurd (open_still c n) }
     by false e b c =
@@ -237,8 +258,8 @@ head_announces x h es q s d a f = by (is_undecided (coordinate h).stage) refl (i
               (none_before (is_got_on Voter Up VOTER_NO) h (x ∷ es) v));
         }
 
-still : (x : Entry) (h : List Entry) {P : Type 0} → stage_after (coordinate h) x ≡ (coordinate h).stage → is_undecided (coordinate h).stage ≡ true → is_undecided (stage_after (coordinate h) x) ≡ false → P
-still x h e u n = absurd (not_both (is_undecided (coordinate h).stage) u (sym (ap is_undecided e) ∙ n))
+still : (x : Entry) (h : List Entry) {P : Type 0} → stage_after (coordinate h) x ≡ (coordinate h).stage → awaits (coordinate h).stage ≡ true → awaits (stage_after (coordinate h) x) ≡ false → P
+still x h e u n = absurd (not_both (awaits (coordinate h).stage) u (sym (ap awaits e) ∙ n))
 
 -- A connection whose opening message was got, and whose end wasn't seen, is known.
 
@@ -250,8 +271,8 @@ no_noted : (h : List Entry) → (coordinate h).no ≡ true → has (is_got_on Vo
 unfolding coordinate follow
 no_noted [] t = absurd cc
 no_noted (x ∷ h) t =
-    or_case (is_no_got x && is_active (coordinate h).stage) (coordinate h).no
-    (λ a. or_left (is_got_on Voter Up VOTER_NO x) (has (is_got_on Voter Up VOTER_NO) h) (on_voter x (and_left (is_no_got x) (is_active (coordinate h).stage) a)))
+    or_case (is_no_got x && is_going (coordinate h).stage) (coordinate h).no
+    (λ a. or_left (is_got_on Voter Up VOTER_NO x) (has (is_got_on Voter Up VOTER_NO) h) (on_voter x (and_left (is_no_got x) (is_going (coordinate h).stage) a)))
     (λ a. or_right (is_got_on Voter Up VOTER_NO x) (has (is_got_on Voter Up VOTER_NO) h) (no_noted h a)) t
   where
     on_voter : (x : Entry) → is_no_got x ≡ true → is_got_on Voter Up VOTER_NO x ≡ true
@@ -282,6 +303,26 @@ commit_told k e = rw e (by (has (same_connection Begin) k.known) (to_each k Enli
     by true xs ys = refl
     by false xs ys = refl
 
+one_sent : (k : Coordinated) → has (same_connection Begin) k.known ≡ true → has (is_sent_on Begin Down OUTCOME) (one_sends k) ≡ true
+one_sent k e = rw e refl
+
+doubt_sent : (k : Coordinated) → has (same_connection Begin) k.known ≡ true → has (is_sent_on Begin Down OUTCOME) (doubt_sends k) ≡ true
+doubt_sent k e = rw e refl
+
+one_told : (k : Coordinated) → has (same_connection Voter) k.known ≡ true → has (is_sent_on Voter Down VOTER_OUTCOME) (one_sends k) ≡ true
+one_told k e = rw e (by (has (same_connection Begin) k.known))
+  where
+    by : (b : Bool) → has (is_sent_on Voter Down VOTER_OUTCOME) ((if b then Sent Begin Down BeginCommitted ∷ [] else []) ++ (Sent Voter Down VoterCommit ∷ [])) ≡ true
+    by true = refl
+    by false = refl
+
+doubt_told : (k : Coordinated) → has (same_connection Voter) k.known ≡ true → has (is_sent_on Voter Down VOTER_OUTCOME) (doubt_sends k) ≡ true
+doubt_told k e = rw e (by (has (same_connection Begin) k.known))
+  where
+    by : (b : Bool) → has (is_sent_on Voter Down VOTER_OUTCOME) ((if b then Sent Begin Down BeginInDoubt ∷ [] else []) ++ (Sent Voter Down VoterInDoubt ∷ [])) ≡ true
+    by true = refl
+    by false = refl
+
 -- a block after a decision that sends it where it is known, where BEGIN was got
 decision_announces : (h es : List Entry) → IsUnstopped (onto h es) → each is_apart es ≡ true → (has (is_end_on Begin Up) h ≡ false → has (is_opening_got Begin) h ≡ true)
     → (has (same_connection Begin) (coordinate h).known ≡ true → has (is_sent_on Begin Down OUTCOME) es ≡ true)
@@ -302,93 +343,77 @@ abort_announces h u o = decision_announces h (abort_sends (coordinate h)) u (mil
 commit_announces : (h : List Entry) → IsUnstopped (onto h (commit_sends (coordinate h))) → (has (is_end_on Begin Up) h ≡ false → has (is_opening_got Begin) h ≡ true) → IsAnnounced (onto h (commit_sends (coordinate h)))
 commit_announces h u o = decision_announces h (commit_sends (coordinate h)) u (mild_apart (commit_sends (coordinate h)) (m_commit (coordinate h))) o (commit_sent (coordinate h)) (λ k n. commit_told (coordinate h) k)
 
+-- what the one that was let decide said, or the coordinator's doubt: k knows what is known here
+one_announces : (h : List Entry) (k : Coordinated) → (coordinate h).known ≡ k.known → IsUnstopped (onto h (one_sends k)) → (has (is_end_on Begin Up) h ≡ false → has (is_opening_got Begin) h ≡ true) → IsAnnounced (onto h (one_sends k))
+one_announces h k q u o =
+    decision_announces h (one_sends k) u (mild_apart (one_sends k) (m_one k)) o (λ t. one_sent k (ap (has (same_connection Begin)) (sym q) ∙ t)) (λ t n. one_told k (ap (has (same_connection Voter)) (sym q) ∙ t))
+
+doubt_announces : (h : List Entry) (k : Coordinated) → (coordinate h).known ≡ k.known → IsUnstopped (onto h (doubt_sends k)) → (has (is_end_on Begin Up) h ≡ false → has (is_opening_got Begin) h ≡ true)
+    → IsAnnounced (onto h (doubt_sends k))
+doubt_announces h k q u o =
+    decision_announces h (doubt_sends k) u (mild_apart (doubt_sends k) (m_doubt k)) o (λ t. doubt_sent k (ap (has (same_connection Begin)) (sym q) ∙ t)) (λ t n. doubt_told k (ap (has (same_connection Voter)) (sym q) ∙ t))
+
 -- A message that the coordinator gets.
-pub abort_kept : (b : Bool) (s : Stage) → is_undecided s ≡ true → is_undecided (abort_if b s) ≡ false → b ≡ true
-abort_kept true s u n = refl
-abort_kept false s u n = absurd (not_both (is_undecided s) u n)
-
-pub begin_kept : (s : Stage) → is_undecided s ≡ true → is_undecided (begin_if s) ≡ false → ⊥
-begin_kept Idle u n = absurd cc
-begin_kept Active u n = absurd cc
-begin_kept _ u n = absurd cc
-
--- BEGIN was got, where the message decides
-begun_then : (c : Conn) (m : Message) (h : List Entry) → Keeps (Got c Up m ∷ h) → aborts (coordinate h) (Got c Up m) ≡ true → has (is_opening_got Begin) h ≡ true
-begun_then Begin BeginBegin h k a = absurd cc
-begun_then Begin m h k a = later_opened Begin m h k refl
-begun_then Voter m h k a = work_begun Voter m h refl k
-begun_then (Enl e) m h k a = work_begun (Enl e) m h refl k
-begun_then (Again e) m h k a = absurd (never (has_line (Again e) Up m) a)
-  where
-    never : (b : Bool) → (not b && false) ≡ true → ⊥
-    never true a = absurd cc
-    never false a = absurd cc
-
--- where a message decides, the coordinator aborts
-got_aborts : (id : ℕ) (c : Conn) (m : Message) (k : Coordinated) → is_undecided k.stage ≡ true → is_undecided (stage_after k (Got c Up m)) ≡ false
-    → (aborts k (Got c Up m) ≡ true) × (core_got id k c m ≡ abort_sends (follow k (Got c Up m)))
-unfolding core_got
-got_aborts id Begin BeginBegin k s n = absurd (begin_kept k.stage s n)
-got_aborts id Voter (VoterVoter i) k s n = absurd (not_both (is_undecided k.stage) s n)
-got_aborts id (Enl e) (EnlistEnlist i) k s n = absurd (not_both (is_undecided k.stage) s n)
-got_aborts id Begin BeginCommit k s n = absurd (not_both (is_undecided k.stage) s n)
-got_aborts id (Again e) (ReenlistReenlist i) k s n = absurd (not_both (is_undecided k.stage) s n)
-got_aborts id c m k s n =
-    let a = abort_kept (aborts k (Got c Up m)) k.stage s n in
-    (a, if_so (aborts k (Got c Up m) && is_undecided k.stage) (abort_sends (follow k (Got c Up m))) (and_both (aborts k (Got c Up m)) (is_undecided k.stage) a s))
-  where
-    if_so : (b : Bool) (es : List Entry) → b ≡ true → (if b then es else []) ≡ es
-    if_so true es e = refl
-    if_so false es e = absurd cc
-
 got_announces : (id : ℕ) (c : Conn) (m : Message) (h : List Entry) → IsUnstopped (onto (Got c Up m ∷ h) (core_got id (coordinate h) c m)) → IsAnnounced h
     → IsAnnounced (onto (Got c Up m ∷ h) (core_got id (coordinate h) c m))
-unfolding coordinate
+unfolding coordinate follow
 got_announces id c m h u a =
     let x = Got c Up m in
     let k = coordinate h in
     let block = core_got id k c m in
     head_announces x h block (mild_apart block (m_core_got id k c m)) refl (unasking_got id k c m) a (decides u)
   where
-    decides : IsUnstopped (onto (Got c Up m ∷ h) (core_got id (coordinate h) c m)) → is_undecided (coordinate h).stage ≡ true → is_undecided (stage_after (coordinate h) (Got c Up m)) ≡ false
+    here : List Entry
+    here = Got c Up m ∷ h
+
+    verdict : (es : List Entry) → core_got id (coordinate h) c m ≡ es → (IsUnstopped (onto here es) → IsAnnounced (onto here es)) → IsUnstopped (onto here (core_got id (coordinate h) c m))
+        → IsAnnounced (onto here (core_got id (coordinate h) c m))
+    verdict es e f u =
+        let P : List Entry → Type 0 = λ fs. IsAnnounced (onto here fs) in
+        let Q : List Entry → Type 0 = λ fs. IsUnstopped (onto here fs) in
+        subst P (sym e) (f (subst Q e u))
+
+    decides : IsUnstopped (onto (Got c Up m ∷ h) (core_got id (coordinate h) c m)) → awaits (coordinate h).stage ≡ true → awaits (stage_after (coordinate h) (Got c Up m)) ≡ false
         → IsAnnounced (onto (Got c Up m ∷ h) (core_got id (coordinate h) c m))
     decides u s n =
-        let w = got_aborts id c m (coordinate h) s n in
-        let P : List Entry → Type 0 = λ es. IsAnnounced (onto (Got c Up m ∷ h) es) in
-        let Q : List Entry → Type 0 = λ es. IsUnstopped (onto (Got c Up m ∷ h) es) in
-        let here = unstopped_under (Got c Up m ∷ h) (core_got id (coordinate h) c m) u in
-        subst P (sym w.1)
-        (abort_announces (Got c Up m ∷ h) (subst Q w.1 u) (λ e. or_right (is_opening_got Begin (Got c Up m)) (has (is_opening_got Begin) h) (begun_then c m h here.keeps w.0)))
+        let k = (unstopped_under here (core_got id (coordinate h) c m) u).keeps in
+        let begun = begun_then awaits awaits_upheld c m h k s n in
+        by (λ e. or_right (is_opening_got Begin (Got c Up m)) (has (is_opening_got Begin) h) begun) (got_verdict awaits awaits_upheld id c m (coordinate h) (got_line c Up m h k) s n)
+      where
+        by : (has (is_end_on Begin Up) here ≡ false → has (is_opening_got Begin) here ≡ true) → IsVerdict (coordinate h) (Got c Up m) (core_got id (coordinate h) c m) → IsAnnounced (onto here (core_got id (coordinate h) c m))
+        by o (inl e) = verdict (abort_sends (coordinate here)) e (λ v. abort_announces here v o) u
+        by o (inr (s, q, inl e)) = verdict (one_sends (coordinate h)) e (λ v. one_announces here (coordinate h) q v o) u
+        by o (inr (s, q, inr e)) = verdict (doubt_sends (coordinate h)) e (λ v. doubt_announces here (coordinate h) q v o) u
 
 -- An end that it sees.
-begun_there : (h : List Entry) → Keeps h → has is_begun_got h ≡ true → has (is_opening_got Begin) h ≡ true
-begun_there h k t = got_there Begin (λ m. true) h k (has_more is_begun_got (is_got_on Begin Down (λ m. true)) begun_on h t)
-
-end_begun : (c : Conn) (h : List Entry) → Keeps (Ended c Up ∷ h) → is_early (coordinate h) c ≡ true → has (is_end_on Begin Up) (Ended c Up ∷ h) ≡ false → has (is_opening_got Begin) h ≡ true
-end_begun Begin h k a e = absurd cc
-end_begun Voter h k a e = let past = keeps_before (Ended Voter Up) h k in begun_there h past (begun_if_voter h past (end_opened Voter Up h k.wires.0))
-end_begun (Enl n) h k a e = let past = keeps_before (Ended (Enl n) Up) h k in begun_there h past (begun_if_enlist n h past (end_opened (Enl n) Up h k.wires.0))
-end_begun (Again n) h k a e = absurd cc
-
 end_announces : (w : World) (c : Conn) → IsUnstopped (onto (Ended c Up ∷ w.past) (ended_at w c Up)) → IsAnnounced w.past → IsAnnounced (onto (Ended c Up ∷ w.past) (ended_at w c Up))
-unfolding coordinate core_down
+unfolding coordinate follow
 end_announces w c u a =
     head_announces (Ended c Up) w.past (ended_at w c Up) (mild_apart (ended_at w c Up) (m_ended_at w c Up)) refl (λ n. unasking_end w c Up) a (decides u)
   where
-    if_so : (b : Bool) (es : List Entry) → b ≡ true → (if b then es else []) ≡ es
-    if_so true es e = refl
-    if_so false es e = absurd cc
+    here : List Entry
+    here = Ended c Up ∷ w.past
 
-    decides : IsUnstopped (onto (Ended c Up ∷ w.past) (ended_at w c Up)) → is_undecided (coordinate w.past).stage ≡ true → is_undecided (stage_after (coordinate w.past) (Ended c Up)) ≡ false
+    verdict : (es : List Entry) → ended_at w c Up ≡ es → (IsUnstopped (onto here es) → IsAnnounced (onto here es)) → IsUnstopped (onto here (ended_at w c Up)) → IsAnnounced (onto here (ended_at w c Up))
+    verdict es e f u =
+        let P : List Entry → Type 0 = λ fs. IsAnnounced (onto here fs) in
+        let Q : List Entry → Type 0 = λ fs. IsUnstopped (onto here fs) in
+        subst P (sym e) (f (subst Q e u))
+
+    not_begin : has (is_end_on Begin Up) here ≡ false → c ≡ Begin → ⊥
+    not_begin e q = let P : Conn → Type 0 = λ d. has (is_end_on Begin Up) (Ended d Up ∷ w.past) ≡ false in let never : true ≡ false = subst P q e in absurd cc
+
+    decides : IsUnstopped (onto (Ended c Up ∷ w.past) (ended_at w c Up)) → awaits (coordinate w.past).stage ≡ true → awaits (stage_after (coordinate w.past) (Ended c Up)) ≡ false
         → IsAnnounced (onto (Ended c Up ∷ w.past) (ended_at w c Up))
     decides u s n =
-        let k = coordinate w.past in
-        let early = abort_kept (is_early k c) k.stage s n in
-        let same = if_so (is_early k c && is_undecided k.stage) (abort_sends (follow k (Ended c Up))) (and_both (is_early k c) (is_undecided k.stage) early s) in
-        let P : List Entry → Type 0 = λ es. IsAnnounced (onto (Ended c Up ∷ w.past) es) in
-        let Q : List Entry → Type 0 = λ es. IsUnstopped (onto (Ended c Up ∷ w.past) es) in
-        let here = unstopped_under (Ended c Up ∷ w.past) (ended_at w c Up) u in
-        subst P (sym same) (abort_announces (Ended c Up ∷ w.past) (subst Q same u) (λ e. end_begun c w.past here.keeps early e))
+        let k = (unstopped_under here (ended_at w c Up) u).keeps in
+        by (λ e. end_begun awaits awaits_upheld c w.past k s n (not_begin e)) (end_verdict awaits awaits_upheld (coordinate w.past) c s n)
+      where
+        by : (has (is_end_on Begin Up) here ≡ false → has (is_opening_got Begin) here ≡ true)
+            → (core_down (coordinate w.past) c ≡ abort_sends (coordinate here)) ⊎ ((stage_after (coordinate w.past) (Ended c Up) ≡ Answered) × (core_down (coordinate w.past) c ≡ doubt_sends (coordinate here)))
+            → IsAnnounced (onto here (ended_at w c Up))
+        by o (inl e) = verdict (abort_sends (coordinate here)) e (λ v. abort_announces here v o) u
+        by o (inr (s, e)) = verdict (doubt_sends (coordinate here)) e (λ v. doubt_announces here (coordinate here) refl v o) u
 
 -- A delivery.
 pub stage_down : (k : Coordinated) (c : Conn) (m : Message) → stage_after k (Got c Down m) ≡ k.stage
@@ -407,13 +432,13 @@ delivered_announces t w c Down (m ∷ ms) u a =
     (λ s n. still (Got c Down m) w.past (stage_down (coordinate w.past) c m) s n)
 
 -- the log's
-recorded_open : (s : Stage) → is_recorded s ≡ true → is_undecided s ≡ true → ⊥
-recorded_open Recorded r u = absurd cc
-recorded_open _ r u = absurd cc
+recorded_open : (p : Stage → Bool) → p Recorded ≡ false → (s : Stage) → is_recorded s ≡ true → p s ≡ true → ⊥
+recorded_open p n Recorded r u = not_both (p Recorded) u n
+recorded_open p n _ r u = absurd cc
 
-pub free_recorded : (k : Coordinated) → may_free k ≡ true → is_undecided k.stage ≡ true → ⊥
+pub free_recorded : (p : Stage → Bool) → p Recorded ≡ false → (k : Coordinated) → may_free k ≡ true → p k.stage ≡ true → ⊥
 unfolding may_free
-free_recorded k f u = recorded_open k.stage (and_right (not k.stopped) (is_recorded k.stage) (and_left (not k.stopped && is_recorded k.stage) _ f)) u
+free_recorded p n k f u = recorded_open p n k.stage (and_right (not k.stopped) (is_recorded k.stage) (and_left (not k.stopped && is_recorded k.stage) _ f)) u
 
 pub log_active : (k : Coordinated) → may_log k ≡ true → is_active k.stage ≡ true
 unfolding may_log
@@ -439,7 +464,7 @@ free_announces : (a : LogAnswer) (h : List Entry) → may_log (coordinate h) ≡
 free_announces Done h e c n =
     head_announces Freed h [] refl refl (λ d. refl) n
     (λ s d. absurd
-    (free_recorded (coordinate h) (or_case (may_log (coordinate h)) (may_free (coordinate h) && true) (λ l. absurd (not_both (may_log (coordinate h)) l e)) (λ f. and_left (may_free (coordinate h)) true f) c) s))
+    (free_recorded awaits refl (coordinate h) (or_case (may_log (coordinate h)) (may_free (coordinate h) && true) (λ l. absurd (not_both (may_log (coordinate h)) l e)) (λ f. and_left (may_free (coordinate h)) true f) c) s))
 free_announces Full h e c n = n
 free_announces StoppedNow h e c n = apart_announces h (Stopped ∷ []) refl refl n
 free_announces StoppedBefore h e c n = apart_announces h (Stopped ∷ []) refl refl n

@@ -11,7 +11,7 @@ use Rattle.dtx_values.specs.declared.message.Conn.TheVariants.{Enl, Again}
 use Rattle.dtx_values.specs.declared.message.Dir.{Dir}
 use Rattle.dtx_values.specs.declared.message.Dir.TheVariants.{Up, Down}
 use Rattle.dtx_values.specs.declared.message.Message.{Message}
-use Rattle.dtx_values.specs.declared.message.Message.TheVariants.{EnlistCommit, EnlistEnlist, EnlistEnlisted, ReenlistCommitted}
+use Rattle.dtx_values.specs.declared.message.Message.TheVariants.{EnlistCommit, EnlistEnlist, EnlistEnlisted, EnlistSingle, ReenlistCommitted}
 use Rattle.dtx_values.specs.declared.number.EnlNo.{EnlNo}
 use Rattle.dtx_values.specs.declared.words.Outcome.TheVariants.{Aborted}
 use Rattle.dtx_values.specs.Ends.{is_in, same_connection, same_direction}
@@ -21,7 +21,9 @@ use Rattle.dtx_model.specs.Entries.{is_told}
 use Rattle.dtx_model.specs.Observed.{branch_acked, branch_due, branch_number, branches, due_in, is_branch}
 use Rattle.dtx_model.specs.Learned.{breaks_off}
 use Rattle.dtx_model.specs.Wires.{MayCross, ended_after, ends, is_ended, is_stopped, lost_since, opens}
-use Rattle.dtx_model.specs.Coordinated.{Coordinated, coordinate, follow, is_undecided, recovered_after, stage_after}
+use Rattle.dtx_model.specs.declared.desk.Stage.{Stage}
+use Rattle.dtx_model.specs.declared.desk.Stage.TheVariants.{Given, Sole}
+use Rattle.dtx_model.specs.Coordinated.{Coordinated, coordinate, follow, is_sole, recovered_after, stage_after, stage_if}
 use Rattle.dtx_model.proofs.Bools.{and_both, and_left, and_never, and_right, not_both, not_true, or_case, or_false, or_right}
 use Rattle.dtx_values.proofs.SameNumbers.{same_enlistment}
 use Rattle.history_table.proofs.Lists.{each-insert}
@@ -33,6 +35,7 @@ use Rattle.history_table.proofs.CoreStages.{changed, kept_some}
 use Rattle.history_table.proofs.EntryTests.{is_return}
 use Rattle.history_table.proofs.Marks.{opened_if_returned, unopened_again}
 use Rattle.history_table.proofs.Managed.{enlist_opens, is_enlist_by}
+use Rattle.settled_histories.proofs.Awaits.{withholds}
 use Rattle.settled_histories.proofs.Finished.{is_finished, is_not_own, unfinished_more}
 use Rattle.settled_histories.proofs.Awaiting.{IsAwaited, awaited_more, endless, is_back, is_unheard, is_underway, is_waiting_there, sent_goes, underway_more}
 
@@ -188,10 +191,10 @@ back_entry e x h k past p n f t =
     let w = was_back e.value x h n t in
     back_more e x h k (opened_if_returned e h past (back_returned e.value h w.before)) p w.unbroken w.untold (f w.before)
 
--- At the end of a block: where nothing is on the way to or from it, nothing is decided.
+-- At the end of a block: where nothing is on the way to or from it, nothing is decided that whoever comes back is told.
 pub record IsAnswering (e : EnlNo) (h : List Entry) : Type 0 where
   pub back : IsBack e h
-  pub heard : is_underway e h ≡ false → is_undecided (coordinate h).stage ≡ true
+  pub heard : is_underway e h ≡ false → withholds (coordinate h).stage ≡ true
 
 -- the entry may stand in a block after its first
 abbrev pub is_lasting : EnlNo → Entry → Bool
@@ -219,13 +222,19 @@ lasting_unreturned : (e : EnlNo) (x : Entry) → is_lasting e x ≡ true → is_
 lasting_unreturned e (Reenlisted f) p = not_true (e.value == f.value) p
 lasting_unreturned e _ p = refl
 
-lasting_stage : (e : EnlNo) (k : Coordinated) (x : Entry) → is_lasting e x ≡ true → stage_after k x ≡ k.stage
+-- and leaves it so that it withholds
+lasting_stage : (e : EnlNo) (k : Coordinated) (x : Entry) → is_lasting e x ≡ true → withholds (stage_after k x) ≡ withholds k.stage
 lasting_stage e k (Got c d m) p = absurd cc
 lasting_stage e k (End c d) p = absurd cc
 lasting_stage e k Logged p = absurd cc
 lasting_stage e k LogFull p = absurd cc
 lasting_stage e k Freed p = absurd cc
 lasting_stage e k (Restarted b) p = absurd cc
+lasting_stage e k (Sent (Enl f) Down EnlistSingle) p = by k.stage
+  where
+    by : (s : Stage) → withholds (stage_if (is_sole s) Given s) ≡ withholds s
+    by Sole = refl
+    by _ = refl
 lasting_stage e k _ p = refl
 
 lasting_ungot : (e : EnlNo) (x : Entry) → is_lasting e x ≡ true → (c : Conn) (d : Dir) (m : Message) → x ≡ Got c d m → same_connection (Again e) c ≡ false
@@ -240,19 +249,19 @@ sent_there e (Sent c Down m) h o t = sent_goes e c m h o (and_left (same_connect
 sent_there e (Sent c Up m) h o t = absurd (not_both (same_connection (Again e) c && false) (and_left (same_connection (Again e) c && false) true t) (and_never (same_connection (Again e) c)))
 sent_there e _ h o t = absurd cc
 
--- while nothing is on the way, nothing is decided, or these entries send to it
+-- while nothing is on the way, the coordinator withholds, or these entries send to it
 abbrev pub IsReady : EnlNo → List Entry → List Entry → Type 0
-IsReady e h es = is_underway e h ≡ false → (is_undecided (coordinate h).stage ≡ true) ⊎ (has (is_sent_to e) es ≡ true)
+IsReady e h es = is_underway e h ≡ false → (withholds (coordinate h).stage ≡ true) ⊎ (has (is_sent_to e) es ≡ true)
 
 ready_more : (e : EnlNo) (x : Entry) (h es : List Entry) → is_lasting e x ≡ true → is_stopped h ≡ false → lost_since (Again e) h ≡ Some false → breaks_off e.value x ≡ false → IsReady e h (x ∷ es) → IsReady e (x ∷ h) es
 unfolding coordinate follow
 ready_more e x h es l s o b f u = by (is_underway e h) refl
   where
-    after : (is_undecided (coordinate h).stage ≡ true) ⊎ (has (is_sent_to e) (x ∷ es) ≡ true) → (is_undecided (stage_after (coordinate h) x) ≡ true) ⊎ (has (is_sent_to e) es ≡ true)
-    after (inl d) = inl (ap is_undecided (lasting_stage e (coordinate h) x l) ∙ d)
+    after : (withholds (coordinate h).stage ≡ true) ⊎ (has (is_sent_to e) (x ∷ es) ≡ true) → (withholds (stage_after (coordinate h) x) ≡ true) ⊎ (has (is_sent_to e) es ≡ true)
+    after (inl d) = inl (lasting_stage e (coordinate h) x l ∙ d)
     after (inr t) = or_case (is_sent_to e x) (has (is_sent_to e) es) (λ a. absurd (not_both (is_underway e (x ∷ h)) (sent_there e x h o a) u)) (λ a. inr a) t
 
-    by : (q : Bool) → is_underway e h ≡ q → (is_undecided (stage_after (coordinate h) x) ≡ true) ⊎ (has (is_sent_to e) es ≡ true)
+    by : (q : Bool) → is_underway e h ≡ q → (withholds (stage_after (coordinate h) x) ≡ true) ⊎ (has (is_sent_to e) es ≡ true)
     by true q = absurd (not_both (is_underway e (x ∷ h)) (underway_more e x h s b (lasting_ungot e x l) q) u)
     by false q = after (f q)
 
@@ -262,7 +271,7 @@ block_answers e h [] l k f t =
     let w = f t in
     record { back = w.0; heard = λ u. by (w.1 u) }
   where
-    by : (is_undecided (coordinate h).stage ≡ true) ⊎ (has (is_sent_to e) [] ≡ true) → is_undecided (coordinate h).stage ≡ true
+    by : (withholds (coordinate h).stage ≡ true) ⊎ (has (is_sent_to e) [] ≡ true) → withholds (coordinate h).stage ≡ true
     by (inl d) = d
     by (inr a) = absurd cc
 block_answers e h (x ∷ es) l k f t =
@@ -282,7 +291,7 @@ lasting_answers e h es l k f t = block_answers e h es l k (λ b. let w = f b in 
 -- a block whose first entry may decide
 pub head_answers : (e : EnlNo) (x : Entry) (h es : List Entry) → is_passing e x ≡ true → is_return e.value x ≡ false → ((c : Conn) (d : Dir) (m : Message) → x ≡ Got c d m → same_connection (Again e) c ≡ false)
     → each (is_lasting e) es ≡ true → Keeps (onto (x ∷ h) es)
-    → (is_undecided (coordinate h).stage ≡ true → is_undecided (coordinate (x ∷ h)).stage ≡ false → is_waiting_there e (x ∷ h) ≡ true → has (is_sent_to e) es ≡ true)
+    → (withholds (coordinate h).stage ≡ true → withholds (coordinate (x ∷ h)).stage ≡ false → is_waiting_there e (x ∷ h) ≡ true → has (is_sent_to e) es ≡ true)
     → (is_back e.value h ≡ true → IsAnswering e h) → is_back e.value (onto (x ∷ h) es) ≡ true → IsAnswering e (onto (x ∷ h) es)
 head_answers e x h es p n g l k d f t =
     let now = keeps_within (x ∷ h) es k in
@@ -298,10 +307,10 @@ head_answers e x h es p n g l k d f t =
         waits : is_waiting_there e (x ∷ h) ≡ true
         waits = or_case (is_underway e (x ∷ h)) (is_waiting_there e (x ∷ h)) (λ c. absurd (not_both (is_underway e (x ∷ h)) c u)) (λ c. c) b.awaited.way
 
-        decided : (c : Bool) → is_undecided (coordinate (x ∷ h)).stage ≡ c → is_undecided (coordinate h).stage ≡ true → (is_undecided (coordinate (x ∷ h)).stage ≡ true) ⊎ (has (is_sent_to e) es ≡ true)
+        decided : (c : Bool) → withholds (coordinate (x ∷ h)).stage ≡ c → withholds (coordinate h).stage ≡ true → (withholds (coordinate (x ∷ h)).stage ≡ true) ⊎ (has (is_sent_to e) es ≡ true)
         decided true c v = inl c
         decided false c v = inr (d v c waits)
 
-        by : (c : Bool) → is_underway e h ≡ c → (is_undecided (coordinate (x ∷ h)).stage ≡ true) ⊎ (has (is_sent_to e) es ≡ true)
+        by : (c : Bool) → is_underway e h ≡ c → (withholds (coordinate (x ∷ h)).stage ≡ true) ⊎ (has (is_sent_to e) es ≡ true)
         by true c = absurd (not_both (is_underway e (x ∷ h)) (underway_more e x h a.back.standing w.unbroken g c) u)
-        by false c = decided (is_undecided (coordinate (x ∷ h)).stage) refl (a.heard c)
+        by false c = decided (withholds (coordinate (x ∷ h)).stage) refl (a.heard c)

@@ -1,5 +1,5 @@
 -- The blocks of steps, by what they do to one that came back: those of the local side leave it, and where the coordinator decides, it sends to each that waits.
-use Rattle.std.proofs.Common.{◌≡◌, ℕ, ◌==◌, Bool, true, false, ◌&&◌, List, [], ◌∷◌, ◌++◌, Option, Some, is_some, refl, ◌∙◌, ap, sym, subst}
+use Rattle.std.proofs.Common.{◌≡◌, ℕ, ◌==◌, Bool, true, false, ◌&&◌, ◌⊎◌, inl, inr, List, [], ◌∷◌, ◌++◌, Option, Some, is_some, refl, ◌∙◌, ap, sym, subst}
 use Rattle.std.specs.Prelude.{filter, not, if◌then◌else◌}
 use Rattle.std.specs.List.{flat_map}
 use Rattle.std.proofs.lemmas.Bool.{eqb-true, or_left}
@@ -15,7 +15,7 @@ use Rattle.dtx_values.specs.declared.message.Conn.TheVariants.{Begin, Voter, Enl
 use Rattle.dtx_values.specs.declared.message.Dir.{Dir}
 use Rattle.dtx_values.specs.declared.message.Dir.TheVariants.{Up, Down}
 use Rattle.dtx_values.specs.declared.message.Message.{Message}
-use Rattle.dtx_values.specs.declared.message.Message.TheVariants.{BeginBegin, BeginCommit, BeginAborted, BeginCommitted, EnlistAbort, EnlistAck, EnlistCommit, EnlistEnlist, ReenlistAborted, ReenlistAck, ReenlistCommitted, ReenlistReenlist, VoterAbort, VoterCommit, VoterVoter}
+use Rattle.dtx_values.specs.declared.message.Message.TheVariants.{BeginBegin, BeginAborted, BeginCommitted, EnlistAbort, EnlistAck, EnlistCommit, ReenlistAborted, ReenlistAck, ReenlistCommitted, VoterAbort, VoterCommit}
 use Rattle.dtx_values.specs.declared.note.Note.{Note}
 use Rattle.dtx_values.specs.declared.note.Note.TheVariants.{Single}
 use Rattle.dtx_values.specs.declared.note.Reply.{Reply}
@@ -27,19 +27,22 @@ use Rattle.dtx_values.specs.Lines.{has_line}
 use Rattle.dtx_values.specs.Vote.{is_no}
 use Rattle.dtx_model.specs.Words.{each, has}
 use Rattle.dtx_model.specs.Observed.{Observed}
-use Rattle.dtx_model.specs.Coordinated.{Coordinated, abort_if, abort_sends, aborts, commit_sends, coordinate, core_down, core_got, follow, is_early, is_prepared, is_undecided, stage_after, still_hears, to, to_each, to_waiting}
+use Rattle.dtx_model.specs.Coordinated.{Coordinated, abort_if, abort_sends, commit_sends, coordinate, core_down, core_got, doubt_sends, follow, is_prepared, stage_after, still_hears, to, to_each, to_waiting}
 use Rattle.dtx_model.specs.Half.{Half, sees, to_up}
 use Rattle.dtx_model.specs.Arrivals.{local_got}
 use Rattle.dtx_model.specs.Acts.{act_entries}
 use Rattle.dtx_model.specs.Facts.{facts_if, has_facts}
-use Rattle.dtx_model.specs.Replies.{conn_due, due_of, is_volatile_row, owner_entries, reply_entries, request_message, request_of, vote_message}
+use Rattle.dtx_model.specs.Replies.{conn_due, due_of, is_volatile_row, one_message, owner_entries, reply_entries, request_message, request_of, vote_message}
 use Rattle.dtx_model.specs.World.{World, core, facts_at, gone_by, half, open_ones}
 use Rattle.dtx_model.specs.Steps.{ended_at}
 use Rattle.dtx_model.proofs.Writes.{Each, ByAct, ByCall, ByMessage, IsClosed, Source, e_cons, e_if, e_none, e_one, each_closed, is_outcome_message, replies, returns, writes, is_returning}
 use Rattle.dtx_model.proofs.Blocks.{of_abort_sends, of_ack, of_arrived, of_commit_sends, of_core_down, of_core_got, of_cuts, of_facts, of_gone_unlinked, of_local_down, of_veto, of_veto_if, of_whole_act}
-use Rattle.dtx_model.proofs.Bools.{and_left, and_never, and_right, not_both, not_false, or_case, or_right}
+use Rattle.dtx_model.proofs.Bools.{and_left, and_right, not_both, not_false, or_case, or_right}
 use Rattle.dtx_values.proofs.SameNumbers.{same_enlistment}
-use Rattle.settled_histories.proofs.Announced.{abort_kept, begin_kept, stage_down}
+use Rattle.dtx_model.specs.declared.desk.Stage.TheVariants.{Answered}
+use Rattle.settled_histories.proofs.Announced.{stage_down}
+use Rattle.settled_histories.proofs.Awaits.{withholds, withholds_upheld}
+use Rattle.settled_histories.proofs.Verdicts.{IsVerdict, end_verdict, got_verdict}
 use Rattle.settled_histories.proofs.Awaiting.{is_number, is_waiting_there}
 use Rattle.settled_histories.proofs.Back.{is_lasting, is_sent_to}
 
@@ -86,7 +89,7 @@ lasting_local_got e t h c m = let g = sees h (Got c Down m) in (of_arrived (last
 
 pub lasting_act : (e : EnlNo) (h : Half) → each (is_lasting e) (act_entries h) ≡ true
 lasting_act e h =
-    (of_whole_act (lasting e) h (lasting_entry e (ByAct (is_some h.seen.decided)) refl refl) (λ g. e_one (Asked g Promote) refl) (λ g. e_one (Asked g AskSingle) refl) (e_one Sealed refl) (e_one (Sent Begin Up BeginCommit) refl)).proof
+    (of_whole_act (lasting e) h (lasting_entry e (ByAct (is_some h.seen.decided)) refl refl) (λ g. e_one (Asked g Promote) refl) (λ g. e_one (Asked g AskSingle) refl) (e_one Sealed refl) (λ m t. e_one (Sent Begin Up m) refl)).proof
 
 -- what stands after a call that brings nobody back, and no manager's recovery
 abbrev pub is_recovering : Call → Bool
@@ -117,7 +120,7 @@ up_lasting e o c m = e_if (knows c o.ends) (e_one (Sent c Up m) refl) e_none
 
 owner_lasting : (e f : EnlNo) (h : Half) (x : Outcome) (n : Option Note) → Each (is_lasting e) (owner_entries h f x n)
 owner_lasting e f h x (Some Single) = e_cons (Requested f (request_of x)) refl (up_lasting e h.seen Begin (request_message x))
-owner_lasting e f h x _ = e_cons (OwnerAnswered f x) refl ((lasting e).decides h x)
+owner_lasting e f h x _ = e_cons (OwnerAnswered f x) refl (e_if h.seen.promoted (up_lasting e h.seen (Enl f) (one_message x)) ((lasting e).decides h x))
 
 -- the reply is a vote or an acknowledgement
 abbrev pub is_own_reply : Reply → Bool
@@ -195,41 +198,35 @@ pub full_reaches : (e : EnlNo) (h : List Entry) → is_waiting_there e (LogFull 
 unfolding coordinate
 full_reaches e h t = abort_reaches e (follow (coordinate h) LogFull) t
 
--- a message that makes it abort
-if_reached : (e : EnlNo) (a u : Bool) (es : List Entry) → a ≡ true → u ≡ true → has (is_sent_to e) es ≡ true → has (is_sent_to e) (if a && u then es else []) ≡ true
-if_reached e true true es p q t = t
-if_reached e true false es p q t = absurd cc
-if_reached e false u es p q t = absurd cc
-
-got_decides : (e : EnlNo) (id : ℕ) (k : Coordinated) (c : Conn) (m : Message) → is_undecided k.stage ≡ true → is_undecided (stage_after k (Got c Up m)) ≡ false → is_held e (follow k (Got c Up m)) ≡ true
+-- A message or an end that makes it decide otherwise than by the one that it let decide: it aborts.
+got_decides : (e : EnlNo) (id : ℕ) (k : Coordinated) (c : Conn) (m : Message) → has_line c Up m ≡ true → withholds k.stage ≡ true → withholds (stage_after k (Got c Up m)) ≡ false → is_held e (follow k (Got c Up m)) ≡ true
     → has (is_sent_to e) (core_got id k c m) ≡ true
-unfolding core_got
-got_decides e id k Begin BeginBegin u n t = absurd (begin_kept k.stage u n)
-got_decides e id k Voter (VoterVoter i) u n t = absurd (not_both (is_undecided k.stage) u n)
-got_decides e id k (Enl f) (EnlistEnlist i) u n t = absurd (not_both (is_undecided k.stage) u n)
-got_decides e id k Begin BeginCommit u n t = absurd (not_both (is_undecided k.stage) u n)
-got_decides e id k (Again f) (ReenlistReenlist i) u n t = absurd (not_both (is_undecided k.stage) u n)
-got_decides e id k c m u n t =
-    if_reached e (aborts k (Got c Up m)) (is_undecided k.stage) (abort_sends (follow k (Got c Up m))) (abort_kept (aborts k (Got c Up m)) k.stage u n) u (abort_reaches e (follow k (Got c Up m)) t)
+got_decides e id k c m l u n t = by (got_verdict withholds withholds_upheld id c m k l u n)
+  where
+    by : IsVerdict k (Got c Up m) (core_got id k c m) → has (is_sent_to e) (core_got id k c m) ≡ true
+    by (inl q) = subst (λ (es : List Entry). has (is_sent_to e) es ≡ true) (sym q) (abort_reaches e (follow k (Got c Up m)) t)
+    by (inr v) = absurd (not_both (withholds (stage_after k (Got c Up m))) (ap withholds v.0) n)
 
 stage_there : (k : Coordinated) (x : Entry) → (follow k x).stage ≡ stage_after k x
 unfolding follow
 stage_there k x = refl
 
-pub got_reaches : (e : EnlNo) (id : ℕ) (c : Conn) (m : Message) (h : List Entry) → is_undecided (coordinate h).stage ≡ true → is_undecided (coordinate (Got c Up m ∷ h)).stage ≡ false → is_waiting_there e (Got c Up m ∷ h) ≡ true
-    → has (is_sent_to e) (core_got id (coordinate h) c m) ≡ true
+pub got_reaches : (e : EnlNo) (id : ℕ) (c : Conn) (m : Message) (h : List Entry) → has_line c Up m ≡ true → withholds (coordinate h).stage ≡ true → withholds (coordinate (Got c Up m ∷ h)).stage ≡ false
+    → is_waiting_there e (Got c Up m ∷ h) ≡ true → has (is_sent_to e) (core_got id (coordinate h) c m) ≡ true
 unfolding coordinate
-got_reaches e id c m h u n t = got_decides e id (coordinate h) c m u (ap is_undecided (sym (stage_there (coordinate h) (Got c Up m))) ∙ n) t
+got_reaches e id c m h l u n t = got_decides e id (coordinate h) c m l u (ap withholds (sym (stage_there (coordinate h) (Got c Up m))) ∙ n) t
 
--- an end that makes it abort
-end_decides : (e : EnlNo) (k : Coordinated) (c : Conn) → is_undecided k.stage ≡ true → is_undecided (stage_after k (Ended c Up)) ≡ false → is_held e (follow k (Ended c Up)) ≡ true → has (is_sent_to e) (core_down k c) ≡ true
-unfolding core_down
-end_decides e k c u n t = if_reached e (is_early k c) (is_undecided k.stage) (abort_sends (follow k (Ended c Up))) (abort_kept (is_early k c) k.stage u n) u (abort_reaches e (follow k (Ended c Up)) t)
+end_decides : (e : EnlNo) (k : Coordinated) (c : Conn) → withholds k.stage ≡ true → withholds (stage_after k (Ended c Up)) ≡ false → is_held e (follow k (Ended c Up)) ≡ true → has (is_sent_to e) (core_down k c) ≡ true
+end_decides e k c u n t = by (end_verdict withholds withholds_upheld k c u n)
+  where
+    by : (core_down k c ≡ abort_sends (follow k (Ended c Up))) ⊎ ((stage_after k (Ended c Up) ≡ Answered) × (core_down k c ≡ doubt_sends (follow k (Ended c Up)))) → has (is_sent_to e) (core_down k c) ≡ true
+    by (inl q) = subst (λ (es : List Entry). has (is_sent_to e) es ≡ true) (sym q) (abort_reaches e (follow k (Ended c Up)) t)
+    by (inr v) = absurd (not_both (withholds (stage_after k (Ended c Up))) (ap withholds v.0) n)
 
-pub end_reaches : (e : EnlNo) (c : Conn) (h : List Entry) → is_undecided (coordinate h).stage ≡ true → is_undecided (coordinate (Ended c Up ∷ h)).stage ≡ false → is_waiting_there e (Ended c Up ∷ h) ≡ true
+pub end_reaches : (e : EnlNo) (c : Conn) (h : List Entry) → withholds (coordinate h).stage ≡ true → withholds (coordinate (Ended c Up ∷ h)).stage ≡ false → is_waiting_there e (Ended c Up ∷ h) ≡ true
     → has (is_sent_to e) (core_down (coordinate h) c) ≡ true
 unfolding coordinate
-end_reaches e c h u n t = end_decides e (coordinate h) c u (ap is_undecided (sym (stage_there (coordinate h) (Ended c Up))) ∙ n) t
+end_reaches e c h u n t = end_decides e (coordinate h) c u (ap withholds (sym (stage_there (coordinate h) (Ended c Up))) ∙ n) t
 
 -- What comes down, and ends on the local side, leave its stage.
 pub down_same : (c : Conn) (m : Message) (h : List Entry) → (coordinate (Got c Down m ∷ h)).stage ≡ (coordinate h).stage
@@ -243,4 +240,8 @@ end_same c h = refl
 -- and so does what comes up on the connection of a reenlistment
 pub again_same : (f : EnlNo) (m : Message) (h : List Entry) → (coordinate (Got (Again f) Up m ∷ h)).stage ≡ (coordinate h).stage
 unfolding coordinate follow
-again_same f m h = ap (λ b. abort_if b (coordinate h).stage) (and_never (not (has_line (Again f) Up m)))
+again_same f m h = by (has_line (Again f) Up m)
+  where
+    by : (b : Bool) → (if b then abort_if (not b && false) (coordinate h).stage else abort_if (not b && false) (coordinate h).stage) ≡ (coordinate h).stage
+    by true = refl
+    by false = refl

@@ -7,7 +7,7 @@ use Rattle.dtx_values.specs.declared.call.Call.{Call}
 use Rattle.dtx_values.specs.declared.call.Call.TheVariants.{Gone, Reenlist, Tick}
 use Rattle.dtx_values.specs.declared.entry.Answer.{Answer}
 use Rattle.dtx_values.specs.declared.entry.Entry.{Entry}
-use Rattle.dtx_values.specs.declared.entry.Entry.TheVariants.{Sent, Lost, Cut, Called, Clock, Late, TimedOut, Voted, Got}
+use Rattle.dtx_values.specs.declared.entry.Entry.TheVariants.{OwnerAnswered, Sent, Lost, Cut, Called, Clock, Late, TimedOut, Voted, Got}
 use Rattle.dtx_values.specs.declared.message.Conn.{Conn}
 use Rattle.dtx_values.specs.declared.message.Conn.TheVariants.{Enl, Begin, Again}
 use Rattle.dtx_values.specs.declared.message.Dir.TheVariants.{Up}
@@ -15,12 +15,14 @@ use Rattle.dtx_values.specs.declared.message.Message.{Message}
 use Rattle.dtx_values.specs.declared.message.Message.TheVariants.{EnlistEnlist, EnlistNo, EnlistPrepared, EnlistReadonly}
 use Rattle.dtx_values.specs.declared.number.ActorNo.{ActorNo}
 use Rattle.dtx_values.specs.declared.number.EnlNo.{EnlNo}
+use Rattle.dtx_values.specs.declared.words.Outcome.TheVariants.{Aborted, Committed}
 use Rattle.dtx_values.specs.declared.words.Vote.{Vote}
 use Rattle.dtx_values.specs.declared.words.Vote.TheVariants.{Done, No, Yes}
 use Rattle.dtx_values.specs.Ends.{same_connection, same_direction}
 use Rattle.dtx_values.specs.Lines.{is_opening}
 use Rattle.dtx_model.specs.Words.{has, holds, onto, ever, each, all_of}
-use Rattle.dtx_model.specs.Entries.{is_vote, is_vote_got, is_yes}
+use Rattle.dtx_model.specs.Entries.{is_any_single_sent, is_vote, is_vote_got, is_yes}
+use Rattle.dtx_model.specs.Outcome.{evidence}
 use Rattle.dtx_model.specs.Observed.{is_branch}
 use Rattle.dtx_model.specs.Learned.{coordinator_aborted}
 use Rattle.dtx_model.specs.Promotes.{is_begun_got}
@@ -34,16 +36,20 @@ use Rattle.dtx_model.specs.Caused.{Ran, same_vote}
 use Rattle.dtx_model.proofs.Bools.{and_left, and_right, not_true, or_right, not_both, or_case, and_both, not_false}
 use Rattle.dtx_model.proofs.Connections.{same_is}
 use Rattle.history_table.proofs.Tests.{third_of_four, eq_self}
-use Rattle.history_table.proofs.Table.{is_of_conn, is_volatile_conn, message_row, rule, is_enlist_got, is_opening_got, is_cast}
+use Rattle.history_table.proofs.Table.{is_one_aborted, is_of_conn, is_volatile_conn, message_row, rule, is_enlist_got, is_opening_got, is_cast}
 use Rattle.history_table.proofs.Keeping.{Keeps, newest, keeps_before}
 use Rattle.history_table.proofs.Handing.{keeps_within, ran_keeping}
-use Rattle.history_table.proofs.Aborting.{loses_there, IsBarred, decided_off, abort_latest}
+use Rattle.history_table.proofs.Aborting.{loses_there, IsBarred, decided_off, abort_latest, off_open}
+use Rattle.history_table.proofs.Evident.{evidence-handed}
+use Rattle.history_table.proofs.Handed.{hand_name, is_answered}
+use Rattle.history_table.proofs.LetDecide.{answered_handed, any_single_if_handed}
+use Rattle.history_table.proofs.Recording.{promoted_if_yes, promoting_if_promoted}
 use Rattle.history_table.proofs.Reenlisted.{opened_since}
 use Rattle.history_table.proofs.Owned.{has_filter}
 use Rattle.history_table.proofs.Scans.{has_more, each_more}
 use Rattle.history_table.proofs.Standing.{opened_if_got}
 use Rattle.history_table.proofs.HalfOwner.{enlist_opening}
-use Rattle.history_table.specs.Appended.{is_vote_message, is_abort_decision, is_barred, never_votes}
+use Rattle.history_table.specs.Appended.{is_abort_decision, is_append_barred, is_barred, is_owner_commit, is_vote_message, never_votes}
 use Rattle.history_table.proofs.Crossed.{is_sent_on, is_got_on, came, was_sent}
 use Rattle.history_table.proofs.Sendings.{own_info}
 use Rattle.settled_histories.proofs.BeforeRows.{row_of}
@@ -245,16 +251,46 @@ came_among e Q (Got (Enl f) Up (EnlistEnlist i) ∷ h) k s q =
     (λ a. or_right (Q (Enl i.enl) i.enl.value) (has (λ j. Q (Enl j.enl) j.enl.value) (all_of enlist_got h)) (came_among e Q h (keeps_before (Got (Enl f) Up (EnlistEnlist i)) h k) a q)) s
 came_among e Q (x ∷ h) k s q = came_among e Q h (keeps_before x h k) s q
 
--- Where an abort is decided, no append comes any more.
+-- an owner that committed answered so
+owner_commits : (x : Entry) → is_owner_commit x ≡ true → is_answered Committed x ≡ true
+owner_commits (OwnerAnswered e Committed) t = refl
+owner_commits x t = absurd cc
+
+-- Where an abort is decided, no append comes any more, and no owner answered committed.
 pub abort_barred : (h : List Entry) → Keeps h → AreShut h → has is_abort_decision h ≡ true → is_barred h ≡ true
-abort_barred h k s d = by (decided_off h k (abort_latest h k d)).barred
+abort_barred h k s d =
+    let off = decided_off h k (abort_latest h k d) in
+    and_both (is_append_barred h) (not (has is_owner_commit h)) (by off.barred)
+    (not_false (has is_owner_commit h)
+    (false_from_ne_true (has is_owner_commit h)
+    (λ t. let committed = has_more is_owner_commit (is_answered Committed) owner_commits h t in
+    not_both (evidence h) (evidence-handed h k (answered_handed Committed h k committed) ∙ committed) (off_open h k off))))
   where
     out : Bool
     out = has (λ i. never_votes h i.enl) (all_of enlist_got h)
 
-    by : IsBarred h → is_barred h ≡ true
-    by (inl a) = or_left (not (has is_yes h) || coordinator_aborted h) out (or_right (not (has is_yes h)) (coordinator_aborted h) a)
-    by (inr (inl n)) = or_left (not (has is_yes h) || coordinator_aborted h) out (or_left (not (has is_yes h)) (coordinator_aborted h) (not_false (has is_yes h) n))
+    early : Bool
+    early = not (has is_yes h) || coordinator_aborted h || has is_any_single_sent h
+
+    aborts : coordinator_aborted h ≡ true → is_append_barred h ≡ true
+    aborts a = or_left early out (or_left (not (has is_yes h) || coordinator_aborted h) (has is_any_single_sent h) (or_right (not (has is_yes h)) (coordinator_aborted h) a))
+
+    unsaid : has is_yes h ≡ false → is_append_barred h ≡ true
+    unsaid n = or_left early out (or_left (not (has is_yes h) || coordinator_aborted h) (has is_any_single_sent h) (or_left (not (has is_yes h)) (coordinator_aborted h) (not_false (has is_yes h) n)))
+
+    -- who answered of a promotion was let decide
+    answers : has (is_answered Aborted) h ≡ true → (b : Bool) → has is_yes h ≡ b → is_append_barred h ≡ true
+    answers a false n = unsaid n
+    answers a true y =
+        let name = hand_name h (answered_handed Aborted h k a) in
+        or_left early out
+        (or_right (not (has is_yes h) || coordinator_aborted h) (has is_any_single_sent h) (any_single_if_handed name.0 h k (promoting_if_promoted h k (promoted_if_yes h k y)) name.1))
+
+    by : IsBarred h → is_append_barred h ≡ true
+    by (inl (inl a)) = aborts (and_left (coordinator_aborted h) (not (has is_any_single_sent h) || has is_one_aborted h) a)
+    by (inl (inr (inl a))) = answers a (has is_yes h) refl
+    by (inl (inr (inr w))) = aborts w.aborted
+    by (inr (inl n)) = unsaid n
     by (inr (inr g)) =
         let e = g.name in
         let unsent : has (is_sent_on (Enl e) Up is_vote_message) h ≡ false =
@@ -264,7 +300,7 @@ abort_barred h k s d = by (decided_off h k (abort_latest h k d)).barred
         (was_sent (Enl e) Up is_vote_message h k.wires (has_more (is_vote_got e.value) (is_got_on (Enl e) Up is_vote_message) (vote_on e) h q)) unsent) in
         let none : has is_vote_message (in_transit (Enl e) Up h) ≡ false =
         false_from_ne_true (has is_vote_message (in_transit (Enl e) Up h)) (λ q. not_both (has (is_sent_on (Enl e) Up is_vote_message) h) (came (Enl e) Up is_vote_message h q) unsent) in
-        or_right (not (has is_yes h) || coordinator_aborted h) out
+        or_right early out
         (came_among e (λ c n. not (has (is_vote_got n) h) && is_lost_wire c h && not (has is_vote_message (in_transit c Up h))) h k g.came
         (and_both (not (has (is_vote_got e.value) h) && is_lost_wire (Enl e) h) (not (has is_vote_message (in_transit (Enl e) Up h)))
         (and_both (not (has (is_vote_got e.value) h)) (is_lost_wire (Enl e) h) (not_false (has (is_vote_got e.value) h) ungot) (s e g.after))

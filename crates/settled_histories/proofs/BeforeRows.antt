@@ -10,29 +10,31 @@ use Rattle.dtx_values.specs.declared.message.Conn.TheVariants.{Begin, Enl, Voter
 use Rattle.dtx_values.specs.declared.message.Dir.{Dir}
 use Rattle.dtx_values.specs.declared.message.Dir.TheVariants.{Down, Up}
 use Rattle.dtx_values.specs.declared.message.Message.{Message}
-use Rattle.dtx_values.specs.declared.message.Message.TheVariants.{BeginBegun, BeginCommit, EnlistPrepare, EnlistEnlist, EnlistPrepared, EnlistReadonly, VoterAsk, VoterCreated}
+use Rattle.dtx_values.specs.declared.message.Message.TheVariants.{BeginBegun, BeginCommit, BeginCommitOne, EnlistPrepare, EnlistSingle, EnlistEnlist, EnlistPrepared, EnlistReadonly, VoterAsk, VoterCreated, VoterYes}
 use Rattle.dtx_values.specs.declared.number.EnlNo.{EnlNo}
 use Rattle.dtx_values.specs.declared.words.Vote.TheVariants.{Yes, Done}
 use Rattle.dtx_values.specs.Ends.{same_connection}
 use Rattle.dtx_values.specs.Lines.{has_line, is_opening}
 use Rattle.dtx_values.specs.declared.words.Vote.{Vote}
 use Rattle.dtx_model.specs.Words.{always, has, each, all_of}
-use Rattle.dtx_model.specs.Entries.{is_commit_got, is_asked, is_decision, is_lost, is_vote, is_record, is_promoted, is_sealed, is_yes, is_yes_got}
+use Rattle.dtx_model.specs.Entries.{is_commit_got, is_two_phase_got, is_asked, is_decision, is_lost, is_vote, is_record, is_promoted, is_sealed, is_yes, is_yes_got}
 use Rattle.dtx_model.specs.Promotes.{is_promoting, is_begun_got, is_created_got, is_under_way}
 use Rattle.dtx_model.specs.Tied.{has_mark, enlist_got, is_logged, is_ready_got, is_stop}
 use Rattle.dtx_model.specs.Wires.{opens}
 use Rattle.dtx_model.proofs.Bools.{and_both, and_right, or_case, or_right, and_left, not_both, not_true, not_false}
-use Rattle.dtx_model.specs.Outcome.{enlisted}
+use Rattle.dtx_model.specs.Outcome.{durables, enlisted}
 use Rattle.dtx_model.specs.Learned.{coordinator_aborted}
+use Rattle.dtx_model.specs.Coordinated.{coordinate, has_desk, is_sole}
 use Rattle.dtx_model.specs.Caused.{same_vote}
 use Rattle.history_table.proofs.Keeping.{Keeps, keeps_before, before, newest, fifth_of_five}
-use Rattle.history_table.proofs.Table.{is_there, message_row, rule, is_prepare_got, is_opening_got, stands_volatile, is_cast, is_ask_got, have_come, stands_promotable, volatiles_well}
+use Rattle.history_table.proofs.Table.{is_lone_owner, is_one_phase_got, is_there, may_commit, message_row, rule, is_prepare_got, is_opening_got, stands_volatile, is_cast, is_ask_got, have_come, volatiles_well}
 use Rattle.history_table.proofs.Crossed.{is_got_on}
-use Rattle.history_table.proofs.Messages.{COMMIT, PREPARE}
-use Rattle.history_table.proofs.Tests.{eq_self, third_of_four, second_of_five, second_of_three, second_of_four}
+use Rattle.history_table.proofs.Messages.{COMMIT, COMMIT_ONE, COMMIT_TWO, PREPARE}
+use Rattle.history_table.proofs.Tests.{eq_self, first_of_four, third_of_four, second_of_five, second_of_four}
 use Rattle.history_table.proofs.Standing.{opened_if_got, unvolatile_if_opened, prepared_if_asked, begun_if_enlist, begun_if_voter}
 use Rattle.history_table.proofs.EntryTests.{is_enlisted, is_volatile_of, is_volatile_made}
 use Rattle.history_table.proofs.Scans.{has_more}
+use Rattle.history_table.proofs.Sendings.{ends_has}
 use Rattle.history_table.proofs.Leading.{opening_on}
 use Rattle.settled_histories.proofs.MessageKinds.{BEGUN, CREATED, ASK}
 use Rattle.settled_histories.proofs.Rest.{is_begun, is_ordered, is_sound}
@@ -51,11 +53,25 @@ begun_on _ k = absurd cc
 
 commit_on : (x : Entry) → is_commit_got x ≡ true → is_got_on Begin Up COMMIT x ≡ true
 commit_on (Got Begin Up BeginCommit) k = refl
+commit_on (Got Begin Up BeginCommitOne) k = refl
 commit_on _ k = absurd cc
 
 on_commit : (x : Entry) → is_got_on Begin Up COMMIT x ≡ true → is_commit_got x ≡ true
 on_commit (Got Begin Up BeginCommit) k = refl
+on_commit (Got Begin Up BeginCommitOne) k = refl
 on_commit _ k = absurd cc
+
+two_on : (x : Entry) → is_two_phase_got x ≡ true → is_got_on Begin Up COMMIT_TWO x ≡ true
+two_on (Got Begin Up BeginCommit) k = refl
+two_on _ k = absurd cc
+
+one_on : (x : Entry) → is_one_phase_got x ≡ true → is_got_on Begin Up COMMIT_ONE x ≡ true
+one_on (Got Begin Up BeginCommitOne) k = refl
+one_on _ k = absurd cc
+
+two_commit : (x : Entry) → is_two_phase_got x ≡ true → is_got_on Begin Up COMMIT x ≡ true
+two_commit (Got Begin Up BeginCommit) k = refl
+two_commit _ k = absurd cc
 
 pub prepare_on : (e : EnlNo) (x : Entry) → is_prepare_got e.value x ≡ true → is_got_on (Enl e) Down PREPARE x ≡ true
 prepare_on e (Got (Enl f) Down EnlistPrepare) k = and_both (same_connection (Enl e) (Enl f) && true) true (and_both (same_connection (Enl e) (Enl f)) true k refl) refl
@@ -134,7 +150,13 @@ kept_ordered = by_keeping is_ordered at
         has_more (is_prepare_got e.value) (is_got_on (Enl e) Down PREPARE) (prepare_on e) h
         (prepared_if_cast e Done h b (sent_opened (Enl e) Up EnlistReadonly h b r) (row_of (Enl e) Up EnlistReadonly h r))
     at (Sent (Enl e) Down EnlistPrepare) h k =
-        has_more is_commit_got (is_got_on Begin Up COMMIT) commit_on h (row_of (Enl e) Down EnlistPrepare h (newest (Sent (Enl e) Down EnlistPrepare) h k))
+        has_more is_two_phase_got (is_got_on Begin Up COMMIT_TWO) two_on h (row_of (Enl e) Down EnlistPrepare h (newest (Sent (Enl e) Down EnlistPrepare) h k))
+    at (Sent (Enl e) Down EnlistSingle) h k =
+        let row = row_of (Enl e) Down EnlistSingle h (newest (Sent (Enl e) Down EnlistSingle) h k) in
+        and_both (has (is_got_on Begin Up COMMIT_ONE) h) (is_sole (coordinate h).stage && has_desk (coordinate h) e.value)
+        (has_more is_one_phase_got (is_got_on Begin Up COMMIT_ONE) one_on h (first_of_four (has is_one_phase_got h) (has is_yes_got h) (not (coordinator_aborted h)) _ row))
+        (and_right (has is_one_phase_got h && has is_yes_got h && not (coordinator_aborted h)) (is_sole (coordinate h).stage && has_desk (coordinate h) e.value) row)
+    at (Sent Voter Up VoterYes) h k = ends_has is_yes h (row_of Voter Up VoterYes h (newest (Sent Voter Up VoterYes) h k))
     at (Sent Voter Down VoterAsk) h k =
         has_more is_commit_got (is_got_on Begin Up COMMIT) commit_on h (row_of Voter Down VoterAsk h (newest (Sent Voter Down VoterAsk) h k))
     at x h k = refl
@@ -171,17 +193,19 @@ kept_sound = by_keeping is_sound at
         (has_more is_created_got (is_got_on Voter Down CREATED) created_on h (and_right (has is_begun_got h) (has is_created_got h) both)))
         (second_of_five (not (has is_decision h)) (not (has is_sealed h)) (is_under_way h) (have_come h) (has is_begun_got h && has is_created_got h) r)
     at (Requested e q) h k =
-        second_of_four (not (has is_decision h)) (has is_promoted h) (has is_sealed h) (stands_promotable e.value h) (newest (Requested e q) h k)
+        second_of_four (not (has is_decision h)) (has is_promoted h) (has is_sealed h) _ (newest (Requested e q) h k)
     at (Sent c Down m) h k =
         has_more (is_opening_got c) (is_got_on c Up (is_opening c)) (opening_on c) h
         (third_of_four (has_line c Down m) (has is_promoting h) (has (is_opening_got c) h) (message_row h c m) (newest (Sent c Down m) h k))
     at (Sent Begin Up BeginCommit) h k =
-        second_of_three (has is_sealed h) (has is_promoted h) (not (has is_decision h)) (row_of Begin Up BeginCommit h (newest (Sent Begin Up BeginCommit) h k))
+        second_of_four (has is_sealed h) (has is_promoted h) (not (has is_decision h)) _ (and_left (may_commit h) (not (is_lone_owner (durables h))) (row_of Begin Up BeginCommit h (newest (Sent Begin Up BeginCommit) h k)))
+    at (Sent Begin Up BeginCommitOne) h k =
+        second_of_four (has is_sealed h) (has is_promoted h) (not (has is_decision h)) _ (and_left (may_commit h) (is_lone_owner (durables h)) (row_of Begin Up BeginCommitOne h (newest (Sent Begin Up BeginCommitOne) h k)))
     at LocalYes h k =
         let r = fifth_of_five (not (has is_decision h)) (has is_sealed h) (has is_promoted h) (volatiles_well h) (has is_ask_got h && not (has is_yes h)) (newest LocalYes h k) in
         and_both (has (is_got_on Voter Down ASK) h) (not (has is_yes h)) (has_more is_ask_got (is_got_on Voter Down ASK) ask_on h (and_left (has is_ask_got h) (not (has is_yes h)) r))
         (and_right (has is_ask_got h) (not (has is_yes h)) r)
-    at Logged h k = has_more is_commit_got (is_got_on Begin Up COMMIT) commit_on h (first_of_six (has is_commit_got h) (has is_yes_got h) (each (λ i. has (is_ready_got i.enl.value) h) (all_of enlist_got h)) (not (coordinator_aborted h)) (not (has is_logged h)) (not (has is_stop h)) (newest Logged h k))
+    at Logged h k = has_more is_two_phase_got (is_got_on Begin Up COMMIT) two_commit h (first_of_six (has is_two_phase_got h) (has is_yes_got h) (each (λ i. has (is_ready_got i.enl.value) h) (all_of enlist_got h)) (not (coordinator_aborted h)) (not (has is_logged h)) (not (has is_stop h)) (newest Logged h k))
     at (Voted e v) h k =
         let r = newest (Voted e v) h k in
         let asked : has (is_asked e.value) h ≡ true = second_of_five (has (is_enlisted e.value) h) (has (is_asked e.value) h) (not (has (is_vote e.value) h)) (not (has (is_lost e.value) h)) (not (stands_volatile e.value h && has is_decision h)) r in

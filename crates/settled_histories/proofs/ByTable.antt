@@ -1,4 +1,4 @@
--- Rows that the joint table of rules gives: what is sent is sent after the promotion began, which begins once; and COMMITTED is sent where there is a record.
+-- Rows that the joint table of rules gives: what is sent is sent after the promotion began, which begins once; and COMMITTED is sent after it succeeded.
 use Rattle.std.proofs.Common.{◌≡◌, Bool, true, ◌&&◌, List, [], ◌∷◌, refl}
 use Rattle.std.specs.Prelude.{not}
 use Rattle.dtx_values.specs.declared.entry.Entry.{Entry}
@@ -11,15 +11,20 @@ use Rattle.dtx_values.specs.declared.message.Message.{Message}
 use Rattle.dtx_values.specs.declared.message.Message.TheVariants.{BeginCommitted}
 use Rattle.dtx_values.specs.Lines.{has_line}
 use Rattle.dtx_model.specs.Words.{always, has}
+use Rattle.dtx_values.specs.declared.words.Outcome.TheVariants.{Committed}
 use Rattle.dtx_model.specs.Entries.{is_decision, is_record, is_sealed}
 use Rattle.dtx_model.specs.Promotes.{is_promoting}
 use Rattle.dtx_model.specs.Tied.{is_logged}
-use Rattle.dtx_model.proofs.Bools.{and_both, and_left, and_right}
+use Rattle.dtx_model.proofs.Bools.{and_both, and_left, and_right, or_case}
 use Rattle.history_table.proofs.Scans.{has_more}
 use Rattle.settled_histories.proofs.Rest.{is_after_start}
-use Rattle.settled_histories.proofs.Committed.{is_recorded_first}
-use Rattle.history_table.proofs.Table.{is_there, message_row, rule, ruled}
-use Rattle.history_table.proofs.Keeping.{third_of_three}
+use Rattle.settled_histories.proofs.BeforeRows.{by_keeping, row_of}
+use Rattle.settled_histories.proofs.Committed.{is_committed_well}
+use Rattle.history_table.proofs.Handed.{hand_name}
+use Rattle.history_table.proofs.LetDecide.{answered_handed, any_single_if_handed, committed_if_one, promoted_if_single}
+use Rattle.history_table.proofs.Recording.{promoted_if_yes, yes_if_record}
+use Rattle.history_table.proofs.Table.{is_one_committed, is_there, message_row, rule, ruled}
+use Rattle.history_table.proofs.Keeping.{Keeps, keeps_before, newest, third_of_three}
 
 -- a row that each entry's rule gives
 by_rule : (row : List Entry → Entry → Bool) → ((x : Entry) (h : List Entry) → rule h x ≡ true → row h x ≡ true) → (h : List Entry) → ruled h ≡ true → always row h ≡ true
@@ -39,14 +44,18 @@ ruled_later = by_rule is_after_start at
     at (Promoting c) h k = third_of_three (not (has is_decision h)) (not (has is_sealed h)) (not (has is_promoting h)) k
     at x h k = refl
 
-pub ruled_recorded : (h : List Entry) → ruled h ≡ true → always is_recorded_first h ≡ true
-ruled_recorded = by_rule is_recorded_first at
+pub kept_committed : (h : List Entry) → Keeps h → always is_committed_well h ≡ true
+kept_committed = by_keeping is_committed_well at
   where
     logged : (x : Entry) → is_logged x ≡ true → is_record x ≡ true
     logged Logged k = refl
     logged _ k = absurd cc
 
-    at : (x : Entry) (h : List Entry) → rule h x ≡ true → is_recorded_first h x ≡ true
+    at : (x : Entry) (h : List Entry) → Keeps (x ∷ h) → is_committed_well h x ≡ true
     at (Sent Begin Down BeginCommitted) h k =
-        has_more is_logged is_record logged h (and_right (has_line Begin Down BeginCommitted && has is_promoting h && is_there h Begin Down BeginCommitted) (message_row h Begin BeginCommitted) k)
+        let past = keeps_before (Sent Begin Down BeginCommitted) h k in
+        let rule = newest (Sent Begin Down BeginCommitted) h k in
+        or_case (has is_logged h) (has is_one_committed h) (λ t. promoted_if_yes h past (yes_if_record h past (has_more is_logged is_record logged h t)))
+        (λ t. let name = hand_name h (answered_handed Committed h past (committed_if_one h past t)) in
+        promoted_if_single h past (any_single_if_handed name.0 h past (begun_before Begin Down BeginCommitted h rule) name.1)) (row_of Begin Down BeginCommitted h rule)
     at x h k = refl

@@ -11,7 +11,7 @@ use Rattle.dtx_values.specs.declared.message.Conn.{Conn}
 use Rattle.dtx_values.specs.declared.message.Conn.TheVariants.{Enl, Again}
 use Rattle.dtx_values.specs.declared.message.Dir.TheVariants.{Down}
 use Rattle.dtx_values.specs.declared.message.Message.{Message}
-use Rattle.dtx_values.specs.declared.message.Message.TheVariants.{BeginAbort, BeginAborted, VoterNo, VoterRefused, VoterAbort, EnlistNo, EnlistRefused, EnlistAbort, ReenlistAborted}
+use Rattle.dtx_values.specs.declared.message.Message.TheVariants.{BeginAbort, BeginAborted, BeginInDoubt, VoterNo, VoterRefused, VoterAbort, VoterInDoubt, EnlistNo, EnlistRefused, EnlistAbort, EnlistOneAborted, EnlistOneInDoubt, ReenlistAborted}
 use Rattle.dtx_values.specs.declared.number.EnlNo.{EnlNo}
 use Rattle.dtx_values.specs.declared.words.Class.{Class}
 use Rattle.dtx_values.specs.declared.words.Outcome.{Outcome}
@@ -19,7 +19,7 @@ use Rattle.dtx_values.specs.declared.words.Outcome.TheVariants.{Committed, Abort
 use Rattle.dtx_values.specs.declared.words.Vote.TheVariants.{Yes, No, Done}
 use Rattle.dtx_values.specs.Class.{is_promotable, is_volatile}
 use Rattle.dtx_model.specs.Words.{has, always, latest}
-use Rattle.dtx_model.specs.Entries.{decision_of, is_decision, is_hand, is_promoted, is_sealed, is_yes, same_outcome}
+use Rattle.dtx_model.specs.Entries.{decision_of, is_any_single_sent, is_decision, is_hand, is_owner, is_promoted, is_sealed, is_yes, same_outcome}
 use Rattle.dtx_model.specs.Learned.{coordinator_aborted}
 use Rattle.dtx_model.specs.Outcome.{can_own, durables, enlisted, evidence, hears_doubt, is_veto}
 use Rattle.dtx_model.specs.Promotes.{ends_refused, ends_told, is_refusal, is_under_way}
@@ -27,9 +27,12 @@ use Rattle.dtx_model.proofs.Bools.{and_both, and_left, and_right, or_case, or_ri
 use Rattle.history_table.proofs.Tests.{first_of_three, second_of_three, first_of_five, fourth_of_four}
 use Rattle.history_table.proofs.Scans.{has_more}
 use Rattle.history_table.proofs.Owned.{has_filter}
+use Rattle.dtx_model.specs.Observed.{is_request}
+use Rattle.history_table.proofs.Handed.{is_answered}
+use Rattle.history_table.proofs.Sendings.{ends_has}
 use Rattle.history_table.proofs.EntryTests.{is_answer, is_certain, is_decided, is_enlisted, is_only, is_no_vote}
 use Rattle.settled_histories.proofs.Fine.{any_class, blames, ends_aborted, ends_requested, has_cause, is_caused, is_made}
-use Rattle.history_table.proofs.Table.{brings, but_failed, decision_row, ends_again, ends_called_off, ends_with, hears_decision, hears_here, is_abort_decided, is_abort_request, is_cast, is_lost_there, message_row, rule, stands_promotable}
+use Rattle.history_table.proofs.Table.{brings, but_failed, decision_row, ends_again, ends_called_off, ends_with, has_just_answered, hears_decision, hears_here, is_abort_decided, is_abort_request, is_aborted_for_good, is_cast, is_commit_sent, is_lost_there, is_one_aborted, is_yes_sent, may_answer, message_row, rule, stands_promotable}
 use Rattle.history_table.proofs.Keeping.{Keeps, keeps_before, newest}
 use Rattle.history_table.proofs.Evident.{hand_stands}
 use Rattle.settled_histories.proofs.BeforeRows.{by_keeping, row_of}
@@ -129,16 +132,33 @@ cast_no (Enl e) (Voted f Done) k = absurd (never (e.value == f.value) k)
     never false k = cc
 cast_no c x k = absurd cc
 
+good_abort : (h : List Entry) → is_aborted_for_good h ≡ true → (coordinator_aborted h || has is_restart h) ≡ true
+good_abort h k = or_left (coordinator_aborted h) (has is_restart h) (and_left (coordinator_aborted h) (not (has is_any_single_sent h) || has is_one_aborted h) k)
+
+-- who has just answered, answered
+owner_said : (e : ℕ) (o : Outcome) (x : Entry) → is_owner e o x ≡ true → is_answered o x ≡ true
+owner_said e o (OwnerAnswered f p) k = and_right (e == f.value) (same_outcome o p) k
+owner_said e o x k = absurd cc
+
+answer_stood : (c : Conn) (o : Outcome) (h : List Entry) → has_just_answered c o h ≡ true → has (is_answered o) h ≡ true
+answer_stood (Enl e) o h k = has_more (is_owner e.value o) (is_answered o) (owner_said e.value o) h (ends_has (is_owner e.value o) h k)
+answer_stood c o h k = absurd cc
+
 message_caused : (h : List Entry) (c : Conn) (m : Message) → message_row h c m ≡ true → has_cause h m ≡ true
 message_caused h c BeginAbort k =
-    or_case (is_abort_decided h) (ends_with is_abort_request h) (λ a. or_left (is_abort_decided h) (ends_requested h) a) (λ a. or_right (is_abort_decided h) (ends_requested h) (request_ends h a)) k
-message_caused h c BeginAborted k = or_left (coordinator_aborted h) (has is_restart h) k
-message_caused h c VoterNo k = k
-message_caused h c (VoterRefused cause) k = or_left (coordinator_aborted h) (has is_restart h) k
-message_caused h c VoterAbort k = or_left (coordinator_aborted h) (has is_restart h) k
+    or_case (is_abort_decided h) (ends_with is_abort_request h) (λ a. or_left (is_abort_decided h) (ends_requested h) a) (λ a. or_right (is_abort_decided h) (ends_requested h) (request_ends h a))
+    (and_left (is_abort_decided h || ends_with is_abort_request h) (not (has is_commit_sent h)) k)
+message_caused h c BeginAborted k = good_abort h k
+message_caused h c BeginInDoubt k = k
+message_caused h c VoterNo k = and_left (is_abort_decided h) (not (has is_yes_sent h)) k
+message_caused h c (VoterRefused cause) k = good_abort h k
+message_caused h c VoterAbort k = good_abort h k
+message_caused h c VoterInDoubt k = k
 message_caused h c EnlistNo k = has_more (is_cast c No) is_no_vote (cast_no c) h k
-message_caused h c (EnlistRefused cause) k = or_left (coordinator_aborted h) (has is_restart h) k
-message_caused h c EnlistAbort k = or_left (coordinator_aborted h) (has is_restart h) k
+message_caused h c (EnlistRefused cause) k = good_abort h k
+message_caused h c EnlistAbort k = good_abort h k
+message_caused h c EnlistOneAborted k = answer_stood c Aborted h k
+message_caused h c EnlistOneInDoubt k = answer_stood c InDoubt h k
 message_caused h c ReenlistAborted k = or_left (coordinator_aborted h) (has is_restart h) k
 message_caused h c m k = refl
 
@@ -151,12 +171,12 @@ kept_caused = by_keeping is_caused at
         has_more (is_enlisted e.value) (is_made e.value any_class) (made_enlisted e.value) h
         (first_of_five (has (is_enlisted e.value) h) _ _ _ _ (newest (Voted e v) h k))
     at (OwnerAnswered e o) h k =
-        handed_made e.value h (keeps_before (OwnerAnswered e o) h k) (second_of_three (not (has is_decision h)) (has (is_hand e.value) h) (not (has is_answer h)) (newest (OwnerAnswered e o) h k))
+        handed_made e.value h (keeps_before (OwnerAnswered e o) h k) (second_of_three (may_answer h) (has (is_hand e.value) h) (not (has is_answer h)) (newest (OwnerAnswered e o) h k))
     at (PromoteReply e ok) h k =
         sym (listed_made e.value is_promotable h) ∙ and_right (not (has is_decision h) && is_under_way h) (stands_promotable e.value h) (newest (PromoteReply e ok) h k)
     at (Requested e r) h k =
         sym (listed_made e.value is_promotable h)
-        ∙ fourth_of_four (not (has is_decision h)) (has is_promoted h) (has is_sealed h) (stands_promotable e.value h) (newest (Requested e r) h k)
+        ∙ and_left (stands_promotable e.value h) (not (has is_request h)) (fourth_of_four (not (has is_decision h)) (has is_promoted h) (has is_sealed h) _ (newest (Requested e r) h k))
     at PromotionFailed h k = and_right (is_under_way h) (ends_refused h) (newest PromotionFailed h k)
     at (Decided o) h k = decided_caused h o (and_right (not (has is_decision h)) (decision_row h o) (newest (Decided o) h k))
     at (Told p o) h k = told_caused h p o (newest (Told p o) h k)

@@ -4,7 +4,7 @@ use Rattle.std.specs.Prelude.{find, if◌then◌else◌, not, is_some, length}
 use Rattle.std.proofs.lemmas.Bool.{false_from_ne_true, true_from_ne_false}
 use Rattle.dtx_values.specs.declared.entry.Ask.TheVariants.{Single}
 use Rattle.dtx_values.specs.declared.entry.Entry.{Entry}
-use Rattle.dtx_values.specs.declared.entry.Entry.TheVariants.{Promoting, PromoteReply, Sealed, Asked, LocalYes, Got, Requested, Decided, PromotionFailed, Told}
+use Rattle.dtx_values.specs.declared.entry.Entry.TheVariants.{Promoting, PromoteReply, Sealed, Asked, LocalYes, Got, Requested, PromotionFailed, Told}
 use Rattle.dtx_values.specs.declared.entry.Party.TheVariants.{Client}
 use Rattle.dtx_values.specs.declared.entry.Request.TheVariants.{Commit, Abort}
 use Rattle.dtx_values.specs.declared.message.Conn.{Conn}
@@ -22,7 +22,7 @@ use Rattle.dtx_values.specs.Ends.{tag_of, was_got}
 use Rattle.dtx_values.specs.Waves.{name_of, is_over, next_ask, zeros_voted, all_voted}
 use Rattle.dtx_model.specs.declared.waiting.Wanted.TheVariants.{Identifier, Place}
 use Rattle.dtx_model.specs.Words.{has, each, latest}
-use Rattle.dtx_model.specs.Entries.{is_decision, decision_of, is_promoted, is_sealed, is_commit, is_yes, client_told_of, is_client_told}
+use Rattle.dtx_model.specs.Entries.{is_decision, decision_of, is_lost, is_owner_answer, is_promoted, is_sealed, is_commit, is_vote, is_yes, client_told_of, is_client_told}
 use Rattle.dtx_model.specs.Observed.{rows, handover, is_promote_reply, is_request, cause_of_promotion, observe, is_ask_promote, is_promotion_failed, clone_rows, ends_of}
 use Rattle.dtx_model.specs.Promotes.{is_promoting, is_under_way}
 use Rattle.dtx_model.specs.Tied.{is_logged}
@@ -32,9 +32,9 @@ use Rattle.dtx_model.specs.declared.waiting.EnteredCall.{EnteredCall}
 use Rattle.dtx_model.specs.Waiting.{Waiter, waiting}
 use Rattle.dtx_model.specs.Half.{Half, is_handed, half_of, is_promoting as is_promoting_now}
 use Rattle.dtx_model.specs.Acts.{promotable_in, asked_act, undecided_act, ask_or, promoted_act, voter_act, act_by, act_entries, unasked_promotable, commit_sent, sealed_act, after_seal, yes_act, is_to_tell}
-use Rattle.dtx_model.proofs.Bools.{or_first, or_second, and_never, not_both, and_left, not_true, or_right, and_both, not_false}
-use Rattle.history_table.proofs.Messages.{BEGIN, ENLIST, COMMIT, VOTED, YES}
-use Rattle.history_table.proofs.EntryTests.{has_promotable, is_enlisted, undecided}
+use Rattle.dtx_model.proofs.Bools.{or_case, or_first, or_second, and_never, not_both, and_left, not_true, or_right, and_both, not_false}
+use Rattle.history_table.proofs.Messages.{BEGIN, ENLIST, COMMIT, COMMIT_ONE, COMMIT_TWO, PREPARE, VOTED, YES}
+use Rattle.history_table.proofs.EntryTests.{has_promotable, is_enlisted, is_volatile_made, undecided}
 use Rattle.history_table.proofs.Crossed.{is_sent_on, is_got_on}
 use Rattle.history_table.proofs.Scans.{find_none, has_less}
 use Rattle.history_table.proofs.Owned.{has_rows, handover_stands}
@@ -43,7 +43,7 @@ use Rattle.history_table.proofs.NextActs.{zeros_done, ones_done, told_all}
 use Rattle.settled_histories.proofs.Followed.{Demands, followed}
 use Rattle.settled_histories.proofs.Promoted.{while_open, enlisted_well, good_answer, climb, got_due, promoted}
 use Rattle.settled_histories.proofs.Rest.{IsQuiet, IsUnmoved, IsAtRest}
-use Rattle.settled_histories.proofs.Committed.{plain_first, IsOpen, open_before, IsLinked, is_commit_request, ask_got, commit_got, enlistment_asked, request_commits, seal_commits, vote_got, yes_got}
+use Rattle.settled_histories.proofs.Committed.{none_decided, plain_first, IsOpen, open_before, IsLinked, is_commit_request, ask_got, commit_got, enlistment_asked, request_commits, seal_commits, vote_got, yes_got}
 use Rattle.settled_histories.proofs.Fine.{IsFine, is_bad}
 use Rattle.settled_histories.proofs.Unblamed.{fine_before}
 use Rattle.settled_histories.proofs.MessageKinds.{ENLISTED, ENLIST_ANSWER, ASK}
@@ -51,8 +51,9 @@ use Rattle.settled_histories.proofs.Debts.{enlisted_next}
 use Rattle.settled_histories.proofs.Arrived.{arrived}
 use Rattle.settled_histories.proofs.Wired.{is_plain}
 use Rattle.settled_histories.proofs.Knowledge.{ask_heard}
-use Rattle.settled_histories.proofs.Stages.{IsOpenThere, open_unlogged}
-use Rattle.settled_histories.proofs.Foregoing.{yes_asked}
+use Rattle.settled_histories.proofs.LoneCommits.{IsAlone, single_hands}
+use Rattle.settled_histories.proofs.Stages.{IsOpenThere, either_phase, one_phase, open_unlogged}
+use Rattle.settled_histories.proofs.Foregoing.{prepared_two, voted_prepared, voted_two, yes_asked}
 use Rattle.settled_histories.proofs.Joined.{IsJoined}
 use Rattle.settled_histories.proofs.Recorded.{may_append}
 
@@ -201,11 +202,6 @@ cause_seen [] k = absurd cc
 cause_seen (Promoting c ∷ h) k = refl
 cause_seen (x ∷ h) k = cause_seen h k
 
-pub none_decided : (h : List Entry) → has is_decision h ≡ false → latest decision_of h ≡ None
-none_decided [] k = refl
-none_decided (Decided x ∷ h) k = absurd cc
-none_decided (x ∷ h) k = none_decided h k
-
 -- nothing is owed, and nothing on the way
 rest_quiet : (ks : List EnteredCall) (h : List Entry) → IsUnmoved ks h → IsQuiet h
 rest_quiet ks h r = record { paid = r.paying; free = r.free; empty = r.empty }
@@ -300,14 +296,34 @@ decided_at_rest ks h r = true_from_ne_false (has is_decision h) (λ u. climb_all
     answers o said true l = (r.unmoved.joined o.undecided).yes l
     answers o said false l = yes_got h (linked Voter h o refl l) w said
 
-    votes : IsOpen h → has is_logged h ≡ false → has (is_got_on Begin Up COMMIT) h ≡ true → (e : EnlNo) → has (is_got_on (Enl e) Up ENLIST) h ≡ true → (l : Bool) → is_lost_wire (Enl e) h ≡ l
+    votes : IsOpen h → has is_logged h ≡ false → has (is_got_on Begin Up COMMIT_TWO) h ≡ true → (e : EnlNo) → has (is_got_on (Enl e) Up ENLIST) h ≡ true → (l : Bool) → is_lost_wire (Enl e) h ≡ l
         → has (is_got_on (Enl e) Up VOTED) h ≡ true
     votes o n got e k true l = (r.unmoved.joined o.undecided).cast e l
     votes o n got e k false l =
         let own = linked (Enl e) h o refl l in
         vote_got e h (record { linked = own; lasting = r.lasting e k }) w (r.voted o.undecided n e (enlistment_asked e h own w (r.prepares o.undecided n got e k)))
 
-    -- and so the append is pending
+    -- in a single phase the one durable was handed the commit, and so it has answered
+    alone : has is_decision h ≡ false → IsOpenThere h → has (is_got_on Begin Up COMMIT_ONE) h ≡ true → has (is_got_on Voter Up YES) h ≡ true → ⊥
+    alone u t one answer =
+        let none = one_phase h t.once one in
+        let lone : IsAlone h =
+        record {
+          there = t;
+          undecided = u;
+          alone = none;
+          firm = λ e k. record { plain = refl; kept = false_from_ne_true (is_lost_wire (Enl e) h) (λ l. not_both (has (is_got_on Begin Up COMMIT_TWO) h) (voted_two e h t.fine.wired.run t.ordered ((r.unmoved.joined u).cast e l)) none) };
+          unlost = λ e k. false_from_ne_true (has (is_lost e.value) h) (λ l. not_both (has (is_got_on Begin Up COMMIT_TWO) h) (prepared_by e k (r.spared u e l)) none);
+        } in
+        let hand = single_hands h lone w answer in
+        not_both (has is_owner_answer h) (r.owned u hand.0 hand.1) (r.unanswered u)
+      where
+        prepared_by : (e : EnlNo) → has (is_got_on (Enl e) Up ENLIST) h ≡ true → has (is_vote e.value) h ≡ true → has (is_got_on Begin Up COMMIT_TWO) h ≡ true
+        prepared_by e k v =
+            or_case (has (is_volatile_made e.value) h) (has (is_got_on (Enl e) Down PREPARE) h) (λ q. absurd (not_both (has (is_volatile_made e.value) h) q (r.lasting e k)))
+            (λ q. prepared_two e h t.fine.wired.run t.ordered q) (voted_prepared e h t.sound v)
+
+    -- and for two phases the append is pending
     climb_all : has is_decision h ≡ false → IsOpen h → ⊥
     climb_all u o =
         let j = r.unmoved.joined u in
@@ -316,13 +332,14 @@ decided_at_rest ks h r = true_from_ne_false (has is_decision h) (λ u. climb_all
         let a = if_part (has is_commit h) (asked_act (half_of ks h)) [] r.asked (promote_stuck (half_of ks h) (unasked_promotable (observe h)) (open_act ks h r.unmoved u)).1 in
         let sealed = is_sealed_there ks h r u n (none_waiting ks h r.unmoved u) p a in
         let b = if_part (has is_promoted h) (promoted_act (half_of ks h) (promotable_in (rows h))) _ p (if_part (has is_sealed h) (sealed_act (half_of ks h)) _ sealed a) in
-        let there : IsOpenThere h = record { fine = r.unmoved.fine u; sound = r.unmoved.sound; ordered = r.unmoved.ordered; begun = r.begun; undecided = j.undecided } in
+        let there : IsOpenThere h = record { fine = r.unmoved.fine u; sound = r.unmoved.sound; ordered = r.unmoved.ordered; begun = r.begun; once = r.once; undecided = j.undecided } in
         let got = commits o p sealed b (is_lost_wire Begin h) refl in
         let ask = ask_heard h (r.unmoved.fine u).wired (asks there j got (is_lost_wire Voter h) refl) in
         let y = yes_stuck (next_ask (rows h) false) (all_voted (rows h)) (has is_yes h) _
         (if_part (was_got Voter (tag_of VoterAsk) (ends_of h)) (after_seal (half_of ks h) (yes_act (observe h))) [] ask (single_stuck (half_of ks h) (promotable_in (rows h)) b).0) in
         let answer = answers o (y.1 (ones_done (rows h) (r.answered u n) (r.zeros sealed) y.0)) (is_lost_wire Voter h) refl in
-        not_both (may_log (coordinate h)) (may_append h there got answer (λ e k. votes o n got e k (is_lost_wire (Enl e) h) refl)) r.append
+        or_case (has (is_got_on Begin Up COMMIT_ONE) h) (has (is_got_on Begin Up COMMIT_TWO) h) (λ one. alone u there one answer)
+        (λ two. not_both (may_log (coordinate h)) (may_append h there two answer (λ e k. votes o n two e k (is_lost_wire (Enl e) h) refl)) r.append) (either_phase h got)
 
 -- what the client was told where nothing bad came
 told_well : (h : List Entry) → has is_bad h ≡ false → is_some (latest client_told_of h) ≡ true → has (is_client_told Committed) h ≡ true

@@ -1,36 +1,34 @@
 -- The rungs after a promotion: COMMIT, ASK, YES, PREPARE, the votes, and the decision.
-use Rattle.std.proofs.Common.{◌≡◌, ◌∙◌, Bool, true, false, ◌&&◌, ◌||◌, List, ◌∷◌, refl, ap, sym, subst}
+use Rattle.std.proofs.Common.{◌≡◌, Bool, true, false, ◌&&◌, ◌||◌, List, [], ◌∷◌, None, refl, ap, sym, subst}
 use Rattle.std.specs.Prelude.{not}
 use Rattle.std.proofs.lemmas.Bool.{eqb-true}
 use Rattle.dtx_values.specs.declared.entry.Entry.{Entry}
-use Rattle.dtx_values.specs.declared.entry.Entry.TheVariants.{Enlisted, Voted, Requested, Sealed, LocalYes, Promoted, Sent, Got, Logged}
+use Rattle.dtx_values.specs.declared.entry.Entry.TheVariants.{Decided, Enlisted, Voted, Requested, Sealed, LocalYes, Promoted, Sent, Got}
 use Rattle.dtx_values.specs.declared.entry.Request.TheVariants.{Commit}
 use Rattle.dtx_values.specs.declared.message.Conn.{Conn}
 use Rattle.dtx_values.specs.declared.message.Conn.TheVariants.{Begin, Voter, Enl}
 use Rattle.dtx_values.specs.declared.message.Dir.{Dir}
 use Rattle.dtx_values.specs.declared.message.Dir.TheVariants.{Up, Down}
 use Rattle.dtx_values.specs.declared.message.Message.{Message}
-use Rattle.dtx_values.specs.declared.message.Message.TheVariants.{BeginCommit, BeginCommitted, EnlistPrepare, EnlistPrepared, EnlistReadonly}
+use Rattle.dtx_values.specs.declared.message.Message.TheVariants.{BeginCommit, BeginCommitOne, BeginCommitted, EnlistPrepare, EnlistPrepared, EnlistReadonly}
 use Rattle.dtx_values.specs.declared.number.EnlNo.{EnlNo}
 use Rattle.dtx_values.specs.declared.words.Vote.{Vote}
 use Rattle.dtx_values.specs.declared.words.Vote.TheVariants.{Yes, No, Done}
-use Rattle.dtx_model.specs.Words.{has, always}
-use Rattle.dtx_model.specs.Entries.{is_asked, is_decision, is_promoted, is_record, is_sealed, is_vote, is_yes}
-use Rattle.dtx_model.specs.Tied.{is_logged}
-use Rattle.dtx_model.specs.Wires.{WireRun}
+use Rattle.dtx_model.specs.Words.{has, always, latest}
+use Rattle.dtx_model.specs.Entries.{decision_of, is_asked, is_decision, is_promoted, is_sealed, is_vote, is_yes}
 use Rattle.dtx_model.specs.Observed.{ends_of}
-use Rattle.dtx_model.specs.Coordinated.{coordinate, is_active}
+use Rattle.dtx_model.specs.Coordinated.{accepts, coordinate, is_active, is_one}
 use Rattle.dtx_values.specs.Vote.{is_no}
 use Rattle.dtx_values.specs.Class.{is_promotable}
 use Rattle.dtx_values.specs.Ends.{knows, same_connection, same_direction}
 use Rattle.dtx_model.proofs.Bools.{and_left, and_right, and_both, not_false, not_true, not_both, or_case, or_first, or_second, or_right}
 use Rattle.settled_histories.proofs.Fine.{IsFine, is_bad}
 use Rattle.settled_histories.proofs.MessageKinds.{ASK, BEGUN, COMMITTED, CREATED, VOTE}
-use Rattle.history_table.proofs.Messages.{BEGIN, COMMIT, PREPARE, VOTED, YES}
+use Rattle.history_table.proofs.Messages.{COMMIT, PREPARE, VOTED, YES}
 use Rattle.history_table.proofs.EntryTests.{has_promotable, is_volatile_made}
 use Rattle.settled_histories.proofs.Debts.{knows_there}
 use Rattle.settled_histories.proofs.Knowledge.{knows_got, opening_known}
-use Rattle.settled_histories.proofs.Stages.{IsOpenThere, begin_got, earlier, record_logged, sent_known, stage_of, stage_seen, there_before}
+use Rattle.settled_histories.proofs.Stages.{IsOpenThere, earlier, first_accepted, first_active, one_asked, sent_known, there_before}
 use Rattle.settled_histories.proofs.Arrived.{arrived}
 use Rattle.dtx_model.proofs.Connections.{same_is}
 use Rattle.settled_histories.proofs.Followed.{Demands, followed}
@@ -41,7 +39,6 @@ use Rattle.settled_histories.proofs.Foregoing.{commit_promoted}
 use Rattle.settled_histories.proofs.Wired.{IsFirm, firm_before, firm_unended}
 use Rattle.settled_histories.proofs.Rest.{IsQuiet, is_sound}
 use Rattle.history_table.proofs.Crossed.{is_sent_on, is_got_on, got_sent}
-use Rattle.dtx_model.specs.AtLog.{is_restart}
 
 -- a history in which nothing is decided
 pub record IsOpen (h : List Entry) : Type 0 where
@@ -55,6 +52,11 @@ open_before x h r = record {
   undecided = or_second (is_decision x) (has is_decision h) r.undecided;
   sound = and_right (is_sound h x) (always is_sound h) r.sound;
 }
+
+pub none_decided : (h : List Entry) → has is_decision h ≡ false → latest decision_of h ≡ None
+none_decided [] k = refl
+none_decided (Decided x ∷ h) k = absurd cc
+none_decided (x ∷ h) k = none_decided h k
 
 -- the same, and a connection that is firm
 pub record IsLinked (c : Conn) (h : List Entry) : Type 0 where
@@ -86,26 +88,17 @@ promoted_created h s k = earlier is_sound is_promoted (λ h. has (is_got_on Vote
     at (Promoted u c) h s k = and_right (has (is_got_on Begin Down BEGUN) h) (has (is_got_on Voter Down CREATED) h) (and_left (has (is_got_on Begin Down BEGUN) h && has (is_got_on Voter Down CREATED) h) (not (has is_sealed h)) s)
     at x h s k = absurd cc
 
--- Row of the table of rules: COMMITTED is sent on b where there is a record.
-abbrev pub is_recorded_first : List Entry → Entry → Bool
-is_recorded_first past (Sent Begin Down BeginCommitted) = has is_record past
-is_recorded_first past x = true
+-- Row of the table of rules: COMMITTED is sent on b after a promotion.
+abbrev pub is_committed_well : List Entry → Entry → Bool
+is_committed_well past (Sent Begin Down BeginCommitted) = has is_promoted past
+is_committed_well past x = true
 
--- so it was sent after a promotion, where no restart came
-pub committed_promoted : (h : List Entry) → WireRun h → has is_restart h ≡ false → always is_sound h ≡ true → always is_recorded_first h ≡ true → has (is_sent_on Begin Down COMMITTED) h ≡ true → has is_promoted h ≡ true
-committed_promoted h run n s r k =
-    let recorded = earlier is_recorded_first (is_sent_on Begin Down COMMITTED) (λ h. has is_record h) (λ x h q. or_right (is_record x) (has is_record h) q) sent h r k in
-    let got = earlier is_sound is_logged (λ h. has (is_got_on Begin Up COMMIT) h) (λ x h q. or_right (is_got_on Begin Up COMMIT x) (has (is_got_on Begin Up COMMIT) h) q) logged h s
-    (record_logged h n recorded) in
-    commit_promoted h s (once_sent Begin Up COMMIT h run got)
+pub committed_promoted : (h : List Entry) → always is_committed_well h ≡ true → has (is_sent_on Begin Down COMMITTED) h ≡ true → has is_promoted h ≡ true
+committed_promoted h r k = earlier is_committed_well (is_sent_on Begin Down COMMITTED) (λ h. has is_promoted h) (λ x h q. or_right (is_promoted x) (has is_promoted h) q) sent h r k
   where
-    sent : (x : Entry) (h : List Entry) → is_recorded_first h x ≡ true → is_sent_on Begin Down COMMITTED x ≡ true → has is_record h ≡ true
+    sent : (x : Entry) (h : List Entry) → is_committed_well h x ≡ true → is_sent_on Begin Down COMMITTED x ≡ true → has is_promoted h ≡ true
     sent (Sent Begin Down BeginCommitted) h r k = r
     sent x h r k = absurd cc
-
-    logged : (x : Entry) (h : List Entry) → is_sound h x ≡ true → is_logged x ≡ true → has (is_got_on Begin Up COMMIT) h ≡ true
-    logged Logged h s k = s
-    logged x h s k = absurd cc
 
 -- a history in which nothing is decided at the coordinator, and whose v is firm
 pub record IsAsking (h : List Entry) : Type 0 where
@@ -122,11 +115,22 @@ ask_due BeginCommit past r k =
     let there = before.there in
     let sent : has (is_sent_on Begin Up COMMIT) past ≡ true = got_sent Begin Up BeginCommit COMMIT past r.there.fine.wired.run.0 refl in
     let known = heard_known Voter CREATED past there.fine before.firm there.sound (promoted_created past there.sound (commit_promoted past there.sound sent)) in
-    let begun : has (is_got_on Begin Up BEGIN) past ≡ true = begin_got COMMIT (Got Begin Up BeginCommit ∷ past) r.there.fine refl in
-    let active : is_active (coordinate past).stage ≡ true = ap is_active (stage_seen past there) ∙ ap (λ b. is_active (stage_of b)) begun in
+    let active : is_active (coordinate past).stage ≡ true = ap is_active (first_active BeginCommit past refl r.there) in
     record {
       test = is_sent_on Voter Down ASK;
       owed = if_so (is_active (coordinate past).stage && knows_there Voter past) (is_sent_on Voter Down ASK) (and_both (is_active (coordinate past).stage) (knows_there Voter past) active known);
+      serves = λ x s t. t;
+    }
+ask_due BeginCommitOne past r k =
+    let before = asking_before (Got Begin Up BeginCommitOne) past r in
+    let there = before.there in
+    let sent : has (is_sent_on Begin Up COMMIT) past ≡ true = got_sent Begin Up BeginCommitOne COMMIT past r.there.fine.wired.run.0 refl in
+    let known = heard_known Voter CREATED past there.fine before.firm there.sound (promoted_created past there.sound (commit_promoted past there.sound sent)) in
+    record {
+      test = is_sent_on Voter Down ASK;
+      owed = if_so (accepts (coordinate past) && is_one (coordinate past).desks && knows_there Voter past) (is_sent_on Voter Down ASK)
+          (and_both (accepts (coordinate past) && is_one (coordinate past).desks) (knows_there Voter past)
+          (and_both (accepts (coordinate past)) (is_one (coordinate past).desks) (first_accepted BeginCommitOne past refl r.there) (one_asked past r.there)) known);
       serves = λ x s t. t;
     }
 ask_due m past r k = absurd cc

@@ -12,7 +12,7 @@ use Rattle.dtx_values.specs.declared.message.Conn.TheVariants.{Begin, Enl, Again
 use Rattle.dtx_values.specs.declared.message.Dir.{Dir}
 use Rattle.dtx_values.specs.declared.message.Dir.TheVariants.{Up, Down}
 use Rattle.dtx_values.specs.declared.message.Message.{Message}
-use Rattle.dtx_values.specs.declared.message.Message.TheVariants.{BeginCommit, EnlistCommit, EnlistAbort, ReenlistReenlist, ReenlistCommitted, ReenlistAborted}
+use Rattle.dtx_values.specs.declared.message.Message.TheVariants.{EnlistCommit, EnlistAbort, ReenlistReenlist, ReenlistCommitted, ReenlistAborted}
 use Rattle.dtx_values.specs.declared.note.Reply.{Reply}
 use Rattle.dtx_values.specs.declared.number.EnlNo.{EnlNo}
 use Rattle.dtx_values.specs.declared.words.Outcome.{Outcome}
@@ -34,6 +34,7 @@ use Rattle.dtx_model.proofs.Writes.{Each, e_one, IsClosed, each_closed, Source, 
 use Rattle.dtx_model.proofs.Blocks.{of_core_got, of_core_down, of_coordinates, of_restarted, of_veto, of_unless, of_local_down, of_arrived, of_whole_act, of_reply, of_gone_decides, of_cuts, of_called}
 use Rattle.dtx_model.proofs.Bools.{and_both, and_right, not_both, or_first, or_second}
 use Rattle.dtx_values.specs.Lines.{has_line}
+use Rattle.dtx_model.specs.Entries.{is_commit_message}
 use Rattle.dtx_model.specs.Calls.{is_gone_call}
 
 -- the message opens the connection of a reenlistment
@@ -96,11 +97,15 @@ pub common_ended_at : (w : World) (c : Conn) (d : Dir) → Common (ended_at w c 
 common_ended_at w c Up = of_core_down (common.lists []) (core w) c common_sent
 common_ended_at w c Down = of_local_down common (half w) c
 
+commit_common : (m : Message) → is_commit_message m ≡ true → not (is_reenlist m) ≡ true
+commit_common (ReenlistReenlist i) t = absurd cc
+commit_common _ t = refl
+
 -- the local act while nothing is decided
 pub common_act : (h : Half) → h.seen.decided ≡ None → Common (act_entries h)
 common_act h d =
     of_whole_act common h (common_entry (ByAct (is_some h.seen.decided)) refl (ap is_some d) refl refl) (λ e. e_one (Asked e Promote) refl) (λ e. e_one (Asked e AskSingle) refl) (e_one Sealed refl)
-    (e_one (Sent Begin Up BeginCommit) refl)
+    (λ m t. e_one (Sent Begin Up m) (commit_common m t))
 
 pub common_reply : (h : Half) (e : EnlNo) (r : Reply) → Common (reply_entries h e r)
 common_reply h e r = of_reply common h e r (common_entry (ByReply r) refl refl refl refl)

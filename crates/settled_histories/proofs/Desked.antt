@@ -7,24 +7,25 @@ use Rattle.dtx_values.specs.declared.entry.Entry.{Entry}
 use Rattle.dtx_values.specs.declared.entry.Entry.TheVariants.{Got, Restarted, Freed, Logged}
 use Rattle.dtx_values.specs.declared.message.Conn.TheVariants.{Enl, Again}
 use Rattle.dtx_values.specs.declared.message.Dir.TheVariants.{Up}
-use Rattle.dtx_values.specs.declared.message.Message.TheVariants.{EnlistAck, EnlistEnlist, EnlistNo, ReenlistAck, EnlistPrepared, EnlistReadonly}
+use Rattle.dtx_values.specs.declared.message.Message.TheVariants.{EnlistAck, EnlistEnlist, EnlistNo, EnlistOneAborted, ReenlistAck, EnlistPrepared, EnlistReadonly}
 use Rattle.dtx_values.specs.declared.number.EnlNo.{EnlNo}
 use Rattle.dtx_values.specs.Table.{insert_by}
 use Rattle.dtx_model.specs.declared.desk.Ballot.{Ballot}
 use Rattle.dtx_model.specs.declared.desk.Ballot.TheVariants.{Refused, Prepared, ReadOnly}
 use Rattle.dtx_model.specs.declared.desk.Desk.{Desk}
 use Rattle.dtx_model.specs.declared.desk.Stage.{Stage}
-use Rattle.dtx_model.specs.declared.desk.Stage.TheVariants.{Active, Idle}
+use Rattle.dtx_model.specs.declared.desk.Stage.TheVariants.{Aborted, Active, Answered, Given, Idle, Over, Recorded, Sole, Unknown}
 use Rattle.dtx_model.specs.Words.{has, each, latest, holds}
-use Rattle.dtx_model.specs.Entries.{is_record, is_vote_got, is_commit_got}
+use Rattle.dtx_model.specs.Entries.{is_record, is_vote_got, is_commit_got, is_two_phase_got}
 use Rattle.dtx_model.specs.Learned.{coordinator_aborted}
 use Rattle.dtx_model.specs.Tied.{can_log, is_ready_got, mark_of, is_unmarked, before_first_stop, is_logged, has_mark}
-use Rattle.dtx_model.specs.Coordinated.{coordinate, has_aborted, is_undecided, is_desk_of, with_ballot, abort_if, accepts, ballot_of, desk_number, follow, is_active, with_ack, has_voted, is_prepared, desks_after, kept_desks, unacked}
+use Rattle.dtx_model.specs.Coordinated.{coordinate, decides, has_aborted, hears_one, stage_if, is_undecided, is_desk_of, with_ballot, abort_if, accepts, ballot_of, desk_number, follow, is_active, with_ack, has_voted, is_prepared, desks_after, kept_desks, unacked}
 use Rattle.dtx_model.proofs.Bools.{not_both, not_false, and_both, and_left, and_right, or_case, or_right, not_true}
 use Rattle.history_table.proofs.Keeping.{Keeps, newest_tied, keeps_before, newest}
-use Rattle.history_table.proofs.Recording.{can_live, can_unstopped, can_ready, named, can_commit, if_record, live_if_record}
-use Rattle.history_table.proofs.CoreStages.{has_recorded, abort_decided, changed, each_if, open_before, restart_open, active_open}
-use Rattle.history_table.proofs.CoreKnown.{aborted_there, record_seen, vote_kept, has_made, aborts_there, has_if}
+use Rattle.history_table.proofs.Recording.{can_live, can_two_phase, can_unstopped, can_ready, named, can_commit, if_record, live_if_record}
+use Rattle.history_table.proofs.LetDecide.{one_apart}
+use Rattle.history_table.proofs.CoreStages.{has_recorded, is_after_one, one_if_after, changed, each_if, open_before, restart_open, active_open}
+use Rattle.history_table.proofs.CoreKnown.{abort_decided, aborted_there, record_seen, vote_kept, has_made, aborts_there, has_if, refuses_there}
 use Rattle.history_table.proofs.Lists.{each-insert, has-insert}
 use Rattle.history_table.proofs.Managed.{is_prepared_desk}
 use Rattle.history_table.proofs.Scans.{has_more}
@@ -37,13 +38,19 @@ use Rattle.settled_histories.proofs.Finished.{is_finished, desks_done, is_done_d
 -- Where an append may come, nothing is decided.
 able_open : (h : List Entry) → Keeps h → can_log h ≡ true → is_undecided (coordinate h).stage ≡ true
 able_open h k c =
-    by (coordinate h).stage (false_from_ne_true (has_aborted (coordinate h).stage) (λ a. not_both (coordinator_aborted h) (aborted_there h k a) (can_live h c)))
+    by (coordinate h).stage (false_from_ne_true (is_after_one (coordinate h).stage) (λ o. not_both (has is_two_phase_got h) (can_two_phase h c) (one_apart h k (one_if_after h o)))) (false_from_ne_true (has_aborted (coordinate h).stage) (λ a. not_both (coordinator_aborted h) (aborted_there h k a) (can_live h c)))
     (false_from_ne_true (has_recorded (coordinate h).stage) (λ r. not_both (has is_record h) (record_seen h k r) (unmarked_unrecorded h (calm_unmarked h k (can_unstopped h c) (can_unlogged h c)))))
   where
-    by : (s : Stage) → has_aborted s ≡ false → has_recorded s ≡ false → is_undecided s ≡ true
-    by Idle a r = refl
-    by Active a r = refl
-    by _ a r = absurd cc
+    by : (s : Stage) → is_after_one s ≡ false → has_aborted s ≡ false → has_recorded s ≡ false → is_undecided s ≡ true
+    by Idle o a r = refl
+    by Active o a r = refl
+    by Sole o a r = refl
+    by Given o a r = absurd cc
+    by Answered o a r = absurd cc
+    by Aborted o a r = absurd cc
+    by Recorded o a r = absurd cc
+    by Over o a r = absurd cc
+    by Unknown o a r = absurd cc
 
 -- While nothing is decided, no desk said NO.
 abbrev is_refused : Option Ballot → Bool
@@ -74,6 +81,11 @@ none_refused (Got (Enl f) Up EnlistAck ∷ h) u =
 none_refused (Got (Again f) Up ReenlistAck ∷ h) u =
     changed is_unrefused is_unrefused (with_ack f.value) (λ d t. t) (coordinate h).desks (none_refused h (open_before (coordinate h) (Got (Again f) Up ReenlistAck) u))
 none_refused (Got (Enl f) Up EnlistNo ∷ h) u = absurd (not_both (is_undecided (abort_if true (coordinate h).stage)) u (abort_decided true (coordinate h).stage refl))
+none_refused (Got (Enl f) Up EnlistOneAborted ∷ h) u = absurd (refused (is_undecided (coordinate h).stage) (decides (coordinate h) f.value) (open_before (coordinate h) (Got (Enl f) Up EnlistOneAborted) u) u)
+  where
+    refused : (a b : Bool) → a ≡ true → is_undecided (stage_if (a || b) Aborted (coordinate h).stage) ≡ true → ⊥
+    refused true b q u = absurd cc
+    refused false b q u = absurd cc
 none_refused (Got (Enl f) Up m ∷ h) u =
     let rest = none_refused h (open_before (coordinate h) (Got (Enl f) Up m) u) in
     each_if is_unrefused (is_active (coordinate h).stage) (map (with_ballot f.value (ballot_of m)) (coordinate h).desks) (coordinate h).desks
@@ -227,6 +239,17 @@ desk_kept e (Got (Enl f) Up EnlistNo) h k t = by (is_active (coordinate h).stage
         (or_right (is_gone (latest mark_of h)) (coordinator_aborted (x ∷ h)) (aborts_there h (keeps_before x h k) x (active_open (coordinate h).stage q)))
     by false q =
         let x = Got (Enl f) Up EnlistNo in
+        let p = is_prepared_desk e.value in
+        let P : Bool → Type 0 = λ b. has p (if b then map (with_ballot f.value (Some Refused)) (coordinate h).desks else (coordinate h).desks) ≡ true in
+        stays_placed (is_finished e.value (x ∷ h)) (has p (desks_after (coordinate h) x)) (is_past (x ∷ h)) (subst P (sym q) t)
+desk_kept e (Got (Enl f) Up EnlistOneAborted) h k t = by (hears_one (coordinate h) f.value) refl
+  where
+    by : (b : Bool) → hears_one (coordinate h) f.value ≡ b → is_still_placed e (Got (Enl f) Up EnlistOneAborted ∷ h) ≡ true
+    by true q =
+        let x = Got (Enl f) Up EnlistOneAborted in
+        or_right (is_placed e (x ∷ h)) (is_past (x ∷ h)) (or_right (is_gone (latest mark_of h)) (coordinator_aborted (x ∷ h)) (refuses_there h (keeps_before x h k) f q))
+    by false q =
+        let x = Got (Enl f) Up EnlistOneAborted in
         let p = is_prepared_desk e.value in
         let P : Bool → Type 0 = λ b. has p (if b then map (with_ballot f.value (Some Refused)) (coordinate h).desks else (coordinate h).desks) ≡ true in
         stays_placed (is_finished e.value (x ∷ h)) (has p (desks_after (coordinate h) x)) (is_past (x ∷ h)) (subst P (sym q) t)

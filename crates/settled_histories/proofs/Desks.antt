@@ -1,14 +1,14 @@
 -- Until COMMIT is got, the coordinator knows each desk's connection; and it has a desk for each ENLIST that it got.
 use Rattle.std.proofs.Common.{◌≡◌, ◌∙◌, ℕ, ◌==◌, Bool, true, false, ◌&&◌, ◌||◌, List, [], ◌∷◌, Option, Some, None, refl}
 use Rattle.std.specs.Prelude.{not, map, if◌then◌else◌}
-use Rattle.std.proofs.lemmas.Bool.{or_left}
+use Rattle.std.proofs.lemmas.Bool.{false_from_ne_true, or_left}
 use Rattle.dtx_values.specs.declared.entry.Entry.{Entry}
 use Rattle.dtx_values.specs.declared.entry.Entry.TheVariants.{Got, Down as End, Stopped, Restarted}
 use Rattle.dtx_values.specs.declared.message.Conn.{Conn}
 use Rattle.dtx_values.specs.declared.message.Conn.TheVariants.{Begin, Voter, Enl, Again}
 use Rattle.dtx_values.specs.declared.message.Dir.TheVariants.{Up, Down}
 use Rattle.dtx_values.specs.declared.message.Message.{Message}
-use Rattle.dtx_values.specs.declared.message.Message.TheVariants.{BeginCommit, EnlistEnlist, EnlistPrepared, EnlistNo, EnlistReadonly, EnlistAck, ReenlistAck}
+use Rattle.dtx_values.specs.declared.message.Message.TheVariants.{EnlistEnlist, EnlistOneAborted, EnlistPrepared, EnlistNo, EnlistReadonly, EnlistAck, ReenlistAck}
 use Rattle.dtx_values.specs.declared.number.EnlNo.{EnlNo}
 use Rattle.dtx_values.specs.Ends.{order_of, same_connection}
 use Rattle.dtx_values.specs.Lines.{has_line, is_opening}
@@ -16,18 +16,19 @@ use Rattle.dtx_values.specs.Table.{insert_by}
 use Rattle.dtx_model.specs.declared.desk.Ballot.{Ballot}
 use Rattle.dtx_model.specs.declared.desk.Desk.{Desk}
 use Rattle.dtx_model.specs.Words.{has, each, always}
-use Rattle.dtx_model.specs.Entries.{is_commit_got, is_vote_got}
+use Rattle.dtx_model.specs.Entries.{is_any_single_sent, is_single_sent, is_vote_got}
 use Rattle.dtx_model.specs.Coordinated.{accepts, ballot_of, coordinate, desk_number, desks_after, follow, is_active, is_desk_of, known_after, with_ack, with_ballot, without}
-use Rattle.dtx_model.proofs.Bools.{and_left, or_case, or_false, or_first, or_second, or_right, not_both, not_true}
+use Rattle.dtx_model.proofs.Bools.{and_left, or_case, or_first, or_second, or_right, not_both, not_true}
 use Rattle.history_table.proofs.Lists.{has-insert}
-use Rattle.history_table.proofs.Scans.{each_more}
+use Rattle.history_table.proofs.Scans.{each_more, has_less}
 use Rattle.history_table.proofs.Messages.{COMMIT, ENLIST, VOTED}
 use Rattle.settled_histories.proofs.Fine.{IsFine, is_bad, is_spared}
 use Rattle.settled_histories.proofs.Rest.{is_ordered}
 use Rattle.settled_histories.proofs.Wired.{newest}
 use Rattle.dtx_model.proofs.Connections.{same_self}
 use Rattle.settled_histories.proofs.Knowledge.{elsewhere, known_still, known_without}
-use Rattle.settled_histories.proofs.Stages.{IsOpenThere, active_at, there_before}
+use Rattle.settled_histories.proofs.Stages.{IsOpenThere, active_at, commit_unseen, committed_one, single_committed, there_before, uncommitted_one}
+use Rattle.history_table.proofs.LetDecide.{single_any}
 use Rattle.settled_histories.proofs.Recorded.{each_changed}
 use Rattle.history_table.proofs.Managed.{each_inserted}
 use Rattle.settled_histories.proofs.Foregoing.{voted_commit}
@@ -56,12 +57,16 @@ voted_well e (x ∷ h) u k =
 unended : (e : EnlNo) (d : Conn) (h : List Entry) → IsOpenThere (End d Up ∷ h) → has (is_got_on Begin Up COMMIT) h ≡ false → same_connection (Enl e) d ≡ false
 unended e (Enl f) h r n =
     let b = there_before (End (Enl f) Up) h r in
-    let voted : has (is_vote_got f.value) h ≡ true = spared (has (is_vote_got f.value) h) (and_left (is_spared h (End (Enl f) Up)) (always is_spared h) r.fine.spared) in
+    let early : has is_any_single_sent h ≡ false =
+    false_from_ne_true (has is_any_single_sent h) (λ q. not_both (has (is_got_on Begin Up COMMIT) h) (committed_one h (single_committed h b.ordered q)) n) in
+    let voted : has (is_vote_got f.value) h ≡ true =
+    spared (has (is_vote_got f.value) h) (has (is_single_sent f.value) h) (has_less (is_single_sent f.value) is_any_single_sent (single_any f.value) h early) (and_left (is_spared h (End (Enl f) Up)) (always is_spared h) r.fine.spared) in
     absurd (not_both (has (is_got_on Begin Up COMMIT) h) (voted_commit f h b.fine.wired.run b.ordered (voted_well f h b.fine.unbad voted)) n)
   where
-    spared : (a : Bool) → not (not a) ≡ true → a ≡ true
-    spared true k = refl
-    spared false k = k
+    spared : (a s : Bool) → s ≡ false → not (not a && not s) ≡ true → a ≡ true
+    spared true s n k = refl
+    spared false true n k = absurd cc
+    spared false false n k = absurd cc
 unended e Begin h r n = refl
 unended e Voter h r n = refl
 unended e (Again f) h r n = refl
@@ -120,19 +125,13 @@ desks_known (x ∷ h) r n =
         ∙ or_left (same_connection (Enl e) (Enl e)) (has (same_connection (Enl e)) (without (Enl e) (coordinate h).known)) (same_self (Enl e))) k) k
     changed (Got (Enl e) Up EnlistAck) f k = each_changed (is_desk_known (coordinate h).known) (is_desk_known (coordinate h).known) (with_ack e.value) (λ d q. q) (coordinate h).desks k
     changed (Got (Again e) Up ReenlistAck) f k = each_changed (is_desk_known (coordinate h).known) (is_desk_known (coordinate h).known) (with_ack e.value) (λ d q. q) (coordinate h).desks k
+    changed (Got (Enl e) Up EnlistOneAborted) f k = let q : true ≡ false = f.unbad in absurd cc
     changed (Got (Enl e) Up m) f k =
         let p = is_desk_known (known_after (Got (Enl e) Up m) (coordinate h).known) in
         both (is_active (coordinate h).stage) (map (with_ballot e.value (ballot_of m)) (coordinate h).desks) (coordinate h).desks p
         (each_changed p p (with_ballot e.value (ballot_of m)) (balloted (known_after (Got (Enl e) Up m) (coordinate h).known) e.value m) (coordinate h).desks k) k
     changed (Restarted b) f k = absurd cc
     changed x f k = k
-
--- COMMIT isn't noted where it wasn't got
-commit_unseen : (h : List Entry) → has (is_got_on Begin Up COMMIT) h ≡ false → (coordinate h).commit ≡ false
-unfolding coordinate follow
-commit_unseen [] k = refl
-commit_unseen (Got Begin Up BeginCommit ∷ h) k = absurd cc
-commit_unseen (x ∷ h) k = or_false (is_commit_got x && is_active (coordinate h).stage) (coordinate h).commit refl (commit_unseen h (or_second (is_got_on Begin Up COMMIT x) (has (is_got_on Begin Up COMMIT) h) k))
 
 -- a desk keeps its name
 named_ballot : (n e : ℕ) (o : Option Ballot) (d : Desk) → is_desk_of n d ≡ true → is_desk_of n (with_ballot e o d) ≡ true
@@ -160,7 +159,7 @@ desk_there e (Got (Enl f) Up (EnlistEnlist i) ∷ h) r k =
     let x = Got (Enl f) Up (EnlistEnlist i) in
     let before = there_before x h r in
     let early : has (is_got_on Begin Up COMMIT) h ≡ false = not_true (has (is_got_on Begin Up COMMIT) h) (and_left (not (has (is_got_on Begin Up COMMIT) h)) (always is_ordered h) r.ordered) in
-    rw (active_at (Enl f) (EnlistEnlist i) h refl before r.fine.wired.run.0, commit_unseen h early)
+    rw (active_at (Enl f) (EnlistEnlist i) h refl before r.fine.wired.run.0 (uncommitted_one h early), commit_unseen h early)
     (has-insert (is_desk_of e.value) desk_number (record { enlistment = f; manager = i.rm; ballot = None; acked = false }) (coordinate h).desks
     ∙ (or_case ((e.value == f.value) && true && true) (has (is_got_on (Enl e) Up ENLIST) h)
     (λ q. or_left (e.value == f.value) (has (is_desk_of e.value) (coordinate h).desks) (and_left (e.value == f.value) true (and_left ((e.value == f.value) && true) true q)))
@@ -169,6 +168,7 @@ desk_there e (Got (Enl f) Up EnlistAck ∷ h) r k =
     has_made (is_desk_of e.value) (is_desk_of e.value) (with_ack f.value) (λ d q. q) (coordinate h).desks (desk_there e h (there_before (Got (Enl f) Up EnlistAck) h r) (later (e.value == f.value) (has (is_got_on (Enl e) Up ENLIST) h) k))
 desk_there e (Got (Again f) Up ReenlistAck ∷ h) r k =
     has_made (is_desk_of e.value) (is_desk_of e.value) (with_ack f.value) (λ d q. q) (coordinate h).desks (desk_there e h (there_before (Got (Again f) Up ReenlistAck) h r) k)
+desk_there e (Got (Enl f) Up EnlistOneAborted ∷ h) r k = let q : true ≡ false = r.fine.unbad in absurd cc
 desk_there e (Got (Enl f) Up m ∷ h) r k =
     let there = desk_there e h (there_before (Got (Enl f) Up m) h r) (later (e.value == f.value) (has (is_got_on (Enl e) Up ENLIST) h) k) in
     either (is_active (coordinate h).stage) (is_desk_of e.value) (map (with_ballot f.value (ballot_of m)) (coordinate h).desks) (coordinate h).desks

@@ -6,9 +6,9 @@ use Rattle.dtx_values.specs.declared.entry.Entry.TheVariants.{Enlisted, Rollback
 use Rattle.dtx_values.specs.declared.entry.Request.TheVariants.{Abort}
 use Rattle.dtx_values.specs.declared.message.Conn.{Conn}
 use Rattle.dtx_values.specs.declared.message.Conn.TheVariants.{Begin, Voter, Enl, Again}
-use Rattle.dtx_values.specs.declared.message.Dir.TheVariants.{Down}
+use Rattle.dtx_values.specs.declared.message.Dir.TheVariants.{Down, Up}
 use Rattle.dtx_values.specs.declared.message.Message.{Message}
-use Rattle.dtx_values.specs.declared.message.Message.TheVariants.{BeginAbort, BeginAborted, VoterNo, VoterRefused, VoterAbort, EnlistNo, EnlistRefused, EnlistAbort, ReenlistAborted}
+use Rattle.dtx_values.specs.declared.message.Message.TheVariants.{BeginAbort, BeginAborted, BeginCommitOne, BeginInDoubt, VoterNo, VoterRefused, VoterAbort, VoterInDoubt, EnlistNo, EnlistRefused, EnlistAbort, EnlistOneAborted, EnlistOneInDoubt, ReenlistAborted}
 use Rattle.dtx_values.specs.declared.words.Class.{Class}
 use Rattle.dtx_values.specs.declared.words.Outcome.{Outcome}
 use Rattle.dtx_values.specs.declared.words.Outcome.TheVariants.{Committed, Aborted, InDoubt}
@@ -18,22 +18,28 @@ use Rattle.dtx_model.specs.Words.{has, always, latest}
 use Rattle.dtx_model.specs.Entries.{decision_of, same_outcome}
 use Rattle.dtx_model.specs.History.{is_asked_in_time}
 use Rattle.dtx_model.specs.Learned.{coordinator_aborted}
-use Rattle.dtx_model.specs.Outcome.{can_own, doubt, is_veto_end}
+use Rattle.dtx_model.specs.Outcome.{can_own, doubt, is_lone, is_veto_end, single_doubt}
 use Rattle.dtx_model.specs.Promotes.{ends_refused}
 use Rattle.dtx_model.specs.Wires.{is_stopped}
 use Rattle.history_table.proofs.EntryTests.{is_decided, is_no_vote}
+use Rattle.history_table.proofs.Handed.{is_answered}
+use Rattle.history_table.proofs.Table.{is_one_in_doubt}
 use Rattle.settled_histories.proofs.Wired.{IsWired}
 use Rattle.dtx_model.specs.AtLog.{is_restart}
 
 abbrev pub is_bad_message : Message → Bool
 is_bad_message BeginAbort = true
 is_bad_message BeginAborted = true
+is_bad_message BeginInDoubt = true
 is_bad_message VoterNo = true
 is_bad_message (VoterRefused c) = true
 is_bad_message VoterAbort = true
+is_bad_message VoterInDoubt = true
 is_bad_message EnlistNo = true
 is_bad_message (EnlistRefused c) = true
 is_bad_message EnlistAbort = true
+is_bad_message EnlistOneAborted = true
+is_bad_message EnlistOneInDoubt = true
 is_bad_message ReenlistAborted = true
 is_bad_message _ = false
 
@@ -84,12 +90,18 @@ abbrev pub is_spared_down : List Entry → Entry → Bool
 is_spared_down past (End c Down) = not (is_veto_end past c Down)
 is_spared_down past _ = true
 
--- a history in which the coordinator never stopped, nothing bad came, and no end was a veto
+-- where COMMIT for a single phase is got, exactly one enlistment came
+abbrev pub is_lone_asked : List Entry → Entry → Bool
+is_lone_asked past (Got Begin Up BeginCommitOne) = is_lone past
+is_lone_asked past _ = true
+
+-- a history in which the coordinator never stopped, nothing bad came, no end was a veto, and exactly one was asked to decide alone
 pub record IsFine (h : List Entry) : Type 0 where
   pub wired : IsWired h
   pub in_time : always is_asked_in_time h ≡ true
   pub unbad : has is_bad h ≡ false
   pub spared : always is_spared h ≡ true
+  pub lone : always is_lone_asked h ≡ true
 
 -- an enlistment of this number was made, with a class that passes
 abbrev pub is_made : ℕ → (Class → Bool) → Entry → Bool
@@ -113,11 +125,16 @@ ends_aborted (Got (Enl e) Down EnlistAbort ∷ h) = true
 ends_aborted (Got (Again e) Down ReenlistAborted ∷ h) = true
 ends_aborted _ = false
 
--- a message that is sent: an abort or a No of the local side for its cause, and what else is bad where the coordinator has aborted or was started again
+-- a message that is sent: an abort, a No or an owner's answer of the local side for its cause, the coordinator's doubt where the one that it let decide was in doubt or was lost, and what else is bad
+-- where the coordinator has aborted or was started again
 abbrev pub has_cause : List Entry → Message → Bool
 has_cause h BeginAbort = is_decided Aborted (latest decision_of h) || ends_requested h
 has_cause h VoterNo = is_decided Aborted (latest decision_of h)
 has_cause h EnlistNo = has is_no_vote h
+has_cause h EnlistOneAborted = has (is_answered Aborted) h
+has_cause h EnlistOneInDoubt = has (is_answered InDoubt) h
+has_cause h BeginInDoubt = single_doubt h || has is_one_in_doubt h
+has_cause h VoterInDoubt = single_doubt h || has is_one_in_doubt h
 has_cause h m = not (is_bad_message m) || coordinator_aborted h || has is_restart h
 
 -- Rows of the table of rules: whoever replies was made with a class that does, and what is bad has its cause.

@@ -12,7 +12,7 @@ use Rattle.dtx_values.specs.declared.message.Conn.TheVariants.{Enl, Again, Begin
 use Rattle.dtx_values.specs.declared.message.Dir.{Dir}
 use Rattle.dtx_values.specs.declared.message.Dir.TheVariants.{Up, Down}
 use Rattle.dtx_values.specs.declared.message.Message.{Message}
-use Rattle.dtx_values.specs.declared.message.Message.TheVariants.{EnlistCommit, EnlistEnlist, EnlistEnlisted, ReenlistCommitted, EnlistAck, EnlistReadonly, ReenlistAck}
+use Rattle.dtx_values.specs.declared.message.Message.TheVariants.{EnlistCommit, EnlistEnlist, EnlistEnlisted, ReenlistCommitted, EnlistAck, EnlistOneAborted, EnlistReadonly, ReenlistAck}
 use Rattle.dtx_values.specs.declared.number.EnlNo.{EnlNo}
 use Rattle.dtx_values.specs.declared.row.Row.{Row}
 use Rattle.dtx_values.specs.declared.words.Outcome.TheVariants.{Aborted}
@@ -26,14 +26,15 @@ use Rattle.dtx_values.specs.declared.message.Info.{Info}
 use Rattle.dtx_values.specs.Lines.{is_opening}
 use Rattle.dtx_model.specs.declared.branch.Branch.{Branch}
 use Rattle.dtx_model.specs.declared.desk.Ballot.{Ballot}
-use Rattle.dtx_model.specs.declared.desk.Ballot.TheVariants.{ReadOnly}
+use Rattle.dtx_model.specs.declared.desk.Ballot.TheVariants.{ReadOnly, Refused}
 use Rattle.dtx_model.specs.declared.desk.Desk.{Desk}
-use Rattle.dtx_model.specs.Words.{has, each}
-use Rattle.dtx_model.specs.Entries.{is_told}
+use Rattle.dtx_model.specs.Words.{has, each, latest}
+use Rattle.dtx_model.specs.Entries.{handed_of, is_told}
+use Rattle.dtx_model.specs.Half.{is_handed}
 use Rattle.dtx_model.specs.Observed.{branches, is_done_branch, rows, observe, is_branch, branch_aborted, branch_acked, branch_number}
 use Rattle.dtx_model.specs.World.{is_out_row, is_finished_there}
 use Rattle.dtx_model.specs.Wires.{opens}
-use Rattle.dtx_model.specs.Coordinated.{is_desk_of, with_ack, with_ballot, ballot_of, accepts, coordinate, desk_number, follow, is_active, is_prepared, unacked}
+use Rattle.dtx_model.specs.Coordinated.{is_desk_of, with_ack, with_ballot, ballot_of, accepts, coordinate, desk_number, follow, hears_one, is_active, is_prepared, unacked}
 use Rattle.dtx_model.proofs.Bools.{not_both, and_left, or_right, and_never, not_true, or_false, or_first, or_second, and_right, or_case, and_both, not_false}
 use Rattle.dtx_values.proofs.SameNumbers.{same_enlistment}
 use Rattle.history_table.proofs.HalfKnows.{unmapped}
@@ -55,7 +56,8 @@ use Rattle.settled_histories.proofs.BeforeRows.{row_of}
 abbrev pub is_finished : ℕ → List Entry → Bool
 is_finished e h = has (is_done_branch e) (branches h) || has (is_out_row e) (rows h)
 
-pub finished_seen : (e : ℕ) (h : List Entry) → is_finished_there (observe h) e ≡ is_finished e h
+-- or it was handed the commit
+pub finished_seen : (e : ℕ) (h : List Entry) → is_finished_there (observe h) e ≡ (is_finished e h || is_handed (latest handed_of h) e)
 unfolding observe
 finished_seen e h = refl
 
@@ -444,6 +446,12 @@ desks_done (Got (Enl f) Up EnlistAck ∷ h) k =
 desks_done (Got (Again f) Up ReenlistAck ∷ h) k =
     let x = Got (Again f) Up ReenlistAck in
     changed (is_done_desk h) (is_done_desk (x ∷ h)) (with_ack f.value) (desk_acked x f h k (again_finished f ReenlistAck h k refl)) (coordinate h).desks (desks_done h (keeps_before x h k))
+desks_done (Got (Enl f) Up EnlistOneAborted ∷ h) k =
+    let x = Got (Enl f) Up EnlistOneAborted in
+    let past = desks_done h (keeps_before x h k) in
+    each_if (is_done_desk (x ∷ h)) (hears_one (coordinate h) f.value) (map (with_ballot f.value (Some Refused)) (coordinate h).desks) (coordinate h).desks
+    (changed (is_done_desk h) (is_done_desk (x ∷ h)) (with_ballot f.value (Some Refused)) (desk_balloted f EnlistOneAborted h k (Some Refused) (λ t. absurd cc)) (coordinate h).desks past)
+    (each_more (is_done_desk h) (is_done_desk (x ∷ h)) (desk_more x h k) (coordinate h).desks past)
 desks_done (Got (Enl f) Up m ∷ h) k =
     let x = Got (Enl f) Up m in
     let past = desks_done h (keeps_before x h k) in

@@ -8,7 +8,7 @@ use Rattle.dtx_values.specs.declared.message.Conn.{Conn}
 use Rattle.dtx_values.specs.declared.message.Conn.TheVariants.{Begin, Voter, Enl, Again}
 use Rattle.dtx_values.specs.declared.message.Dir.TheVariants.{Up, Down}
 use Rattle.dtx_values.specs.declared.message.Message.{Message}
-use Rattle.dtx_values.specs.declared.message.Message.TheVariants.{BeginCommit, VoterAsk, EnlistPrepare, EnlistPrepared, EnlistReadonly}
+use Rattle.dtx_values.specs.declared.message.Message.TheVariants.{BeginCommit, BeginCommitOne, VoterAsk, EnlistPrepare, EnlistPrepared, EnlistReadonly}
 use Rattle.dtx_values.specs.declared.number.EnlNo.{EnlNo}
 use Rattle.dtx_values.specs.Vote.{is_good}
 use Rattle.dtx_model.specs.Words.{has, always}
@@ -18,7 +18,7 @@ use Rattle.dtx_model.specs.Wires.{WireRun, is_lost_wire}
 use Rattle.dtx_model.proofs.Bools.{or_right, and_left, and_right, not_both, or_case}
 use Rattle.dtx_model.proofs.Connections.{same_is}
 use Rattle.history_table.proofs.Crossed.{is_sent_on, is_got_on}
-use Rattle.history_table.proofs.Messages.{COMMIT, PREPARE, VOTED}
+use Rattle.history_table.proofs.Messages.{COMMIT, COMMIT_TWO, PREPARE, VOTED}
 use Rattle.history_table.proofs.Tests.{not_up}
 use Rattle.history_table.proofs.EntryTests.{is_volatile_made, is_enlisted}
 use Rattle.history_table.proofs.Scans.{has_more}
@@ -27,7 +27,7 @@ use Rattle.history_table.proofs.Sendings.{good_if_ready}
 use Rattle.history_table.proofs.Table.{rule}
 use Rattle.history_table.proofs.HalfRows.{voted_enlisted}
 use Rattle.settled_histories.proofs.Rest.{is_sound, is_ordered}
-use Rattle.settled_histories.proofs.Stages.{earlier}
+use Rattle.settled_histories.proofs.Stages.{committed_two, earlier}
 use Rattle.settled_histories.proofs.MessageKinds.{ASK}
 use Rattle.settled_histories.proofs.Openings.{once_sent}
 use Rattle.settled_histories.proofs.Wired.{IsFirm, is_plain}
@@ -39,6 +39,7 @@ commit_promoted h s k = earlier is_sound (is_sent_on Begin Up COMMIT) (λ h. has
   where
     at : (x : Entry) (h : List Entry) → is_sound h x ≡ true → is_sent_on Begin Up COMMIT x ≡ true → has is_promoted h ≡ true
     at (Sent Begin Up BeginCommit) h s k = s
+    at (Sent Begin Up BeginCommitOne) h s k = s
     at x h s k = absurd cc
 
 -- the local yes came after ASK
@@ -49,7 +50,7 @@ yes_asked h s k = earlier is_sound is_yes (λ h. has (is_got_on Voter Down ASK) 
     at LocalYes h s k = and_left (has (is_got_on Voter Down ASK) h) _ s
     at x h s k = absurd cc
 
--- ASK was sent after COMMIT was got, and so was PREPARE
+-- ASK was sent after COMMIT was got, and PREPARE after that for two phases
 pub ask_committed : (h : List Entry) → always is_ordered h ≡ true → has (is_sent_on Voter Down ASK) h ≡ true → has (is_got_on Begin Up COMMIT) h ≡ true
 ask_committed h o k = earlier is_ordered (is_sent_on Voter Down ASK) (λ h. has (is_got_on Begin Up COMMIT) h) (λ x h q. or_right (is_got_on Begin Up COMMIT x) (has (is_got_on Begin Up COMMIT) h) q) at h o k
   where
@@ -57,18 +58,21 @@ ask_committed h o k = earlier is_ordered (is_sent_on Voter Down ASK) (λ h. has 
     at (Sent Voter Down VoterAsk) h s k = s
     at x h s k = absurd cc
 
-pub prepare_committed : (e : EnlNo) (h : List Entry) → always is_ordered h ≡ true → has (is_sent_on (Enl e) Down PREPARE) h ≡ true → has (is_got_on Begin Up COMMIT) h ≡ true
-prepare_committed e h o k =
-    earlier is_ordered (is_sent_on (Enl e) Down PREPARE) (λ h. has (is_got_on Begin Up COMMIT) h) (λ x h q. or_right (is_got_on Begin Up COMMIT x) (has (is_got_on Begin Up COMMIT) h) q) (at e) h o k
+pub prepare_two : (e : EnlNo) (h : List Entry) → always is_ordered h ≡ true → has (is_sent_on (Enl e) Down PREPARE) h ≡ true → has (is_got_on Begin Up COMMIT_TWO) h ≡ true
+prepare_two e h o k =
+    earlier is_ordered (is_sent_on (Enl e) Down PREPARE) (λ h. has (is_got_on Begin Up COMMIT_TWO) h) (λ x h q. or_right (is_got_on Begin Up COMMIT_TWO x) (has (is_got_on Begin Up COMMIT_TWO) h) q) (at e) h o k
   where
-    at : (e : EnlNo) (x : Entry) (h : List Entry) → is_ordered h x ≡ true → is_sent_on (Enl e) Down PREPARE x ≡ true → has (is_got_on Begin Up COMMIT) h ≡ true
+    at : (e : EnlNo) (x : Entry) (h : List Entry) → is_ordered h x ≡ true → is_sent_on (Enl e) Down PREPARE x ≡ true → has (is_got_on Begin Up COMMIT_TWO) h ≡ true
     at e (Sent (Enl f) Down m) h s k = by_message f m h s (and_right ((e.value == f.value) && true) (PREPARE m) k)
       where
-        by_message : (f : EnlNo) (m : Message) (h : List Entry) → is_ordered h (Sent (Enl f) Down m) ≡ true → PREPARE m ≡ true → has (is_got_on Begin Up COMMIT) h ≡ true
+        by_message : (f : EnlNo) (m : Message) (h : List Entry) → is_ordered h (Sent (Enl f) Down m) ≡ true → PREPARE m ≡ true → has (is_got_on Begin Up COMMIT_TWO) h ≡ true
         by_message f EnlistPrepare h s k = s
         by_message f m h s k = absurd cc
     at e (Sent (Enl f) Up m) h s k = absurd (not_both ((e.value == f.value) && false && PREPARE m) k (not_up (e.value == f.value) (PREPARE m)))
     at e x h s k = absurd cc
+
+pub prepare_committed : (e : EnlNo) (h : List Entry) → always is_ordered h ≡ true → has (is_sent_on (Enl e) Down PREPARE) h ≡ true → has (is_got_on Begin Up COMMIT) h ≡ true
+prepare_committed e h o k = committed_two h (prepare_two e h o k)
 
 -- a vote was sent after PREPARE was got
 pub vote_prepared : (e : EnlNo) (h : List Entry) → always is_ordered h ≡ true → has (is_sent_on (Enl e) Up VOTED) h ≡ true → has (is_got_on (Enl e) Down PREPARE) h ≡ true
@@ -118,6 +122,12 @@ voted_prepared e h s k = earlier is_sound (is_vote e.value) (is_prepared e) (pre
 -- so COMMIT was got where an enlistment got PREPARE, where a vote was got, and where the local side said yes
 pub prepared_commit : (e : EnlNo) (h : List Entry) → WireRun h → always is_ordered h ≡ true → has (is_got_on (Enl e) Down PREPARE) h ≡ true → has (is_got_on Begin Up COMMIT) h ≡ true
 prepared_commit e h run o k = prepare_committed e h o (once_sent (Enl e) Down PREPARE h run k)
+
+pub prepared_two : (e : EnlNo) (h : List Entry) → WireRun h → always is_ordered h ≡ true → has (is_got_on (Enl e) Down PREPARE) h ≡ true → has (is_got_on Begin Up COMMIT_TWO) h ≡ true
+prepared_two e h run o k = prepare_two e h o (once_sent (Enl e) Down PREPARE h run k)
+
+pub voted_two : (e : EnlNo) (h : List Entry) → WireRun h → always is_ordered h ≡ true → has (is_got_on (Enl e) Up VOTED) h ≡ true → has (is_got_on Begin Up COMMIT_TWO) h ≡ true
+voted_two e h run o k = prepared_two e h run o (vote_prepared e h o (once_sent (Enl e) Up VOTED h run k))
 
 pub voted_commit : (e : EnlNo) (h : List Entry) → WireRun h → always is_ordered h ≡ true → has (is_got_on (Enl e) Up VOTED) h ≡ true → has (is_got_on Begin Up COMMIT) h ≡ true
 voted_commit e h run o k = prepared_commit e h run o (vote_prepared e h o (once_sent (Enl e) Up VOTED h run k))

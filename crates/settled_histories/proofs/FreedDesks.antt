@@ -164,7 +164,7 @@ free_done : (h : List Entry) → Keeps h → can_free h ≡ true → AreDone h
 free_done h k c = λ e t.
     or_case (is_finished_here e.value h) (has (is_prepared_desk e.value) (coordinate h).desks) (λ f. inl f)
     (λ p. by e (named_there e (is_done_there h) h k t (and_right (has_mark h) (each (is_done_there h) (all_of enlist_got h)) c))
-    (said_of is_prepared is_prepared_got e.value h (coordinate h).desks (desks_backed is_prepared is_prepared_got (record { none = refl; from = prepared_from }) h) p))
+    (said_of is_prepared is_prepared_got e.value h (coordinate h).desks (desks_backed is_prepared is_prepared_got (record { none = refl; from = prepared_from; one = λ e f q t. absurd cc }) h) p))
     (placed_there e h k (and_left (has_mark h) (each (is_done_there h) (all_of enlist_got h)) c) t)
   where
     by : (e : EnlNo) → IsAmong e (is_done_there h) h → has (is_prepared_got e.value) h ≡ true → IsDone e h

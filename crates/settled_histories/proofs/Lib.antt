@@ -1,3 +1,11 @@
+pub mod Awaits
+pub mod LoneCommits
+pub mod LoneAsked
+pub mod AllCome
+pub mod OneDecides
+pub mod OnePhase
+pub mod Verdicts
+pub mod Heard
 pub mod Timely
 pub mod Wired
 pub mod MessageKinds

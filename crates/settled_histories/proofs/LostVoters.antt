@@ -1,5 +1,5 @@
--- In each world that steps made, in which the coordinator didn't stop: while nothing is decided, whoever was lost had voted, or its own connection is lost, or it is a promotable, b is lost and
--- nothing was requested. For one that has no open connection and hadn't voted ends the transaction by its loss, and a loss cuts each open one.
+-- In each world that steps made, in which the coordinator didn't stop: while nothing is decided, whoever was lost had voted, or its own connection is lost, or an owner answered, or it is a
+-- promotable, b is lost and nothing was requested. For one that has no open connection and hadn't voted ends the transaction by its loss, and a loss cuts each open one.
 use Rattle.std.proofs.Common.{◌≡◌, ℕ, ◌==◌, Bool, true, false, ◌&&◌, ◌||◌, ◌⊎◌, inl, inr, List, [], ◌∷◌, Option, Some, None, refl, ◌∙◌, ap, map, subst, sym, if◌then◌else◌}
 use Rattle.std.specs.Prelude.{filter, find, is_some, not}
 use Rattle.std.proofs.lemmas.Bool.{eqb-true, false_from_ne_true, or_left, true_from_ne_false}
@@ -27,14 +27,14 @@ use Rattle.dtx_model.specs.declared.branch.Branch.{Branch}
 use Rattle.dtx_model.specs.declared.listener.Listener.{Listener}
 use Rattle.dtx_model.specs.Words.{each, has, holds, latest, onto, or_else}
 use Rattle.dtx_model.specs.History.{is_still_lost, loss_of}
-use Rattle.dtx_model.specs.Entries.{decision_of, is_decision, is_lost, is_promoted, is_sealed, is_vote}
+use Rattle.dtx_model.specs.Entries.{decision_of, is_decision, is_lost, is_owner_answer, is_promoted, is_sealed, is_vote}
 use Rattle.dtx_model.specs.Observed.{Observed, come_back, ends_of, hear, is_branch, is_request, listener_number, listeners, lose, observe, rows, track}
 use Rattle.dtx_model.specs.Outcome.{enlisted}
 use Rattle.dtx_model.specs.Wires.{WireRun, is_kept, is_lost_wire, is_open_wire, is_stopped, loses, lost_after, lost_since, opens}
 use Rattle.dtx_model.specs.Half.{Half, decide, is_gone, is_handed, sees, to_up, veto}
 use Rattle.dtx_model.specs.Facts.{facts_if, has_facts, is_late, reaches, ticked}
 use Rattle.dtx_model.specs.Replies.{due_of, request_message, request_of}
-use Rattle.dtx_model.specs.World.{World, answer_at, cut_upward, gone_by, half, is_promotable_row, on_the_way, open_ones, reenlist_facts}
+use Rattle.dtx_model.specs.World.{World, answer_at, cut_upward, gone_by, half, has_answered_there, is_promotable_row, on_the_way, open_ones, reenlist_facts}
 use Rattle.dtx_model.specs.Steps.{Step, Calls, after, block_at}
 use Rattle.dtx_model.specs.Caused.{AreMadeOnce, Ran}
 use Rattle.dtx_model.proofs.Bools.{and_both, and_left, and_right, not_both, not_false, not_true, or_case, or_right}
@@ -70,9 +70,9 @@ use Rattle.settled_histories.proofs.Returned.{AreReturned, ran_returned}
 use Rattle.settled_histories.proofs.Announced.{IsUnstopped, unstopped_before, unstopped_under, unstopped_wired}
 use Rattle.history_table.proofs.Crossed.{is_got_on, since_opened, was_sent}
 
--- it had voted, or its own connection is lost, or it is a promotable, b is lost and nothing was requested
+-- it had voted, or its own connection is lost, or an owner answered, or it is a promotable, b is lost and nothing was requested
 abbrev pub is_spared_loss : EnlNo → List Entry → Bool
-is_spared_loss e h = has (is_vote e.value) h || is_lost_wire (Enl e) h || (stands_promotable e.value h && is_lost_wire Begin h && not (has is_request h))
+is_spared_loss e h = has (is_vote e.value) h || is_lost_wire (Enl e) h || has is_owner_answer h || (stands_promotable e.value h && is_lost_wire Begin h && not (has is_request h))
 
 -- while nothing is decided, so it is of whoever was lost
 abbrev pub AreVoters : List Entry → Type 0
@@ -81,24 +81,31 @@ AreVoters h = has is_decision h ≡ false → (e : EnlNo) → has (is_lost e.val
 -- the cases of it
 abbrev IsSparedBy : EnlNo → List Entry → Type 0
 IsSparedBy e h =
-    (has (is_vote e.value) h ≡ true) ⊎ ((is_lost_wire (Enl e) h ≡ true) ⊎ ((stands_promotable e.value h ≡ true) × (is_lost_wire Begin h ≡ true) × (has is_request h ≡ false)))
+    (has (is_vote e.value) h ≡ true)
+    ⊎ ((is_lost_wire (Enl e) h ≡ true) ⊎ ((has is_owner_answer h ≡ true) ⊎ ((stands_promotable e.value h ≡ true) × (is_lost_wire Begin h ≡ true) × (has is_request h ≡ false))))
 
 spared_cases : (e : EnlNo) (h : List Entry) → is_spared_loss e h ≡ true → IsSparedBy e h
 spared_cases e h k =
-    or_case (has (is_vote e.value) h || is_lost_wire (Enl e) h) (stands_promotable e.value h && is_lost_wire Begin h && not (has is_request h))
-    (λ a. or_case (has (is_vote e.value) h) (is_lost_wire (Enl e) h) (λ v. inl v) (λ l. inr (inl l)) a)
+    or_case (has (is_vote e.value) h || is_lost_wire (Enl e) h || has is_owner_answer h) (stands_promotable e.value h && is_lost_wire Begin h && not (has is_request h))
+    (λ a. or_case (has (is_vote e.value) h || is_lost_wire (Enl e) h) (has is_owner_answer h) (λ b. or_case (has (is_vote e.value) h) (is_lost_wire (Enl e) h) (λ v. inl v) (λ l. inr (inl l)) b) (λ o. inr (inr (inl o))) a)
     (λ a. let both = and_left (stands_promotable e.value h && is_lost_wire Begin h) (not (has is_request h)) a in
-    inr (inr (
+    inr (inr (inr (
       and_left (stands_promotable e.value h) (is_lost_wire Begin h) both,
       and_right (stands_promotable e.value h) (is_lost_wire Begin h) both,
       not_true (has is_request h) (and_right (stands_promotable e.value h && is_lost_wire Begin h) (not (has is_request h)) a),
-    ))) k
+    )))) k
 
 spared_so : (e : EnlNo) (h : List Entry) → IsSparedBy e h → is_spared_loss e h ≡ true
-spared_so e h (inl v) = or_left (has (is_vote e.value) h || is_lost_wire (Enl e) h) _ (or_left (has (is_vote e.value) h) (is_lost_wire (Enl e) h) v)
-spared_so e h (inr (inl l)) = or_left (has (is_vote e.value) h || is_lost_wire (Enl e) h) _ (or_right (has (is_vote e.value) h) (is_lost_wire (Enl e) h) l)
-spared_so e h (inr (inr t)) =
-    or_right (has (is_vote e.value) h || is_lost_wire (Enl e) h) (stands_promotable e.value h && is_lost_wire Begin h && not (has is_request h))
+spared_so e h (inl v) =
+    or_left (has (is_vote e.value) h || is_lost_wire (Enl e) h || has is_owner_answer h) _
+    (or_left (has (is_vote e.value) h || is_lost_wire (Enl e) h) (has is_owner_answer h) (or_left (has (is_vote e.value) h) (is_lost_wire (Enl e) h) v))
+spared_so e h (inr (inl l)) =
+    or_left (has (is_vote e.value) h || is_lost_wire (Enl e) h || has is_owner_answer h) _
+    (or_left (has (is_vote e.value) h || is_lost_wire (Enl e) h) (has is_owner_answer h) (or_right (has (is_vote e.value) h) (is_lost_wire (Enl e) h) l))
+spared_so e h (inr (inr (inl o))) =
+    or_left (has (is_vote e.value) h || is_lost_wire (Enl e) h || has is_owner_answer h) _ (or_right (has (is_vote e.value) h || is_lost_wire (Enl e) h) (has is_owner_answer h) o)
+spared_so e h (inr (inr (inr t))) =
+    or_right (has (is_vote e.value) h || is_lost_wire (Enl e) h || has is_owner_answer h) (stands_promotable e.value h && is_lost_wire Begin h && not (has is_request h))
     (and_both (stands_promotable e.value h && is_lost_wire Begin h) (not (has is_request h)) (and_both (stands_promotable e.value h) (is_lost_wire Begin h) t.0 t.1) (not_false (has is_request h) t.2))
 
 -- It stays so. A plain connection that is lost stays lost, since it isn't opened again.
@@ -162,12 +169,13 @@ none_requested h es k n =
 spared_onto : (e : EnlNo) (h es : List Entry) → IsUnstopped (onto h es) → each is_unrequesting es ≡ true → IsSparedBy e h → IsSparedBy e (onto h es)
 spared_onto e h es u k (inl v) = inl (has-onto (is_vote e.value) h es ∙ or_right (has (is_vote e.value) es) (has (is_vote e.value) h) v)
 spared_onto e h es u k (inr (inl l)) = inr (inl (lost_onto (Enl e) h es u refl l))
-spared_onto e h es u k (inr (inr t)) =
-    inr (inr (
+spared_onto e h es u k (inr (inr (inl o))) = inr (inr (inl (has-onto is_owner_answer h es ∙ or_right (has is_owner_answer es) (has is_owner_answer h) o)))
+spared_onto e h es u k (inr (inr (inr t))) =
+    inr (inr (inr (
       promotable_onto e.value h es t.0,
       lost_onto Begin h es u refl t.1,
       none_requested h es k t.2,
-    ))
+    )))
 
 harmless_voters : (h es : List Entry) → each is_harmless es ≡ true → IsUnstopped (onto h es) → AreVoters h → AreVoters (onto h es)
 harmless_voters h es k u a = λ d e l.
@@ -191,20 +199,22 @@ decided_voters h k = λ d e l. absurd (not_both (has is_decision h) k d)
 decided_onto : (h es : List Entry) → has is_decision es ≡ true → AreVoters (onto h es)
 decided_onto h es k = decided_voters (onto h es) (has-onto is_decision h es ∙ or_left (has is_decision es) (has is_decision h) k)
 
-decides_voters : (h : List Entry) (k : Half) (e : EnlNo) (d v g : Bool) → (d ≡ true → has is_decision h ≡ true) → (v ≡ true → has (is_vote e.value) h ≡ true) → AreVoters h
-    → IsUnstopped (onto (Lost e ∷ h) (if d || v then [] else if g then decide k InDoubt else veto k)) → AreVoters (onto (Lost e ∷ h) (if d || v then [] else if g then decide k InDoubt else veto k))
-decides_voters h k e true v g f q a u = decided_voters (Lost e ∷ h) (f refl)
-decides_voters h k e false true g f q a u = gone_more e h [] refl u (inl (q refl)) a
-decides_voters h k e false false true f q a u = decided_onto (Lost e ∷ h) (decide k InDoubt) (decide_decides k InDoubt)
-decides_voters h k e false false false f q a u = decided_onto (Lost e ∷ h) (veto k) (veto_decides k)
+decides_voters : (h : List Entry) (k : Half) (e : EnlNo) (o d v g : Bool) → (o ≡ true → has is_owner_answer h ≡ true) → (d ≡ true → has is_decision h ≡ true) → (v ≡ true → has (is_vote e.value) h ≡ true) → AreVoters h
+    → IsUnstopped (onto (Lost e ∷ h) (if o then [] else if d || v then [] else if g then decide k InDoubt else veto k))
+    → AreVoters (onto (Lost e ∷ h) (if o then [] else if d || v then [] else if g then decide k InDoubt else veto k))
+decides_voters h k e true d v g p f q a u = gone_more e h [] refl u (inr (inr (inl (p refl)))) a
+decides_voters h k e false true v g p f q a u = decided_voters (Lost e ∷ h) (f refl)
+decides_voters h k e false false true g p f q a u = gone_more e h [] refl u (inl (q refl)) a
+decides_voters h k e false false false true p f q a u = decided_onto (Lost e ∷ h) (decide k InDoubt) (decide_decides k InDoubt)
+decides_voters h k e false false false false p f q a u = decided_onto (Lost e ∷ h) (veto k) (veto_decides k)
 
--- Whoever has no open connection. Its loss decides, unless it had voted.
+-- Whoever has no open connection. Its loss decides, unless it had voted, or answered as the owner.
 unlinked_voters : (w : World) (n : ℕ) (a : ActorNo) (e : EnlNo) (y : Answer) → IsUnstopped (onto (Called n a y ∷ w.past) (gone_by w e [])) → AreVoters (Called n a y ∷ w.past)
     → AreVoters (onto (Called n a y ∷ w.past) (gone_by w e []))
 unfolding observe track
 unlinked_voters w n a e y u s =
-    decides_voters (Called n a y ∷ w.past) (sees (half w) (Lost e)) e (is_some (latest decision_of w.past)) (voted e.value (rows w.past)) (is_handed (half w).seen.handed e.value)
-    (λ d. sym (decision_seen w.past) ∙ d) (λ v. voted_cast e.value w.past v) s u
+    decides_voters (Called n a y ∷ w.past) (sees (half w) (Lost e)) e (has_answered_there (half w).seen e.value) (is_some (latest decision_of w.past)) (voted e.value (rows w.past)) (is_handed (half w).seen.handed e.value)
+    (λ o. and_right (has is_promoted w.past && is_handed (half w).seen.handed e.value) (has is_owner_answer w.past) o) (λ d. sym (decision_seen w.past) ∙ d) (λ v. voted_cast e.value w.past v) s u
 
 -- What a cut loses.
 some_more : (c : Conn) (x : Entry) (h : List Entry) (o : Option Bool) → is_some o ≡ true → is_some (lost_after c h x o) ≡ true
@@ -307,7 +317,7 @@ promotable_opened e h k p s = opened_if_got (Enl e) h k (has_more (is_enlist_got
         apart c v k = absurd cc
 
 request_promoted : (x : Entry) (h : List Entry) → Keeps h → rule h x ≡ true → is_request x ≡ true → has is_promoted h ≡ true
-request_promoted (Requested e r) h k q t = second_of_four (not (has is_decision h)) (has is_promoted h) (has is_sealed h) (stands_promotable e.value h) q
+request_promoted (Requested e r) h k q t = second_of_four (not (has is_decision h)) (has is_promoted h) (has is_sealed h) _ q
 request_promoted _ h k q t = absurd cc
 
 -- Whoever has an open connection is spared where its loss cut that.
@@ -343,11 +353,11 @@ cut_spared w n a e y c cs q u r = by (is_open_wire (Enl e) w.past) refl (has (op
         let unrequested : has is_request w.past ≡ false =
         false_from_ne_true (has is_request w.past)
         (λ s. not_both (has (opens (Enl e)) w.past) (promotable_opened e w.past keeps (before is_request is_promoted request_promoted w.past keeps s) stands) p) in
-        inr (inr (
+        inr (inr (inr (
           promotable_onto e.value w.past (Called n a y ∷ gone_by w e (c ∷ cs)) stands,
           cuts_lose Begin w.past here (c ∷ cs) (opened_here Begin (kept_some (lost_since Begin w.past) t.1)) (among Begin (begin_among w e t.0 t.1)),
           none_requested here (map (cut_upward w.past) (c ∷ cs)) (harmless_quiet (map (cut_upward w.past) (c ∷ cs)) (cuts_harmless w.past (c ∷ cs))) unrequested,
-        ))
+        )))
 
 gone_voters : (w : World) (n : ℕ) (a : ActorNo) (e : EnlNo) (y : Answer) (b : Bool) → IsUnstopped (onto (Called n a y ∷ w.past) (facts_if b (gone_by w e (open_ones w e)))) → AreReturned w.past → AreVoters w.past
     → AreVoters (onto (Called n a y ∷ w.past) (facts_if b (gone_by w e (open_ones w e))))
@@ -380,8 +390,8 @@ requested_voters G h v f es q u lone m s a =
     let at = unstopped_under (x ∷ h) rest now in
     let old = unstopped_before x h at in
     let row = newest x h at.keeps in
-    let promoted = second_of_four (not (has is_decision h)) (has is_promoted h) (has is_sealed h) (stands_promotable f.value h) row in
-    let stands = fourth_of_four (not (has is_decision h)) (has is_promoted h) (has is_sealed h) (stands_promotable f.value h) row in
+    let promoted = second_of_four (not (has is_decision h)) (has is_promoted h) (has is_sealed h) _ row in
+    let stands = and_left (stands_promotable f.value h) (not (has is_request h)) (fourth_of_four (not (has is_decision h)) (has is_promoted h) (has is_sealed h) (stands_promotable f.value h && not (has is_request h)) row) in
     let D : Observed → Type 0 = λ o. due_of o f.value ≡ Some Single in
     let here = (owed h (OwnerReply s.0) Single f.value refl (subst D q s.1) refl).here in
     let lost : (e : EnlNo) → has (is_lost e.value) h ≡ true → stands_promotable e.value h ≡ true → is_lost_wire (Enl e) h ≡ true =
@@ -394,7 +404,8 @@ requested_voters G h v f es q u lone m s a =
     after_request : (e : EnlNo) (es : List Entry) → IsUnstopped (onto h es) → (stands_promotable e.value h ≡ true → is_lost_wire (Enl e) h ≡ true) → IsSparedBy e h → IsSparedBy e (onto h es)
     after_request e es u f (inl v) = inl (has-onto (is_vote e.value) h es ∙ or_right (has (is_vote e.value) es) (has (is_vote e.value) h) v)
     after_request e es u f (inr (inl l)) = inr (inl (lost_onto (Enl e) h es u refl l))
-    after_request e es u f (inr (inr t)) = inr (inl (lost_onto (Enl e) h es u refl (f t.0)))
+    after_request e es u f (inr (inr (inl o))) = inr (inr (inl (has-onto is_owner_answer h es ∙ or_right (has is_owner_answer es) (has is_owner_answer h) o)))
+    after_request e es u f (inr (inr (inr t))) = inr (inl (lost_onto (Enl e) h es u refl (f t.0)))
 
 -- Each block but that of a loss loses nobody.
 pub tick_lossless : (v : Half) (n : ℕ) (b r l : Bool) → each is_lossless (facts_if b (Clock n ∷ (if r then (if l then Late ∷ [] else TimedOut ∷ veto v) else []))) ≡ true
@@ -412,7 +423,7 @@ other_voters : (G : ℕ → ActorNo → Call → Type 0) (w : World) (es : List 
     → AreVoters (onto w.past es)
 other_voters G w es k (inl q) lone m u s = harmless_voters w.past es (each_both is_lossless is_meek is_harmless both_harmless es k q.proof) u s
 other_voters G w es k (inr (inl q)) lone m u s =
-    harmless_voters w.past es (let P : List Entry → Type 0 = λ es. each is_harmless es ≡ true in subst P (sym q.1) (seal_passes is_harmless refl refl (half w).seen)) u s
+    harmless_voters w.past es (let P : List Entry → Type 0 = λ es. each is_harmless es ≡ true in subst P (sym q.1) (seal_passes is_harmless refl (λ m t. refl) (half w).seen)) u s
 other_voters G w es k (inr (inr q)) lone m u s = requested_voters G w.past (half w) q.0 es refl u lone m q.1 s
 
 -- after each step
@@ -440,22 +451,24 @@ ran_voters G t (m ∷ ms) w once r u =
     subst (λ (x : World). AreVoters x.past) (sym r.3)
     (step_voters G t v m (ran_returned G t ms v r.1) (ran_alone G t ms v once r.1 past.keeps) (run_stands G t ms v once r.1 past.keeps.ties).marked now (ran_voters G t ms v once r.1 past))
 
--- where b was lost only after COMMIT, and a connection of its own only after the vote, whoever was lost had voted
+-- where b was lost only after COMMIT, a connection of its own only after the vote, and no owner answered, whoever was lost had voted
 pub gone_cast : (h : List Entry) → IsRequesting h → WireRun h → AreVoters h → (is_lost_wire Begin h ≡ true → has (is_got_on Begin Up COMMIT) h ≡ true)
-    → ((e : EnlNo) → is_lost_wire (Enl e) h ≡ true → has (is_vote e.value) h ≡ true) → has is_decision h ≡ false → (e : EnlNo) → has (is_lost e.value) h ≡ true → has (is_vote e.value) h ≡ true
-gone_cast h r run a f g d e l = by (spared_cases e h (a d e l))
+    → ((e : EnlNo) → is_lost_wire (Enl e) h ≡ true → has (is_vote e.value) h ≡ true) → has is_owner_answer h ≡ false → has is_decision h ≡ false → (e : EnlNo) → has (is_lost e.value) h ≡ true
+    → has (is_vote e.value) h ≡ true
+gone_cast h r run a f g n d e l = by (spared_cases e h (a d e l))
   where
     by : IsSparedBy e h → has (is_vote e.value) h ≡ true
     by (inl v) = v
     by (inr (inl b)) = g e b
-    by (inr (inr t)) = absurd (not_both (has is_request h) (r.asked (was_sent Begin Up COMMIT h run (f t.1)) (promotable_stands e.value h t.0)) t.2)
+    by (inr (inr (inl o))) = absurd (not_both (has is_owner_answer h) o n)
+    by (inr (inr (inr t))) = absurd (not_both (has is_request h) (r.asked (was_sent Begin Up COMMIT h run (f t.1)) (promotable_stands e.value h t.0)) t.2)
 
 -- Who is gone was lost.
 less : (p : Listener → Bool) (f : Listener → Listener) → ((l : Listener) → p (f l) ≡ true → p l ≡ true) → (ls : List Listener) → has p (map f ls) ≡ true → has p ls ≡ true
 less p f sub [] k = absurd cc
 less p f sub (l ∷ ls) k = or_case (p (f l)) (has p (map f ls)) (λ a. or_left (p l) (has p ls) (sub l a)) (λ a. or_right (p l) (has p ls) (less p f sub ls a)) k
 
-gone_lost : (e : ℕ) (h : List Entry) → has (λ l. (e == l.enlistment.value) && l.lost) (listeners h) ≡ true → has (is_lost e) h ≡ true
+pub gone_lost : (e : ℕ) (h : List Entry) → has (λ l. (e == l.enlistment.value) && l.lost) (listeners h) ≡ true → has (is_lost e) h ≡ true
 gone_lost e [] k = absurd cc
 gone_lost e (Enlisted f c ∷ h) k =
     or_case ((e == f.value) && false) (has (λ l. (e == l.enlistment.value) && l.lost) (listeners h)) (λ a. absurd (not_both false (and_right (e == f.value) false a) refl)) (gone_lost e h)

@@ -1,7 +1,7 @@
 -- More messages by their names, as tests: what comes down, and the votes.
 use Rattle.std.proofs.Common.{Bool, true, false}
 use Rattle.dtx_values.specs.declared.message.Message.{Message}
-use Rattle.dtx_values.specs.declared.message.Message.TheVariants.{BeginBegun, BeginCommitted, BeginAbort, BeginAborted, VoterVoter, VoterCreated, VoterRefused, VoterAbort, VoterAsk, VoterNo, VoterCommit, EnlistEnlisted, EnlistRefused, EnlistAbort, EnlistPrepared, EnlistReadonly, EnlistNo}
+use Rattle.dtx_values.specs.declared.message.Message.TheVariants.{BeginBegun, BeginCommitted, BeginAbort, BeginAborted, BeginInDoubt, VoterVoter, VoterCreated, VoterRefused, VoterAbort, VoterInDoubt, VoterAsk, VoterNo, VoterCommit, EnlistEnlisted, EnlistRefused, EnlistAbort, EnlistOneAborted, EnlistOneCommitted, EnlistOneInDoubt, EnlistPrepared, EnlistReadonly, EnlistNo}
 use Rattle.dtx_values.specs.declared.words.Vote.{Vote}
 use Rattle.dtx_values.specs.declared.words.Vote.TheVariants.{Yes, No, Done}
 
@@ -21,6 +21,7 @@ ABORT _ = false
 abbrev pub OUTCOME : Message → Bool
 OUTCOME BeginCommitted = true
 OUTCOME BeginAborted = true
+OUTCOME BeginInDoubt = true
 OUTCOME _ = false
 
 abbrev pub VOTER : Message → Bool
@@ -50,6 +51,7 @@ VOTER_NO _ = false
 abbrev pub VOTER_OUTCOME : Message → Bool
 VOTER_OUTCOME VoterCommit = true
 VOTER_OUTCOME VoterAbort = true
+VOTER_OUTCOME VoterInDoubt = true
 VOTER_OUTCOME _ = false
 
 abbrev pub ENLISTED : Message → Bool
@@ -69,6 +71,13 @@ VOTE Yes EnlistPrepared = true
 VOTE Done EnlistReadonly = true
 VOTE No EnlistNo = true
 VOTE _ _ = false
+
+-- what the owner sends of its answer
+abbrev pub ONE : Message → Bool
+ONE EnlistOneCommitted = true
+ONE EnlistOneAborted = true
+ONE EnlistOneInDoubt = true
+ONE _ = false
 
 abbrev pub NO : Message → Bool
 NO EnlistNo = true

@@ -1,6 +1,6 @@
 -- Which entries no block has but as its first: what is got and an end, an act of the log, a restart, the asking for the commit or a rollback, the end of the time, and an
 -- answer to promote, and who comes back.
-use Rattle.std.proofs.Common.{◌≡◌, ℕ, Bool, true, false, ◌||◌, List, [], ◌∷◌, is_some, refl, if◌then◌else◌}
+use Rattle.std.proofs.Common.{◌≡◌, ℕ, Bool, true, false, ◌||◌, List, [], ◌∷◌, ◌++◌, is_some, refl, if◌then◌else◌}
 use Rattle.dtx_values.specs.declared.call.Call.{Call}
 use Rattle.dtx_values.specs.declared.call.Call.TheVariants.{Commit, Rollback, Tick, Reenlist}
 use Rattle.dtx_values.specs.declared.entry.Answer.{Answer}
@@ -8,18 +8,19 @@ use Rattle.dtx_values.specs.declared.entry.Ask.TheVariants.{Promote, Single as A
 use Rattle.dtx_values.specs.declared.entry.Entry.{Entry}
 use Rattle.dtx_values.specs.declared.entry.Entry.TheVariants.{CommitAsked, RollbackAsked, TimedOut, Asked, PromoteReply, Sealed, Sent, Got, Down as Ended, Logged, LogFull, Freed, Restarted, Reenlisted, Recovered as RecoveredEntry, Clock, Late, Cut}
 use Rattle.dtx_values.specs.declared.message.Conn.{Conn}
-use Rattle.dtx_values.specs.declared.message.Conn.TheVariants.{Begin}
+use Rattle.dtx_values.specs.declared.message.Conn.TheVariants.{Begin, Voter}
 use Rattle.dtx_values.specs.declared.message.Dir.{Dir}
 use Rattle.dtx_values.specs.declared.message.Dir.TheVariants.{Up, Down}
 use Rattle.dtx_values.specs.declared.message.Message.{Message}
-use Rattle.dtx_values.specs.declared.message.Message.TheVariants.{BeginBegin, BeginCommit}
+use Rattle.dtx_values.specs.declared.message.Message.TheVariants.{BeginBegin, BeginCommitted, BeginInDoubt, VoterCommit, VoterInDoubt}
 use Rattle.dtx_values.specs.declared.note.Reply.{Reply}
 use Rattle.dtx_values.specs.declared.note.Reply.TheVariants.{Promote as PromoteAnswer}
 use Rattle.dtx_values.specs.declared.number.EnlNo.{EnlNo}
 use Rattle.dtx_values.specs.Clones.{is_open_rollback}
+use Rattle.dtx_values.specs.Ends.{same_connection}
 use Rattle.dtx_model.specs.Words.{each, has}
 use Rattle.history_table.proofs.Scans.{each_more}
-use Rattle.dtx_model.specs.Coordinated.{Coordinated, abort_sends, commit_sends, core_got}
+use Rattle.dtx_model.specs.Coordinated.{Coordinated, abort_sends, commit_sends, core_got, doubt_sends, one_sends}
 use Rattle.dtx_model.specs.Half.{Half, sees, veto, veto_if}
 use Rattle.dtx_model.specs.Arrivals.{local_got}
 use Rattle.dtx_model.specs.Acts.{act_entries}
@@ -81,6 +82,24 @@ m_abort k = of_abort_sends (mild.lists []) k mild_sent
 pub m_commit : (k : Coordinated) → Mild (commit_sends k)
 m_commit k = of_commit_sends (mild.lists []) k mild_sent
 
+pub m_one : (k : Coordinated) → Mild (one_sends k)
+m_one k = by (has (same_connection Begin) k.known) (has (same_connection Voter) k.known)
+  where
+    by : (a b : Bool) → Mild ((if a then Sent Begin Down BeginCommitted ∷ [] else []) ++ (if b then Sent Voter Down VoterCommit ∷ [] else []))
+    by true true = record { proof = refl }
+    by true false = record { proof = refl }
+    by false true = record { proof = refl }
+    by false false = record { proof = refl }
+
+pub m_doubt : (k : Coordinated) → Mild (doubt_sends k)
+m_doubt k = by (has (same_connection Begin) k.known) (has (same_connection Voter) k.known)
+  where
+    by : (a b : Bool) → Mild ((if a then Sent Begin Down BeginInDoubt ∷ [] else []) ++ (if b then Sent Voter Down VoterInDoubt ∷ [] else []))
+    by true true = record { proof = refl }
+    by true false = record { proof = refl }
+    by false true = record { proof = refl }
+    by false false = record { proof = refl }
+
 pub m_core_got : (id : ℕ) (k : Coordinated) (c : Conn) (m : Message) → Mild (core_got id k c m)
 m_core_got id k c m = of_core_got (mild.lists []) id k c m (λ d n l a. e_one (Sent d Down n) refl)
 
@@ -97,7 +116,7 @@ m_ended_at w c Down = of_local_down mild (half w) c
 pub m_act : (h : Half) → Mild (act_entries h)
 m_act h =
     of_whole_act mild h (mild_entry (ByAct (is_some h.seen.decided)) refl refl refl refl refl) (λ e. e_one (Asked e Promote) refl) (λ e. e_one (Asked e AskSingle) refl) (e_one Sealed refl)
-    (e_one (Sent Begin Up BeginCommit) refl)
+    (λ m t. e_one (Sent Begin Up m) refl)
 
 -- a reply that isn't one to promote
 pub m_reply : (h : Half) (e : EnlNo) (r : Reply) → is_promise r ≡ false → Mild (reply_entries h e r)

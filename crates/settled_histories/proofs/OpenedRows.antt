@@ -17,10 +17,10 @@ use Rattle.history_table.proofs.Crossed.{is_severing, is_sent_on, got_sent}
 use Rattle.dtx_model.specs.Promotes.{is_begun_got, is_promoting}
 use Rattle.dtx_model.specs.Wires.{opens}
 use Rattle.dtx_model.proofs.Bools.{and_left, and_right, or_case}
-use Rattle.history_table.proofs.Tests.{first_of_four, third_of_four}
+use Rattle.history_table.proofs.Tests.{first_of_four, second_of_three, third_of_four}
 use Rattle.dtx_model.proofs.Connections.{same_is, same_self, same_way_is}
 use Rattle.settled_histories.proofs.Wired.{is_opened_once, is_plain}
-use Rattle.history_table.proofs.Table.{is_of_conn, is_opening_got, is_there, is_volatile_conn, message_row, rule, ruled}
+use Rattle.history_table.proofs.Table.{is_left_alone, is_of_conn, is_opening_got, is_there, is_volatile_conn, message_row, rule, ruled}
 use Rattle.history_table.proofs.Keeping.{Keeps, keeps_before, newest}
 use Rattle.history_table.proofs.Standing.{opened_if_got}
 use Rattle.settled_histories.proofs.BeforeRows.{by_keeping, row_of}
@@ -31,7 +31,7 @@ opening_new Begin BeginBegin h k t = or_left (not (has (opens Begin) h)) false k
 opening_new Voter (VoterVoter u) h k t = or_left (not (has (opens Voter) h)) false (and_right (has is_begun_got h) (not (has (opens Voter) h)) k)
 opening_new (Enl e) (EnlistEnlist i) h k t =
     or_left (not (has (opens (Enl e)) h)) false (third_of_four (is_of_conn (Enl e) i) (has is_begun_got h) (not (has (opens (Enl e)) h)) (not (is_volatile_conn (Enl e) h)) k)
-opening_new (Again e) (ReenlistReenlist i) h k t = and_right (is_of_conn (Again e) i) (not (has (opens (Again e)) h) || has is_severing h) k
+opening_new (Again e) (ReenlistReenlist i) h k t = second_of_three (is_of_conn (Again e) i) (not (has (opens (Again e)) h) || has is_severing h) (is_left_alone (Again e) h) k
 opening_new _ _ h k t = absurd cc
 
 -- what was sent has a line

@@ -15,11 +15,11 @@ use Rattle.dtx_values.specs.declared.note.Plan.{Plan}
 use Rattle.dtx_values.specs.declared.number.EnlNo.{EnlNo}
 use Rattle.dtx_values.specs.declared.row.Row.{Row}
 use Rattle.dtx_values.specs.declared.words.Class.{Class}
-use Rattle.dtx_values.specs.declared.words.Class.TheVariants.{Promotable}
+use Rattle.dtx_values.specs.declared.words.Class.TheVariants.{DurableSingle, Promotable}
 use Rattle.dtx_values.specs.declared.words.Outcome.{Outcome}
 use Rattle.dtx_values.specs.declared.words.Outcome.TheVariants.{Committed, Aborted, InDoubt}
 use Rattle.dtx_values.specs.declared.words.Vote.{Vote}
-use Rattle.dtx_values.specs.Class.{is_promotable, is_volatile}
+use Rattle.dtx_values.specs.Class.{is_promotable, is_single_class, is_volatile}
 use Rattle.dtx_values.specs.Ends.{knows}
 use Rattle.dtx_values.specs.Row.{has_voted, is_marked, is_of}
 use Rattle.dtx_values.specs.Table.{enl_number, insert_by, voted, was_asked}
@@ -27,22 +27,29 @@ use Rattle.dtx_values.specs.Vote.{voted_well}
 use Rattle.dtx_model.specs.declared.branch.Branch.{Branch}
 use Rattle.dtx_model.specs.declared.listener.Listener.{Listener}
 use Rattle.dtx_model.specs.Words.{has, each, always, latest, or_else, holds}
-use Rattle.dtx_model.specs.Entries.{decision_of, is_asked, is_asked_alone, is_asked_to_promote, is_decision, is_record, is_told, is_vote, same_outcome}
+use Rattle.dtx_model.specs.Entries.{decision_of, handed_of, is_any_single_sent, is_asked, is_asked_alone, is_asked_to_promote, is_decision, is_hand, is_owner_answer, is_promoted, is_record, is_sealed, is_single_sent, is_told, is_two_phase_got, is_vote, same_outcome}
 use Rattle.dtx_model.specs.Observed.{come_back, ends_of, hear, lose, is_ask_promote, is_ask_single, is_promote_reply, is_request, listener_number, listeners, observe, rows}
-use Rattle.dtx_model.specs.Outcome.{can_own, enlisted}
+use Rattle.dtx_model.specs.Outcome.{can_own, durables, enlisted}
+use Rattle.dtx_model.specs.Promotes.{is_promoting}
 use Rattle.dtx_model.specs.Tied.{is_logged}
 use Rattle.dtx_model.specs.Wires.{is_lost_wire}
 use Rattle.dtx_model.specs.Plans.{owner_reply, promote_reply, vote_reply}
-use Rattle.dtx_model.specs.Half.{is_gone, was_told}
-use Rattle.dtx_model.specs.Replies.{conn_due, due_of, may_still_vote, names, note_at, note_of_conn, owes_outcome, owes_promotion, owes_request, owes_vote, row_note, with_name, with_names}
+use Rattle.dtx_model.specs.Half.{is_gone, is_handed, was_told}
+use Rattle.dtx_model.specs.Replies.{conn_due, due_of, is_unsettled, may_still_vote, names, note_at, note_of_conn, owes_outcome, owes_promotion, owes_request, owes_vote, row_note, with_name, with_names}
 use Rattle.dtx_model.specs.History.{is_committed, is_willing}
 use Rattle.dtx_model.proofs.Bools.{and_both, and_left, and_right, not_both, not_false, or_case, or_false, or_first, or_right, or_second}
 use Rattle.history_table.proofs.Lists.{each-insert, has-insert, has_kept, each_from_at, has-at}
 use Rattle.history_table.proofs.Scans.{each-at, has_more}
 use Rattle.history_table.proofs.Tests.{eq_self}
-use Rattle.history_table.proofs.EntryTests.{is_unplanned, has_promotable, is_volatile_made}
+use Rattle.history_table.proofs.EntryTests.{is_only, is_unplanned, has_promotable, is_volatile_made}
 use Rattle.settled_histories.proofs.Idle.{named_rows}
-use Rattle.history_table.proofs.Owned.{has_rows}
+use Rattle.history_table.proofs.Owned.{has_filter, has_rows}
+use Rattle.history_table.proofs.Keeping.{Keeps}
+use Rattle.history_table.proofs.Table.{is_lone_owner}
+use Rattle.history_table.proofs.Undecided.{hand_seen}
+use Rattle.history_table.proofs.LetDecide.{lone_if_one, one_apart, one_if_single, promoted_if_single, single_any, single_if_handed}
+use Rattle.history_table.proofs.LetHand.{single_alone}
+use Rattle.settled_histories.proofs.OnePhase.{single_opened, vote_two}
 use Rattle.history_table.proofs.TableRows.{each_rows}
 use Rattle.history_table.proofs.NextActs.{has_answered}
 use Rattle.history_table.proofs.Messages.{COMMIT, PREPARE}
@@ -54,7 +61,7 @@ use Rattle.settled_histories.proofs.Openings.{once_sent}
 use Rattle.settled_histories.proofs.Foregoing.{is_prepared, prepared_commit, prepared_same, prepared_stays, voted_prepared}
 use Rattle.settled_histories.proofs.Wired.{firm_unended}
 use Rattle.settled_histories.proofs.Unblamed.{owns, unrestarted}
-use Rattle.settled_histories.proofs.Climbed.{none_decided}
+use Rattle.settled_histories.proofs.Committed.{none_decided}
 use Rattle.settled_histories.proofs.SameRows.{asked_marked, found_passes, is_asked_there, is_made_once, marked_asked, row_found, voted_cast}
 use Rattle.history_table.proofs.Crossed.{is_got_on, is_sent_on}
 
@@ -67,11 +74,12 @@ is_asked_well past (Asked e AskSingle) = has (is_made e.value is_promotable) pas
 is_asked_well past (Told (Member e) x) = has is_decision past || has is_record past || same_outcome x Aborted
 is_asked_well past x = true
 
--- A plan has each reply that is due of a row: its vote; and where the enlistment was asked for that, that it can be promoted, and its answer as the owner.
+-- A plan has each reply that is due of a row: its vote; where the enlistment was asked for that, that it can be promoted, and its answer as the owner; and this too where it was let decide.
 pub record IsHeeded (p : Plan) (h : List Entry) (x : Row) : Type 0 where
   pub votes : owes_vote (observe h) x ≡ true → is_none p.vote ≡ true → ⊥
   pub promotes : has (is_asked_to_promote x.number.value) h ≡ true → owes_promotion (observe h) x ≡ true → is_none p.promote ≡ true → ⊥
   pub commits : has (is_asked_alone x.number.value) h ≡ true → owes_request (observe h) x ≡ true → is_none p.owner ≡ true → ⊥
+  pub owns : has is_promoted h ≡ true → is_single_class x.class ≡ true → owes_outcome (observe h) x ≡ true → is_none p.owner ≡ true → ⊥
 
 -- One that is lost has voted.
 pub record IsSpared (x : Row) : Type 0 where
@@ -200,6 +208,13 @@ request_unowed p false true w s z f n g k = absurd cc
 request_unowed p false false true true z f n g k = absurd (g refl (silent_owner p.owner k))
 request_unowed p false false false true z f n g k = absurd (g refl (silent_owner p.owner k))
 request_unowed p false false w false z f n g k = refl
+
+outcome_unowed : (p : Plan) (v m w s : Bool) (z : Option Note) → (v ≡ true → is_none p.vote ≡ true → ⊥) → m ≡ false → (w ≡ true → is_none p.owner ≡ true → ⊥)
+    → is_unplanned p (or_else (note_by v m w s) z) ≡ true → w ≡ false
+outcome_unowed p true m w s z f n g k = absurd (f refl (silent_vote p.vote k))
+outcome_unowed p false true w s z f n g k = absurd cc
+outcome_unowed p false false true s z f n g k = absurd (g refl (silent_owner p.owner k))
+outcome_unowed p false false false s z f n g k = refl
 
 -- what is due of a row that isn't lost is what its own note is
 row_unplanned : (p : ℕ → Plan) (h : List Entry) (i : ℕ) (x : Row) → IsUnowed p h → slice_get (rows h) i ≡ Some x → is_gone (observe h) x.number.value ≡ false
@@ -428,6 +443,80 @@ commit_requested p h r g u k =
         (note_of_conn (conn_due (observe h) x.number.value)) heeded.votes
         (replied (has is_ask_promote h) (has is_promote_reply h) (is_promotable x.class) (is_some (latest decision_of h)) (promotion_replied p h r (heeded_promised p h g) u early)) (heeded.commits a.asked) (row_unplanned p h a.place x r a.stands there)))
 
+-- Whoever was let decide is the one durable that can own the commit, and stands in a row.
+lone_listed : (e : ℕ) (ds : List (EnlNo × Class)) → is_only e ds ≡ true → is_lone_owner ds ≡ true → has (λ x. (e == x.0.value) && is_single_class x.1) ds ≡ true
+lone_listed e [] o l = absurd cc
+lone_listed e (x ∷ []) o l = or_left ((e == x.0.value) && is_single_class x.1) false (and_both (e == x.0.value) (is_single_class x.1) (and_left (e == x.0.value) (can_own x.1) o) l)
+lone_listed e (x ∷ y ∷ ds) o l = absurd cc
+
+record IsOwnerRow (e : EnlNo) (h : List Entry) : Type 0 where
+  place : ℕ
+  row : Row
+  stands : slice_get (rows h) place ≡ Some row
+  name : (e.value == row.number.value) ≡ true
+  single : is_single_class row.class ≡ true
+
+owner_row : (e : EnlNo) (h : List Entry) → Keeps h → has (is_single_sent e.value) h ≡ true → IsOwnerRow e h
+owner_row e h k s =
+    let any = has_more (is_single_sent e.value) is_any_single_sent (single_any e.value) h s in
+    let lone = and_right (has is_sealed h) (is_lone_owner (durables h)) (lone_if_one h k (one_if_single h k any)) in
+    let listed = lone_listed e.value (durables h) (single_alone e h k s) lone in
+    let all : has (λ x. (e.value == x.0.value) && is_single_class x.1) (enlisted h) ≡ true =
+    has_more (λ x. ((e.value == x.0.value) && is_single_class x.1) && not (is_volatile x.1)) (λ x. (e.value == x.0.value) && is_single_class x.1)
+    (λ x t. and_left ((e.value == x.0.value) && is_single_class x.1) (not (is_volatile x.1)) t) (enlisted h)
+    (sym (has_filter (λ x. (e.value == x.0.value) && is_single_class x.1) (λ x. not (is_volatile x.1)) (enlisted h)) ∙ listed) in
+    let f = first_row (λ y. is_of e.value y && is_single_class y.class) (rows h) (has_rows (λ f c. (e.value == f.value) && is_single_class c) h ∙ all) in
+    record { place = f.0; row = f.1; stands = f.2; name = and_left (is_of e.value f.1) (is_single_class f.1.class) f.3; single = and_right (is_of e.value f.1) (is_single_class f.1.class) f.3 }
+
+-- so it has answered, where its plan has the answer: it wasn't lost, since whoever is lost has voted, and a vote is asked for two phases
+pub all_owned : (p : ℕ → Plan) (h : List Entry) → Keeps h → IsUnowed p h → AreHeeded p h → has is_promoting h ≡ true → has is_decision h ≡ false → (e : EnlNo) → has (is_hand e.value) h ≡ true → has is_owner_answer h ≡ true
+unfolding observe
+all_owned p h k r g b u e t = by s (owner_row e h k s)
+  where
+    s : has (is_single_sent e.value) h ≡ true
+    s = single_if_handed e.value h k b t
+
+    unpromotable : (c : Class) → is_single_class c ≡ true → is_promotable c ≡ false
+    unpromotable DurableSingle s = refl
+    unpromotable c s = absurd cc
+
+    promotes : (a b q d : Bool) → q ≡ false → (a && not b && q && not d) ≡ false
+    promotes true true q d n = refl
+    promotes true false true d n = absurd cc
+    promotes true false false d n = refl
+    promotes false b q d n = refl
+
+    answered : (m a : Bool) (d : Option Outcome) → m ≡ true → d ≡ None → (true && (if m then not a && is_unsettled d else not (is_some d))) ≡ false → a ≡ true
+    answered true true d q n f = refl
+    answered true false None q n f = absurd cc
+    answered true false (Some x) q n f = absurd cc
+    answered false a d q n f = absurd cc
+
+    by : has (is_single_sent e.value) h ≡ true → IsOwnerRow e h → has is_owner_answer h ≡ true
+    by s a = at (is_gone (observe h) a.row.number.value) refl
+      where
+        x : Row
+        x = a.row
+
+        any : has is_any_single_sent h ≡ true
+        any = has_more (is_single_sent e.value) is_any_single_sent (single_any e.value) h s
+
+        at : (c : Bool) → is_gone (observe h) x.number.value ≡ c → has is_owner_answer h ≡ true
+        at true lost =
+            let cast = voted_cast x.number.value h (has-at (λ y. is_of x.number.value y && has_voted y) (rows h) a.place x a.stands (and_both (x.number.value == x.number.value) (has_voted x) (eq_self x.number.value) (r.spared a.place x a.stands lost).has_cast)) in
+            absurd (not_both (has is_two_phase_got h) (vote_two e h k (single_opened e h k s) (subst (λ n. has (is_vote n) h ≡ true) (sym (eqb-true e.value x.number.value a.name)) cast)) (one_apart h k (one_if_single h k any)))
+        at false there =
+            let promoted = promoted_if_single h k any in
+            let heeded = g a.place x a.stands there in
+            let none = none_decided h u in
+            let unpaid =
+            outcome_unowed (p x.number.value) (owes_vote (observe h) x) (owes_promotion (observe h) x) (owes_outcome (observe h) x) (owes_request (observe h) x) (note_of_conn (conn_due (observe h) x.number.value)) heeded.votes
+            (promotes (has is_ask_promote h) (has is_promote_reply h) (is_promotable x.class) (is_some (latest decision_of h)) (unpromotable x.class a.single)) (heeded.owns promoted a.single)
+            (row_unplanned p h a.place x r a.stands there) in
+            let hand : is_handed (latest handed_of h) x.number.value ≡ true = hand_seen x.number.value h k ∙ subst (λ n. has (is_hand n) h ≡ true) (eqb-true e.value x.number.value a.name) t in
+            let P : Bool → Type 0 = λ b. (b && (if has is_promoted h then not (has is_owner_answer h) && is_unsettled (latest decision_of h) else not (is_some (latest decision_of h)))) ≡ false in
+            answered (has is_promoted h) (has is_owner_answer h) (latest decision_of h) promoted none (subst P hand unpaid)
+
 -- The plan of one that is willing has each reply that is due of it.
 pub willing_heeded : (p : Plan) (h : List Entry) (x : Row) → is_willing p x.class ≡ true → IsHeeded p h x
 unfolding observe
@@ -435,12 +524,17 @@ willing_heeded p h x w =
     record {
       votes = λ o n. vote_there p.vote (plans_vote w) n;
       promotes = λ a o n. promotion_there p.promote (plans_promotion x.class w (promotable_owes (has is_ask_promote h) (has is_promote_reply h) (is_promotable x.class) (is_some (latest decision_of h)) o)) n;
+      owns = λ m c o n. owner_there p.owner (plans_owner x.class w (single_owns x.class c)) n;
       commits = λ a o n. owner_there p.owner (plans_owner x.class w (owns x.class (promotable_owes (has is_ask_single h) (has is_request h) (is_promotable x.class) (is_some (latest decision_of h)) o))) n;
     }
   where
     vote_there : (o : Option Vote) → voted_well o ≡ true → is_none o ≡ true → ⊥
     vote_there (Some v) w k = cc
     vote_there None w k = cc
+
+    single_owns : (c : Class) → is_single_class c ≡ true → can_own c ≡ true
+    single_owns DurableSingle s = refl
+    single_owns c s = absurd cc
 
     owner_there : (o : Option Outcome) → is_committed o ≡ true → is_none o ≡ true → ⊥
     owner_there (Some x) w k = cc

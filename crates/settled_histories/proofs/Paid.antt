@@ -3,7 +3,7 @@ use Rattle.std.proofs.Common.{◌≡◌, Bool, true, false, ◌&&◌, List, [], 
 use Rattle.std.specs.Prelude.{filter, if◌then◌else◌}
 use Rattle.std.specs.List.{flat_map}
 use Rattle.dtx_values.specs.declared.entry.Entry.{Entry}
-use Rattle.dtx_values.specs.declared.entry.Entry.TheVariants.{Voted, PromoteReply, Requested, Sealed, LocalYes, Promoting, Got, Logged, Sent}
+use Rattle.dtx_values.specs.declared.entry.Entry.TheVariants.{OwnerAnswered, Voted, PromoteReply, Requested, Sealed, LocalYes, Promoting, Got, Logged, Sent}
 use Rattle.dtx_values.specs.declared.message.Conn.{Conn}
 use Rattle.dtx_values.specs.declared.message.Conn.TheVariants.{Begin, Voter, Enl, Again}
 use Rattle.dtx_values.specs.declared.message.Dir.TheVariants.{Down}
@@ -24,6 +24,7 @@ is_silent Sealed = false
 is_silent (Requested e x) = false
 is_silent LocalYes = false
 is_silent (Voted e v) = false
+is_silent (OwnerAnswered e x) = false
 is_silent Logged = false
 is_silent (Got c d m) = false
 is_silent x = true
@@ -35,6 +36,7 @@ silent_free h Sealed k = absurd cc
 silent_free h (Requested e x) k = absurd cc
 silent_free h LocalYes k = absurd cc
 silent_free h (Voted e v) k = absurd cc
+silent_free h (OwnerAnswered e x) k = absurd cc
 silent_free h Logged k = absurd cc
 silent_free h (Got c d m) k = absurd cc
 silent_free h x k = refl

@@ -9,13 +9,13 @@ use Rattle.dtx_values.specs.declared.entry.Answer.{Answer}
 use Rattle.dtx_values.specs.declared.entry.Answer.TheVariants.{Fine, True, Wait}
 use Rattle.dtx_values.specs.declared.entry.Ask.TheVariants.{Prepare, Promote, Single as AskSingle}
 use Rattle.dtx_values.specs.declared.entry.Entry.{Entry}
-use Rattle.dtx_values.specs.declared.entry.Entry.TheVariants.{Acked, Asked, Called, Decided, Enlisted, Got, Down as Ended, LocalYes, LogFull, OwnerAnswered, Promoting, PromoteReply, PromotionFailed, Requested, Sealed, Sent, Stopped, Voted}
+use Rattle.dtx_values.specs.declared.entry.Entry.TheVariants.{Acked, Asked, Called, Decided, Enlisted, Handed, Got, Down as Ended, LocalYes, LogFull, OwnerAnswered, Promoting, PromoteReply, PromotionFailed, Requested, Sealed, Sent, Stopped, Voted}
 use Rattle.dtx_values.specs.declared.message.Conn.{Conn}
 use Rattle.dtx_values.specs.declared.message.Conn.TheVariants.{Begin, Voter, Enl}
 use Rattle.dtx_values.specs.declared.message.Dir.{Dir}
 use Rattle.dtx_values.specs.declared.message.Dir.TheVariants.{Up, Down}
 use Rattle.dtx_values.specs.declared.message.Message.{Message}
-use Rattle.dtx_values.specs.declared.message.Message.TheVariants.{BeginAbort, BeginBegin, BeginBegun, BeginCommit, BeginCommitted, EnlistAbort, EnlistEnlist, EnlistEnlisted, EnlistPrepare, EnlistRefused, VoterAbort, VoterAsk, VoterCreated, VoterRefused, VoterVoter, VoterYes}
+use Rattle.dtx_values.specs.declared.message.Message.TheVariants.{BeginAbort, BeginBegin, BeginBegun, BeginCommit, BeginCommitOne, BeginCommitted, EnlistSingle, EnlistAbort, EnlistEnlist, EnlistEnlisted, EnlistPrepare, EnlistRefused, VoterAbort, VoterAsk, VoterCreated, VoterRefused, VoterVoter, VoterYes}
 use Rattle.dtx_values.specs.declared.note.Note.{Note}
 use Rattle.dtx_values.specs.declared.note.Note.TheVariants.{Single}
 use Rattle.dtx_values.specs.declared.note.Reply.{Reply}
@@ -33,28 +33,29 @@ use Rattle.dtx_values.specs.declared.words.Vote.{Vote}
 use Rattle.dtx_values.specs.declared.words.Vote.TheVariants.{Yes, No, Done}
 use Rattle.dtx_values.specs.Class.{is_promotable, is_volatile}
 use Rattle.dtx_values.specs.Ends.{knows, order_of, same_connection, tag_of, was_got}
-use Rattle.dtx_values.specs.Owners.{cause_of, owner_of}
+use Rattle.dtx_values.specs.Owners.{cause_of, commits_alone, owner_of}
 use Rattle.dtx_values.specs.Row.{is_of}
 use Rattle.dtx_values.specs.Support.{is_single}
 use Rattle.dtx_values.specs.Vote.{is_no}
 use Rattle.dtx_values.specs.Table.{insert_by}
 use Rattle.dtx_values.specs.Waves.{all_voted, is_over, name_of, next_ask}
+use Rattle.dtx_model.specs.declared.desk.Desk.{Desk}
 use Rattle.dtx_model.specs.declared.desk.Stage.{Stage}
-use Rattle.dtx_model.specs.declared.desk.Stage.TheVariants.{Aborted as AbortedStage, Active, Idle, Over, Recorded, Unknown}
+use Rattle.dtx_model.specs.declared.desk.Stage.TheVariants.{Aborted as AbortedStage, Active, Answered as AnsweredStage, Given, Idle, Over, Recorded, Sole, Unknown}
 use Rattle.dtx_model.specs.declared.waiting.EnteredCall.{EnteredCall}
 use Rattle.dtx_model.specs.declared.waiting.Wanted.TheVariants.{Identifier, Place}
 use Rattle.dtx_model.specs.Words.{has, latest, onto}
-use Rattle.dtx_model.specs.Entries.{decision_of, is_decision, is_promoted}
+use Rattle.dtx_model.specs.Entries.{decision_of, is_any_single_sent, is_decision, is_hand, is_promoted}
 use Rattle.dtx_model.specs.Observed.{cause_of_promotion, ends_of, handover, is_promotion_failed, observe, rows, track}
 use Rattle.dtx_model.specs.Outcome.{enlisted}
 use Rattle.dtx_model.specs.Promotes.{identifier_of, is_promoting, is_under_way}
 use Rattle.dtx_model.specs.Wires.{in_transit, is_next}
-use Rattle.dtx_model.specs.Coordinated.{Coordinated, abort_sends, coordinate, core_got, follow, is_active, may_log, opening_by, to_each, without}
+use Rattle.dtx_model.specs.Coordinated.{Coordinated, abort_sends, accepts, coordinate, core_got, follow, is_active, is_one, is_sole, may_log, opening_by, to_each, without}
 use Rattle.dtx_model.specs.Waiting.{Waiter, is_place_of, managed, waiting}
-use Rattle.dtx_model.specs.Half.{Half, by_manager, decide, ended, enlist_sent, fails_if, given, half_of, is_handed, is_promoting as is_promoting_now, over, promoted_by, sees, to_up, veto_if}
-use Rattle.dtx_model.specs.Arrivals.{hand_over, local_got, place_given}
+use Rattle.dtx_model.specs.Half.{Half, by_manager, decide, ended, enlist_sent, fails_if, given, half_of, is_gone, is_handed, is_promoting as is_promoting_now, over, promoted_by, sees, to_up, veto_if}
+use Rattle.dtx_model.specs.Arrivals.{hand_over, is_called_off, local_got, place_given}
 use Rattle.dtx_model.specs.Acts.{act_by, act_entries, after_seal, ask_or, asked_act, commit_act, commit_sent, is_to_tell, promotable_in, promoted_act, sealed_act, unasked_promotable, under_way, undecided_act, voter_act, yes_act}
-use Rattle.dtx_model.specs.Replies.{ack_on, conn_due, due_of, is_volatile_row, owner_entries, reply_entries, request_message, request_of, vote_message, voted_by}
+use Rattle.dtx_model.specs.Replies.{ack_on, answered_by, conn_due, due_of, is_volatile_row, one_message, owner_entries, reply_entries, request_message, request_of, vote_message, voted_by}
 use Rattle.dtx_model.specs.Facts.{begin_promotion, durable_facts, facts_if, has_facts}
 use Rattle.dtx_model.specs.World.{World, answer_at, core, facts_at, half}
 use Rattle.dtx_model.specs.Steps.{LogAnswer, Done as LogDone, Full, StoppedNow, StoppedBefore, Step, Calls, Replies, Acts, Coordinates, Delivers, Stops, Restarts, after, appended, block_at, coordinates, delivered, ended_at, freed, restarted}
@@ -64,9 +65,9 @@ use Rattle.history_table.proofs.Owned.{has_rows, decision_seen}
 use Rattle.history_table.proofs.Tests.{eq_self}
 use Rattle.history_table.proofs.EntryTests.{is_enlisted, has_promotable, is_volatile_made}
 use Rattle.dtx_model.proofs.Connections.{same_self}
-use Rattle.settled_histories.proofs.MessageKinds.{ABORT, ASK, BEGUN, ENLIST_ANSWER, VOTE, VOTER, VOTER_ANSWER}
+use Rattle.settled_histories.proofs.MessageKinds.{ABORT, ASK, BEGUN, ENLIST_ANSWER, ONE, VOTE, VOTER, VOTER_ANSWER}
 use Rattle.history_table.proofs.Messages.{BEGIN, COMMIT, ENLIST, YES}
-use Rattle.settled_histories.proofs.Debts.{created_next, debt, enlisted_next, is_decided_committed, is_free, is_going_up, knows_there, meets, when}
+use Rattle.settled_histories.proofs.Debts.{created_next, debt, enlisted_next, is_decided_committed, is_desk_there, is_free, is_going_up, knows_there, meets, when}
 use Rattle.settled_histories.proofs.Paid.{IsPaid, block_paid, logged_paid, silent_paid, single_paid}
 use Rattle.settled_histories.proofs.SilentBlocks.{Silent, silent_abort, silent_ack, silent_called, silent_commit_act, silent_core_got, silent_decide, silent_ended_at, silent_freed, silent_local_got, silent_one, silent_restarted, silent_tell, silent_veto, silent_veto_if}
 use Rattle.history_table.proofs.Crossed.{is_sent_on}
@@ -157,22 +158,23 @@ seal_paid : (h : List Entry) → IsPaid h → IsPaid (onto h (Sealed ∷ commit_
 unfolding observe
 seal_paid h p =
     head_paid h Sealed (has is_promoted h && not (has_promotable h) && knows Begin (ends_of h)) (is_sent_on Begin Up COMMIT) (commit_sent (observe h)) refl
-    (λ b. step (has is_promoted h) (is_some (promotable_in (rows h))) (has_promotable h) (knows Begin (ends_of h)) (promotable_seen h) b)
-    (quiet (has is_promoted h && not (is_some (promotable_in (rows h)))) (knows Begin (ends_of h))) p
+    (λ b. step (has is_promoted h) (is_some (promotable_in (rows h))) (has_promotable h) (knows Begin (ends_of h)) (commits_alone (rows h)) (promotable_seen h) b)
+    (quiet (has is_promoted h && not (is_some (promotable_in (rows h)))) (knows Begin (ends_of h)) (commits_alone (rows h))) p
   where
-    step : (a s t k : Bool) → s ≡ t → (a && not t && k) ≡ true
-        → leads (is_sent_on Begin Up COMMIT) (if a && not s then (if k then Sent Begin Up BeginCommit ∷ [] else []) else []) ≡ true
-    step true false true k e b = absurd cc
-    step true true true k e b = absurd cc
-    step true true false k e b = absurd cc
-    step true false false true e b = refl
-    step true false false false e b = absurd cc
-    step false s t k e b = absurd cc
+    step : (a s t k c : Bool) → s ≡ t → (a && not t && k) ≡ true
+        → leads (is_sent_on Begin Up COMMIT) (if a && not s then (if k then Sent Begin Up (if c then BeginCommitOne else BeginCommit) ∷ [] else []) else []) ≡ true
+    step true false true k c e b = absurd cc
+    step true true true k c e b = absurd cc
+    step true true false k c e b = absurd cc
+    step true false false true true e b = refl
+    step true false false true false e b = refl
+    step true false false false c e b = absurd cc
+    step false s t k c e b = absurd cc
 
-    quiet : (a k : Bool) → Silent (if a then (if k then Sent Begin Up BeginCommit ∷ [] else []) else [])
-    quiet true true = silent_one (Sent Begin Up BeginCommit) refl
-    quiet true false = record { proof = refl }
-    quiet false k = record { proof = refl }
+    quiet : (a k c : Bool) → Silent (if a then (if k then Sent Begin Up (if c then BeginCommitOne else BeginCommit) ∷ [] else []) else [])
+    quiet true true c = silent_one (Sent Begin Up (if c then BeginCommitOne else BeginCommit)) refl
+    quiet true false c = record { proof = refl }
+    quiet false k c = record { proof = refl }
 
 act_paid : (ks : List EnteredCall) (h : List Entry) (d : Option Outcome) → IsPaid h → IsPaid (onto h (act_by d (half_of ks h)))
 act_paid ks h (Some x) p = list_paid h _ (silent_tell x (find (is_to_tell (observe h) x) (observe h).listeners) (observe h).told_client) p
@@ -237,8 +239,27 @@ request_paid ks h e InDoubt p =
     head_paid h (Requested e (request_of InDoubt)) (knows Begin (ends_of h)) (is_sent_on Begin Up COMMIT) _ refl
     (lead_if (is_sent_on Begin Up COMMIT) (knows Begin (ends_of h)) (Sent Begin Up BeginCommit) [] [] refl) (up_silent (knows Begin (ends_of h)) Begin BeginCommit) p
 
-answer_paid : (ks : List EnteredCall) (h : List Entry) (e : EnlNo) (x : Outcome) → IsPaid h → IsPaid (onto h (OwnerAnswered e x ∷ decide (half_of ks h) x))
-answer_paid ks h e x p = list_paid (OwnerAnswered e x ∷ h) (decide (half_of ks h) x) (silent_decide (half_of ks h) x) (silent_paid h (OwnerAnswered e x ∷ []) p refl)
+-- an owner's answer is sent where it is promoted; else it decides
+one_sent : (e : EnlNo) (x : Outcome) → is_sent_on (Enl e) Up ONE (Sent (Enl e) Up (one_message x)) ≡ true
+one_sent e Committed = and_both (same_connection (Enl e) (Enl e) && true) true (and_both (same_connection (Enl e) (Enl e)) true (same_self (Enl e)) refl) refl
+one_sent e Aborted = and_both (same_connection (Enl e) (Enl e) && true) true (and_both (same_connection (Enl e) (Enl e)) true (same_self (Enl e)) refl) refl
+one_sent e InDoubt = and_both (same_connection (Enl e) (Enl e) && true) true (and_both (same_connection (Enl e) (Enl e)) true (same_self (Enl e)) refl) refl
+
+answer_paid : (ks : List EnteredCall) (h : List Entry) (e : EnlNo) (x : Outcome) → IsPaid h → IsPaid (onto h (OwnerAnswered e x ∷ answered_by (half_of ks h) e x))
+unfolding observe
+answer_paid ks h e x p =
+    head_paid h (OwnerAnswered e x) (has is_promoted h && knows (Enl e) (ends_of h)) (is_sent_on (Enl e) Up ONE) (answered_by (half_of ks h) e x) refl
+    (λ b. step (has is_promoted h) (knows (Enl e) (ends_of h)) (decide (half_of ks h) x) b)
+    (quiet (has is_promoted h) (knows (Enl e) (ends_of h)) (decide (half_of ks h) x) (silent_decide (half_of ks h) x)) p
+  where
+    step : (a k : Bool) (es : List Entry) → (a && k) ≡ true → leads (is_sent_on (Enl e) Up ONE) (if a then (if k then Sent (Enl e) Up (one_message x) ∷ [] else []) else es) ≡ true
+    step true true es b = one_sent e x
+    step true false es b = absurd cc
+    step false k es b = absurd cc
+
+    quiet : (a k : Bool) (es : List Entry) → Silent es → Silent (if a then (if k then Sent (Enl e) Up (one_message x) ∷ [] else []) else es)
+    quiet true k es s = up_silent k (Enl e) (one_message x)
+    quiet false k es s = s
 
 owner_paid : (ks : List EnteredCall) (h : List Entry) (e : EnlNo) (x : Outcome) (n : Option Note) → IsPaid h → IsPaid (onto h (owner_entries (half_of ks h) e x n))
 owner_paid ks h e x (Some Single) p = request_paid ks h e x p
@@ -317,10 +338,23 @@ answers_well p Over b good abort refused g a r = r 2
 answers_well p Active true good abort refused g a r = r 1
 answers_well p Active false good abort refused g a r = g
 answers_well p Idle b good abort refused g a r = r 1
+answers_well p Sole b good abort refused g a r = r 1
+answers_well p Given b good abort refused g a r = r 1
+answers_well p AnsweredStage b good abort refused g a r = r 1
 answers_well p Recorded b good abort refused g a r = r 1
 
 sent_on_own : (c : Conn) (p : Message → Bool) (m : Message) → p m ≡ true → is_sent_on c Down p (Sent c Down m) ≡ true
 sent_on_own c p m k = and_both (same_connection c c && true) (p m) (and_both (same_connection c c) true (same_self c) refl) k
+
+-- SINGLE goes first to a desk whose connection is known
+single_leads : (h : List Entry) (ds : List Desk) → has (is_desk_there h) ds ≡ true → leads is_any_single_sent (to_each (coordinate h) EnlistSingle ds) ≡ true
+single_leads h [] k = absurd cc
+single_leads h (d ∷ ds) k = one (has (same_connection (Enl d.enlistment)) (coordinate h).known) (to_each (coordinate h) EnlistSingle ds) (single_leads h ds) k
+  where
+    one : (b : Bool) (es : List Entry) → (has (is_desk_there h) ds ≡ true → leads is_any_single_sent es ≡ true) → (b || has (is_desk_there h) ds) ≡ true
+        → leads is_any_single_sent ((if b then Sent (Enl d.enlistment) Down EnlistSingle ∷ [] else []) ++ es) ≡ true
+    one true es f k = refl
+    one false es f k = f k
 
 core_paid : (t : ℕ) (w : World) (c : Conn) (m : Message) → IsPaid w.past → IsPaid (onto (Got c Up m ∷ w.past) (core_got (identifier_of t) (coordinate w.past) c m))
 unfolding core_got follow
@@ -352,6 +386,25 @@ core_paid t w Begin BeginCommit p =
     step true true es k = refl
     step true false es k = absurd cc
     step false b es k = absurd cc
+core_paid t w Begin BeginCommitOne p =
+    let k = coordinate w.past in
+    head_paid w.past (Got Begin Up BeginCommitOne) (accepts k && is_one k.desks && knows_there Voter w.past) (is_sent_on Voter Down ASK) (core_got (identifier_of t) k Begin BeginCommitOne) refl
+    (λ b. step (accepts k) (is_one k.desks) (has (same_connection Voter) k.known) (abort_sends (follow k (Got Begin Up BeginCommitOne))) b) (silent_core_got (identifier_of t) k Begin BeginCommitOne) p
+  where
+    step : (a o b : Bool) (es : List Entry) → (a && o && b) ≡ true → leads (is_sent_on Voter Down ASK) (if not a then [] else if o then (if b then Sent Voter Down VoterAsk ∷ [] else []) else es) ≡ true
+    step true true true es k = refl
+    step true true false es k = absurd cc
+    step true false b es k = absurd cc
+    step false o b es k = absurd cc
+core_paid t w Voter VoterYes p =
+    let k = coordinate w.past in
+    head_paid w.past (Got Voter Up VoterYes) (is_sole k.stage && has (is_desk_there w.past) k.desks) is_any_single_sent (core_got (identifier_of t) k Voter VoterYes) refl
+    (λ b. step (is_sole k.stage) (has (is_desk_there w.past) k.desks) (to_each k EnlistSingle k.desks) (single_leads w.past k.desks) b) (silent_core_got (identifier_of t) k Voter VoterYes) p
+  where
+    step : (a b : Bool) (es : List Entry) → (b ≡ true → leads is_any_single_sent es ≡ true) → (a && b) ≡ true → leads is_any_single_sent (if a then es else []) ≡ true
+    step true true es f k = f refl
+    step true false es f k = absurd cc
+    step false b es f k = absurd cc
 core_paid t w c m p = list_paid (Got c Up m ∷ w.past) (core_got (identifier_of t) (coordinate w.past) c m) (silent_core_got (identifier_of t) (coordinate w.past) c m) (single_paid w.past (Got c Up m) p refl)
 
 -- The arrivals. What must stand before three of them: of CREATED, that the handover has a manager; of ENLISTED that is not the handover's, that the promotion is
@@ -456,6 +509,14 @@ arrived_paid t w (Enl e) EnlistEnlisted f p =
     (caused_way (is_some (latest cause_of_promotion w.past)) (has is_promoted w.past) (has is_promotion_failed w.past) (way_seen w.past ∙ and_left (is_under_way w.past) (is_handed (handover w.past) e.value) q)))
     (λ d o. let s = f d o in (s.0, find_leads e.value (waiting w.calls w.past) s.1))) (silent_local_got t (half w) (Enl e) EnlistEnlisted) p
 arrived_paid t w (Enl e) EnlistPrepare f p = block_paid w.past (Got (Enl e) Down EnlistPrepare) (Asked e Prepare) [] p (eq_self e.value) refl
+arrived_paid t w (Enl e) EnlistSingle f p =
+    head_paid w.past (Got (Enl e) Down EnlistSingle) (not (is_called_off (latest decision_of w.past)) && not (is_gone (observe w.past) e.value)) (is_hand e.value) (local_got t (half w) (Enl e) EnlistSingle) refl
+    (λ b. step (is_called_off (latest decision_of w.past)) (is_gone (observe w.past) e.value) b) (silent_local_got t (half w) (Enl e) EnlistSingle) p
+  where
+    step : (a g : Bool) → (not a && not g) ≡ true → leads (is_hand e.value) (if a || g then [] else Handed e ∷ []) ≡ true
+    step false false b = eq_self e.value
+    step false true b = absurd cc
+    step true g b = absurd cc
 arrived_paid t w Begin BeginCommitted f p =
     let v = sees (half w) (Got Begin Down BeginCommitted) in
     head_paid w.past (Got Begin Down BeginCommitted) (not (has is_decision w.past)) is_decided_committed (local_got t (half w) Begin BeginCommitted) refl

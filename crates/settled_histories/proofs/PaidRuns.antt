@@ -13,7 +13,7 @@ use Rattle.dtx_model.specs.Words.{always, has}
 use Rattle.dtx_model.specs.Entries.{is_decision, is_promoted}
 use Rattle.dtx_model.specs.Observed.{handover, is_promotion_failed}
 use Rattle.dtx_model.specs.Promotes.{is_promoting, is_under_way}
-use Rattle.dtx_model.specs.Wires.{WireRun, in_transit, is_next}
+use Rattle.dtx_model.specs.Wires.{in_transit, is_next}
 use Rattle.dtx_model.specs.Waiting.{is_place_of, waiting}
 use Rattle.dtx_model.specs.Half.{is_handed}
 use Rattle.dtx_model.specs.World.{World}
@@ -21,13 +21,11 @@ use Rattle.dtx_model.specs.Steps.{Step, Delivers}
 use Rattle.dtx_model.specs.Caused.{Ran}
 use Rattle.std.specs.Prelude.{Bool, not}
 use Rattle.settled_histories.proofs.MessageKinds.{COMMITTED}
-use Rattle.settled_histories.proofs.Rest.{is_sound}
-use Rattle.settled_histories.proofs.Committed.{committed_promoted, is_recorded_first}
+use Rattle.settled_histories.proofs.Committed.{committed_promoted, is_committed_well}
 use Rattle.settled_histories.proofs.Paid.{IsPaid}
 use Rattle.settled_histories.proofs.PaidBlocks.{MayServe, Serves, step_pays}
 use Rattle.settled_histories.proofs.Handovers.{AreManaged, ran_managed}
 use Rattle.history_table.proofs.Crossed.{got_sent}
-use Rattle.dtx_model.specs.AtLog.{is_restart}
 
 -- Where nothing is decided: before ENLISTED that is not the handover's, the promotion is over and a call waits for the place; and before COMMITTED no promotion is
 -- under way.
@@ -62,11 +60,11 @@ ran_pays G t [] w r f = subst IsPaid (sym r.1) (record { paid = refl; free = ref
 ran_pays G t (m ∷ ms) w r f =
     subst (λ (x : World). IsPaid x.past) (sym r.3) (step_pays t r.0 m (step_served r.0 m (ran_managed G t ms r.0 r.1) f.0) (ran_pays G t ms r.0 r.1 f.1))
 
--- What must stand before COMMITTED does, by the table of rules, where no restart came.
-pub committed_met : (h : List Entry) → WireRun h → has is_restart h ≡ false → is_next BeginCommitted (in_transit Begin Down h) → always is_sound h ≡ true → always is_recorded_first h ≡ true → is_under_way h ≡ false
-committed_met h run none n s r =
+-- What must stand before COMMITTED does, by the table of rules.
+pub committed_met : (h : List Entry) → is_next BeginCommitted (in_transit Begin Down h) → always is_committed_well h ≡ true → is_under_way h ≡ false
+committed_met h n r =
     over (has is_promoting h) (has is_promoted h) (has is_promotion_failed h)
-    (committed_promoted h run none s r (got_sent Begin Down BeginCommitted COMMITTED h n refl))
+    (committed_promoted h r (got_sent Begin Down BeginCommitted COMMITTED h n refl))
   where
     over : (a b c : Bool) → b ≡ true → (a && not b && not c) ≡ false
     over true b c k = rw k refl

@@ -1,4 +1,4 @@
--- After COMMIT, while the coordinator has decided nothing, it has asked each enlistment of which it got ENLIST to prepare: so in each world that steps make.
+-- After COMMIT for two phases, while the coordinator has decided nothing, it has asked each enlistment of which it got ENLIST to prepare: so in each world that steps make.
 use Rattle.std.proofs.Common.{◌≡◌, true, List, Bool, false, refl, ◌||◌, [], ◌∷◌, ◌∙◌, ap, sym, ◌&&◌, ℕ, ◌==◌, subst}
 use Rattle.std.specs.Prelude.{not}
 use Rattle.dtx_values.specs.declared.call.Call.{Call}
@@ -25,17 +25,17 @@ use Rattle.dtx_model.specs.Steps.{got_by, delivered, ended_at, Step, Calls, Repl
 use Rattle.dtx_model.specs.Caused.{Ran}
 use Rattle.dtx_model.proofs.Bools.{or_right, and_left, not_both, not_true}
 use Rattle.dtx_model.proofs.Quiet.{is_quiet, Quiet, q_head, q_tail, q_got_by, q_ended_at, q_act, q_appended, q_called, q_freed, q_if, q_one, q_reply, q_restarted}
-use Rattle.history_table.proofs.Messages.{COMMIT, ENLIST, PREPARE}
+use Rattle.history_table.proofs.Messages.{COMMIT, COMMIT_TWO, ENLIST, PREPARE}
 use Rattle.history_table.proofs.Crossed.{is_sent_on, is_got_on}
 use Rattle.history_table.proofs.Scans.{has_after, has_more}
 use Rattle.history_table.proofs.Tests.{not_up}
-use Rattle.settled_histories.proofs.Stages.{IsOpenThere, there_before, begin_got, stage_of, stage_seen}
+use Rattle.settled_histories.proofs.Stages.{IsOpenThere, first_active, there_before, uncommitted_two}
 use Rattle.settled_histories.proofs.Recorded.{commit_asks, is_prepare_to}
 use Rattle.settled_histories.proofs.Desks.{desk_there, desks_known}
-use Rattle.settled_histories.proofs.Rest.{is_ordered}
+use Rattle.settled_histories.proofs.Rest.{is_once_committed, is_ordered}
 
 abbrev pub IsPrepared : List Entry → Type 0
-IsPrepared h = has (is_got_on Begin Up COMMIT) h ≡ true → (e : EnlNo) → has (is_got_on (Enl e) Up ENLIST) h ≡ true → has (is_sent_on (Enl e) Down PREPARE) h ≡ true
+IsPrepared h = has (is_got_on Begin Up COMMIT_TWO) h ≡ true → (e : EnlNo) → has (is_got_on (Enl e) Up ENLIST) h ≡ true → has (is_sent_on (Enl e) Down PREPARE) h ≡ true
 
 -- nothing is got in a quiet block
 ungot : (c : Conn) (d : Dir) (p : Message → Bool) (x : Entry) → is_quiet x ≡ true → is_got_on c d p x ≡ false
@@ -48,14 +48,14 @@ quiet_got c d p past (x ∷ es) q = quiet_got c d p (x ∷ past) es (q_tail x es
 
 quiet_keeps : (past es : List Entry) → Quiet es → IsPrepared past → IsPrepared (onto past es)
 quiet_keeps past es q p = λ c e k.
-    has_after (is_sent_on (Enl e) Down PREPARE) past es (p (sym (quiet_got Begin Up COMMIT past es q) ∙ c) e (sym (quiet_got (Enl e) Up ENLIST past es q) ∙ k))
+    has_after (is_sent_on (Enl e) Down PREPARE) past es (p (sym (quiet_got Begin Up COMMIT_TWO past es q) ∙ c) e (sym (quiet_got (Enl e) Up ENLIST past es q) ∙ k))
 
 -- and so it is after an entry that is neither COMMIT nor ENLIST got
-head_keeps : (x : Entry) (past es : List Entry) → is_got_on Begin Up COMMIT x ≡ false → ((e : EnlNo) → is_got_on (Enl e) Up ENLIST x ≡ false) → Quiet es → IsPrepared past
+head_keeps : (x : Entry) (past es : List Entry) → is_got_on Begin Up COMMIT_TWO x ≡ false → ((e : EnlNo) → is_got_on (Enl e) Up ENLIST x ≡ false) → Quiet es → IsPrepared past
     → IsPrepared (onto (x ∷ past) es)
 head_keeps x past es n f q p =
     quiet_keeps (x ∷ past) es q
-    (λ c e k. or_right (is_sent_on (Enl e) Down PREPARE x) (has (is_sent_on (Enl e) Down PREPARE) past) (p (rest (is_got_on Begin Up COMMIT x) _ n c) e (rest (is_got_on (Enl e) Up ENLIST x) _ (f e) k)))
+    (λ c e k. or_right (is_sent_on (Enl e) Down PREPARE x) (has (is_sent_on (Enl e) Down PREPARE) past) (p (rest (is_got_on Begin Up COMMIT_TWO x) _ n c) e (rest (is_got_on (Enl e) Up ENLIST x) _ (f e) k)))
   where
     rest : (a b : Bool) → a ≡ false → (a || b) ≡ true → b ≡ true
     rest true b n k = absurd cc
@@ -74,7 +74,7 @@ there_onto past (x ∷ es) u = there_before x past (there_onto (x ∷ past) es u
 commit_prepares : (id : ℕ) (h : List Entry) → IsOpenThere (onto (Got Begin Up BeginCommit ∷ h) (core_got id (coordinate h) Begin BeginCommit)) → Quiet (core_got id (coordinate h) Begin BeginCommit)
     → IsPrepared h → IsPrepared (onto (Got Begin Up BeginCommit ∷ h) (core_got id (coordinate h) Begin BeginCommit))
 commit_prepares id h u q p = λ c e k.
-    by e (sym (quiet_got (Enl e) Up ENLIST (Got Begin Up BeginCommit ∷ h) (core_got id (coordinate h) Begin BeginCommit) q) ∙ k) (has (is_got_on Begin Up COMMIT) h) refl
+    by e (sym (quiet_got (Enl e) Up ENLIST (Got Begin Up BeginCommit ∷ h) (core_got id (coordinate h) Begin BeginCommit) q) ∙ k)
   where
     now : IsOpenThere (Got Begin Up BeginCommit ∷ h)
     now = there_onto (Got Begin Up BeginCommit ∷ h) (core_got id (coordinate h) Begin BeginCommit) u
@@ -83,18 +83,19 @@ commit_prepares id h u q p = λ c e k.
     past = there_before (Got Begin Up BeginCommit) h now
 
     active : is_active (coordinate h).stage ≡ true
-    active = ap is_active (stage_seen h past) ∙ ap (λ b. is_active (stage_of b)) (begin_got COMMIT (Got Begin Up BeginCommit ∷ h) now.fine refl)
+    active = ap is_active (first_active BeginCommit h refl now)
 
     sent : (e : EnlNo) (x : Entry) → is_prepare_to e.value x ≡ true → is_sent_on (Enl e) Down PREPARE x ≡ true
     sent e (Sent (Enl f) Down EnlistPrepare) k = rw k refl
     sent e x k = absurd cc
 
-    by : (e : EnlNo) → has (is_got_on (Enl e) Up ENLIST) h ≡ true → (b : Bool) → has (is_got_on Begin Up COMMIT) h ≡ b
-        → has (is_sent_on (Enl e) Down PREPARE) (onto (Got Begin Up BeginCommit ∷ h) (core_got id (coordinate h) Begin BeginCommit)) ≡ true
-    by e k true c = has_after (is_sent_on (Enl e) Down PREPARE) (Got Begin Up BeginCommit ∷ h) (core_got id (coordinate h) Begin BeginCommit) (p c e k)
-    by e k false c =
+    first : has (is_got_on Begin Up COMMIT) h ≡ false
+    first = not_true (has (is_got_on Begin Up COMMIT) h) (and_left (not (has (is_got_on Begin Up COMMIT) h)) (always is_once_committed h) now.once)
+
+    by : (e : EnlNo) → has (is_got_on (Enl e) Up ENLIST) h ≡ true → has (is_sent_on (Enl e) Down PREPARE) (onto (Got Begin Up BeginCommit ∷ h) (core_got id (coordinate h) Begin BeginCommit)) ≡ true
+    by e k =
         has_more (is_prepare_to e.value) (is_sent_on (Enl e) Down PREPARE) (sent e) (onto (Got Begin Up BeginCommit ∷ h) (core_got id (coordinate h) Begin BeginCommit))
-        (commit_asks id h e.value active (desks_known h past c) (desk_there e h past k))
+        (commit_asks id h e.value active (desks_known h past first) (desk_there e h past k))
 
 -- a message got by the coordinator
 got_prepares : (t : ℕ) (w : World) (c : Conn) (m : Message) → IsOpenThere (onto (Got c Up m ∷ w.past) (got_by t w c Up m)) → IsPrepared w.past → IsPrepared (onto (Got c Up m ∷ w.past) (got_by t w c Up m))
@@ -103,8 +104,8 @@ got_prepares t w (Enl f) (EnlistEnlist i) u p = λ c e k.
     let now = there_onto (Got (Enl f) Up (EnlistEnlist i) ∷ w.past) (got_by t w (Enl f) Up (EnlistEnlist i)) u in
     let early : has (is_got_on Begin Up COMMIT) w.past ≡ false = not_true (has (is_got_on Begin Up COMMIT) w.past) (and_left (not (has (is_got_on Begin Up COMMIT) w.past)) (always is_ordered w.past) now.ordered) in
     absurd
-    (not_both (has (is_got_on Begin Up COMMIT) w.past)
-    (sym (quiet_got Begin Up COMMIT (Got (Enl f) Up (EnlistEnlist i) ∷ w.past) (got_by t w (Enl f) Up (EnlistEnlist i)) (q_got_by t w (Enl f) Up (EnlistEnlist i))) ∙ c) early)
+    (not_both (has (is_got_on Begin Up COMMIT_TWO) w.past)
+    (sym (quiet_got Begin Up COMMIT_TWO (Got (Enl f) Up (EnlistEnlist i) ∷ w.past) (got_by t w (Enl f) Up (EnlistEnlist i)) (q_got_by t w (Enl f) Up (EnlistEnlist i))) ∙ c) (uncommitted_two w.past early))
 got_prepares t w (Enl f) m u p = head_keeps (Got (Enl f) Up m) w.past (got_by t w (Enl f) Up m) refl (λ e. off_name (e.value == f.value)) (q_got_by t w (Enl f) Up m) p
 got_prepares t w c m u p = head_keeps (Got c Up m) w.past (got_by t w c Up m) refl (λ e. refl) (q_got_by t w c Up m) p
 
@@ -112,7 +113,7 @@ delivered_prepares : (t : ℕ) (w : World) (c : Conn) (d : Dir) (ms : List Messa
 delivered_prepares t w c d [] u p = head_keeps (Ended c d) w.past (ended_at w c d) refl (λ e. refl) (q_ended_at w c d) p
 delivered_prepares t w c Up (m ∷ ms) u p = got_prepares t w c m u p
 delivered_prepares t w c Down (m ∷ ms) u p =
-    head_keeps (Got c Down m) w.past (got_by t w c Down m) (not_up (same_connection Begin c) (COMMIT m)) (λ e. not_up (same_connection (Enl e) c) (ENLIST m)) (q_got_by t w c Down m) p
+    head_keeps (Got c Down m) w.past (got_by t w c Down m) (not_up (same_connection Begin c) (COMMIT_TWO m)) (λ e. not_up (same_connection (Enl e) c) (ENLIST m)) (q_got_by t w c Down m) p
 
 -- after each step
 step_prepares : (t : ℕ) (w : World) (m : Step) → IsOpenThere (after t w m).past → IsPrepared w.past → IsPrepared (after t w m).past
@@ -129,7 +130,7 @@ step_prepares t w (Restarts found) u p = quiet_keeps w.past (restarted (core w).
 -- so in each world that steps made
 pub ran_prepares : (G : ℕ → ActorNo → Call → Type 0) (t : ℕ) (ms : List Step) (w : World) → Ran G t ms w → IsOpenThere w.past → IsPrepared w.past
 unfolding after
-ran_prepares G t [] w r u = λ c e k. absurd (not_both (has (is_got_on Begin Up COMMIT) w.past) c (ap (has (is_got_on Begin Up COMMIT)) r.1))
+ran_prepares G t [] w r u = λ c e k. absurd (not_both (has (is_got_on Begin Up COMMIT_TWO) w.past) c (ap (has (is_got_on Begin Up COMMIT_TWO)) r.1))
 ran_prepares G t (m ∷ ms) w r u =
     let v = r.0 in
     let past : w.past ≡ onto v.past (block_at t v m) = ap (λ (x : World). x.past) r.3 in

@@ -10,7 +10,6 @@ use Rattle.dtx_values.specs.declared.message.Conn.TheVariants.{Begin}
 use Rattle.dtx_values.specs.declared.message.Dir.{Dir}
 use Rattle.dtx_values.specs.declared.message.Dir.TheVariants.{Down, Up}
 use Rattle.dtx_values.specs.declared.message.Message.{Message}
-use Rattle.dtx_values.specs.declared.message.Message.TheVariants.{BeginCommit}
 use Rattle.dtx_values.specs.declared.note.Reply.{Reply}
 use Rattle.dtx_values.specs.declared.number.EnlNo.{EnlNo}
 use Rattle.dtx_model.specs.Observed.{Observed}
@@ -57,7 +56,7 @@ pub q_called : (t : ℕ) (w : World) (c : Call) (a : Answer) → Quiet (facts_if
 q_called t w c a = of_called quiet t w c a (quiet_one (ByCall c)) (λ d n m. e_one (Cut d n m) refl) (λ r. e_one (RecoveredEntry r) refl)
 
 pub q_commit_sent : (o : Observed) → Quiet (commit_sent o)
-q_commit_sent o = of_commit_sent quiet [] o (e_one (Sent Begin Up BeginCommit) refl)
+q_commit_sent o = of_commit_sent quiet [] o (λ m t. e_one (Sent Begin Up m) refl)
 
 -- the block asks the promotable to promote
 pub record Promotes (h : Half) (es : List Entry) : Type 0 where

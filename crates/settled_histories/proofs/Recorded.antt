@@ -1,4 +1,4 @@
--- The coordinator's side: where COMMIT, YES and each vote were got and it has decided nothing, it may log.
+-- The coordinator's side: where COMMIT for two phases, YES and each vote were got and it has decided nothing, it may log.
 use Rattle.std.proofs.Common.{ℕ, ◌==◌, Bool, false, ◌≡◌, true, List, [], ◌∷◌, ◌++◌, ◌&&◌, ◌∙◌, ap, refl, ◌||◌, Some, sym, None}
 use Rattle.std.specs.Prelude.{not, map, if◌then◌else◌}
 use Rattle.std.proofs.lemmas.Bool.{or_left, false_from_ne_true, eq-eqb, eqb-true}
@@ -7,7 +7,7 @@ use Rattle.dtx_values.specs.declared.entry.Entry.TheVariants.{Sent, Got, Restart
 use Rattle.dtx_values.specs.declared.message.Conn.TheVariants.{Enl, Begin, Voter, Again}
 use Rattle.dtx_values.specs.declared.message.Dir.TheVariants.{Down, Up}
 use Rattle.dtx_values.specs.declared.message.Message.{Message}
-use Rattle.dtx_values.specs.declared.message.Message.TheVariants.{EnlistPrepare, BeginCommit, VoterAsk, VoterYes, EnlistEnlist, EnlistPrepared, EnlistNo, EnlistReadonly, EnlistAck, ReenlistAck}
+use Rattle.dtx_values.specs.declared.message.Message.TheVariants.{EnlistPrepare, BeginCommit, VoterAsk, VoterYes, EnlistEnlist, EnlistOneAborted, EnlistOneCommitted, EnlistOneInDoubt, EnlistPrepared, EnlistNo, EnlistReadonly, EnlistAck, ReenlistAck}
 use Rattle.dtx_values.specs.declared.number.EnlNo.{EnlNo}
 use Rattle.dtx_values.specs.Ends.{same_connection}
 use Rattle.dtx_values.specs.Lines.{has_line}
@@ -17,18 +17,18 @@ use Rattle.dtx_model.specs.declared.desk.Ballot.TheVariants.{Prepared, ReadOnly}
 use Rattle.dtx_model.specs.declared.desk.Desk.{Desk}
 use Rattle.dtx_model.specs.Words.{has, each, onto, always}
 use Rattle.dtx_model.specs.Entries.{is_commit_got, is_yes_got}
-use Rattle.dtx_model.specs.Coordinated.{Coordinated, is_desk_of, to_each, coordinate, core_got, is_active, to, follow, is_ready, with_ballot, accepts, desk_number, with_ack, may_log}
-use Rattle.dtx_model.proofs.Bools.{or_right, and_left, and_right, or_case, and_both, not_both, not_true}
-use Rattle.history_table.proofs.Messages.{COMMIT, YES, ENLIST, VOTED}
+use Rattle.dtx_model.specs.Coordinated.{Coordinated, is_desk_of, to_each, coordinate, core_got, is_active, is_going, to, follow, is_ready, with_ballot, accepts, desk_number, with_ack, may_log}
+use Rattle.dtx_model.proofs.Bools.{or_right, or_second, and_left, and_right, or_case, and_both, not_both, not_true}
+use Rattle.history_table.proofs.Messages.{COMMIT, COMMIT_ONE, COMMIT_TWO, YES, ENLIST, VOTED}
 use Rattle.history_table.proofs.Crossed.{is_got_on}
 use Rattle.history_table.proofs.CoreStages.{stopped_same}
 use Rattle.history_table.proofs.Scans.{each_more}
 use Rattle.history_table.proofs.Tests.{not_up}
 use Rattle.history_table.proofs.Managed.{each_inserted}
-use Rattle.settled_histories.proofs.Stages.{IsOpenThere, begin_got, stage_of, stage_seen, there_before, active_at}
+use Rattle.settled_histories.proofs.Stages.{IsOpenThere, active_at, active_stage, begin_got, committed_two, first_active, stage_seen, there_before, two_phase}
 use Rattle.settled_histories.proofs.Fine.{IsFine}
 use Rattle.settled_histories.proofs.Wired.{unstopped, newest}
-use Rattle.settled_histories.proofs.Foregoing.{voted_commit}
+use Rattle.settled_histories.proofs.Foregoing.{voted_commit, voted_two}
 use Rattle.settled_histories.proofs.Rest.{is_ordered}
 
 -- PREPARE is sent to this enlistment
@@ -66,20 +66,21 @@ commit_asks id h e a n d =
     has_onto (is_prepare_to e) (Got Begin Up BeginCommit ∷ h) (core_got id (coordinate h) Begin BeginCommit)
     (rw a (has_second (is_prepare_to e) (to (coordinate h) Voter VoterAsk) (to_each (coordinate h) EnlistPrepare (coordinate h).desks) (each_prepared (coordinate h) e (coordinate h).desks n d)))
 
--- COMMIT and YES are noted
-pub commit_seen : (h : List Entry) → IsOpenThere h → has (is_got_on Begin Up COMMIT) h ≡ true → (coordinate h).commit ≡ true
+-- COMMIT for two phases and YES are noted
+pub commit_seen : (h : List Entry) → IsOpenThere h → has (is_got_on Begin Up COMMIT_TWO) h ≡ true → (coordinate h).commit ≡ true
 unfolding coordinate follow
 commit_seen [] r k = absurd cc
 commit_seen (Got Begin Up BeginCommit ∷ h) r k =
-    let active : is_active (coordinate h).stage ≡ true = ap is_active (stage_seen h (there_before (Got Begin Up BeginCommit) h r)) ∙ ap (λ b. is_active (stage_of b)) (begin_got COMMIT (Got Begin Up BeginCommit ∷ h) r.fine k) in
-    or_left (is_active (coordinate h).stage) (coordinate h).commit active
+    or_left (is_active (coordinate h).stage) (coordinate h).commit (ap is_active (first_active BeginCommit h refl r))
 commit_seen (x ∷ h) r k = or_right (is_commit_got x && is_active (coordinate h).stage) (coordinate h).commit (commit_seen h (there_before x h r) k)
 
-pub yes_seen : (h : List Entry) → IsOpenThere h → has (is_got_on Voter Up YES) h ≡ true → (coordinate h).yes ≡ true
+pub yes_seen : (h : List Entry) → IsOpenThere h → has (is_got_on Begin Up COMMIT_ONE) h ≡ false → has (is_got_on Voter Up YES) h ≡ true → (coordinate h).yes ≡ true
 unfolding coordinate follow
-yes_seen [] r k = absurd cc
-yes_seen (Got Voter Up VoterYes ∷ h) r k = or_left (is_active (coordinate h).stage) (coordinate h).yes (active_at Voter VoterYes h refl (there_before (Got Voter Up VoterYes) h r) r.fine.wired.run.0)
-yes_seen (x ∷ h) r k = or_right (is_yes_got x && is_active (coordinate h).stage) (coordinate h).yes (yes_seen h (there_before x h r) k)
+yes_seen [] r n k = absurd cc
+yes_seen (Got Voter Up VoterYes ∷ h) r n k =
+    or_left (is_going (coordinate h).stage) (coordinate h).yes (ap is_going (active_at Voter VoterYes h refl (there_before (Got Voter Up VoterYes) h r) r.fine.wired.run.0 n))
+yes_seen (x ∷ h) r n k =
+    or_right (is_yes_got x && is_going (coordinate h).stage) (coordinate h).yes (yes_seen h (there_before x h r) (or_second (is_got_on Begin Up COMMIT_ONE x) (has (is_got_on Begin Up COMMIT_ONE) h) n) k)
 
 -- it doesn't stand stopped
 running : (h : List Entry) → IsFine h → (coordinate h).stopped ≡ false
@@ -131,6 +132,13 @@ voted_desk e b m h d r v k = step (is_desk_of e.value d) refl
         other true p = absurd (not_both (e.value == d.enlistment.value) (eq-eqb e.value d.enlistment.value (sym (eqb-true d.enlistment.value e.value p))) q)
         other false p = refl
 
+-- a vote is got after COMMIT for two phases
+voted_phase : (e : EnlNo) (h : List Entry) → IsOpenThere h → has (is_got_on (Enl e) Up VOTED) h ≡ true → has (is_got_on Begin Up COMMIT_ONE) h ≡ false
+voted_phase e h r k = two_phase h r.once (voted_two e h r.fine.wired.run r.ordered k)
+
+own_vote : (e : EnlNo) (m : Message) (h : List Entry) → VOTED m ≡ true → has (is_got_on (Enl e) Up VOTED) (Got (Enl e) Up m ∷ h) ≡ true
+own_vote e m h v = or_left ((e.value == e.value) && true && VOTED m) (has (is_got_on (Enl e) Up VOTED) h) (and_both ((e.value == e.value) && true) (VOTED m) (and_both (e.value == e.value) true (eq-eqb e.value e.value refl) refl) v)
+
 pub desks_seen : (h : List Entry) → IsOpenThere h → each (desk_seen h) (coordinate h).desks ≡ true
 unfolding coordinate follow
 desks_seen [] r = refl
@@ -153,11 +161,11 @@ desks_seen (Got (Enl e) Up (EnlistEnlist i) ∷ h) r =
     new true q = absurd cc
     new false q = rw (eq-eqb e.value e.value refl) refl
 desks_seen (Got (Enl e) Up EnlistPrepared ∷ h) r =
-    rw (active_at (Enl e) EnlistPrepared h refl (there_before (Got (Enl e) Up EnlistPrepared) h r) r.fine.wired.run.0)
+    rw (active_at (Enl e) EnlistPrepared h refl (there_before (Got (Enl e) Up EnlistPrepared) h r) r.fine.wired.run.0 (voted_phase e (Got (Enl e) Up EnlistPrepared ∷ h) r (own_vote e EnlistPrepared h refl)))
     (each_changed (desk_seen h) (desk_seen (Got (Enl e) Up EnlistPrepared ∷ h)) (with_ballot e.value (Some Prepared)) (λ d k. voted_desk e Prepared EnlistPrepared h d refl refl k) (coordinate h).desks
     (desks_seen h (there_before (Got (Enl e) Up EnlistPrepared) h r)))
 desks_seen (Got (Enl e) Up EnlistReadonly ∷ h) r =
-    rw (active_at (Enl e) EnlistReadonly h refl (there_before (Got (Enl e) Up EnlistReadonly) h r) r.fine.wired.run.0)
+    rw (active_at (Enl e) EnlistReadonly h refl (there_before (Got (Enl e) Up EnlistReadonly) h r) r.fine.wired.run.0 (voted_phase e (Got (Enl e) Up EnlistReadonly ∷ h) r (own_vote e EnlistReadonly h refl)))
     (each_changed (desk_seen h) (desk_seen (Got (Enl e) Up EnlistReadonly ∷ h)) (with_ballot e.value (Some ReadOnly)) (λ d k. voted_desk e ReadOnly EnlistReadonly h d refl refl k) (coordinate h).desks
     (desks_seen h (there_before (Got (Enl e) Up EnlistReadonly) h r)))
 desks_seen (Got (Enl e) Up EnlistNo ∷ h) r = absurd cc
@@ -167,6 +175,16 @@ desks_seen (Got (Enl e) Up EnlistAck ∷ h) r =
 desks_seen (Got (Again e) Up ReenlistAck ∷ h) r =
     each_changed (desk_seen h) (desk_seen (Got (Again e) Up ReenlistAck ∷ h)) (with_ack e.value) (λ d k. stays_seen (Got (Again e) Up ReenlistAck) h d refl k) (coordinate h).desks
     (desks_seen h (there_before (Got (Again e) Up ReenlistAck) h r))
+desks_seen (Got (Enl e) Up EnlistOneCommitted ∷ h) r =
+    by
+    (each_more (desk_seen h) (desk_seen (Got (Enl e) Up EnlistOneCommitted ∷ h)) (λ d k. stays_seen (Got (Enl e) Up EnlistOneCommitted) h d (no_vote (d.enlistment.value == e.value) true) k) (coordinate h).desks
+    (desks_seen h (there_before (Got (Enl e) Up EnlistOneCommitted) h r))) (is_active (coordinate h).stage)
+  where
+    by : each (desk_seen (Got (Enl e) Up EnlistOneCommitted ∷ h)) (coordinate h).desks ≡ true → (b : Bool) → each (desk_seen (Got (Enl e) Up EnlistOneCommitted ∷ h)) (if b then map (with_ballot e.value None) (coordinate h).desks else (coordinate h).desks) ≡ true
+    by old true = each_changed (desk_seen (Got (Enl e) Up EnlistOneCommitted ∷ h)) (desk_seen (Got (Enl e) Up EnlistOneCommitted ∷ h)) (with_ballot e.value None) (λ d k. k) (coordinate h).desks old
+    by old false = old
+desks_seen (Got (Enl e) Up EnlistOneAborted ∷ h) r = let q : true ≡ false = r.fine.unbad in absurd cc
+desks_seen (Got (Enl e) Up EnlistOneInDoubt ∷ h) r = let q : true ≡ false = r.fine.unbad in absurd cc
 desks_seen (Got (Enl e) Up m ∷ h) r = absurd (not_both (has_line (Enl e) Up m) (newest (Got (Enl e) Up m) h r.fine.wired) refl)
 desks_seen (Got (Enl e) Down m ∷ h) r =
     each_more (desk_seen h) (desk_seen (Got (Enl e) Down m ∷ h)) (λ d k. stays_seen (Got (Enl e) Down m) h d (not_up (d.enlistment.value == e.value) (VOTED m)) k) (coordinate h).desks
@@ -174,13 +192,13 @@ desks_seen (Got (Enl e) Down m ∷ h) r =
 desks_seen (Restarted b ∷ h) r = absurd cc
 desks_seen (x ∷ h) r = each_more (desk_seen h) (desk_seen (x ∷ h)) (λ d k. stays_seen x h d refl k) (coordinate h).desks (desks_seen h (there_before x h r))
 
--- where COMMIT, YES and the vote of each ENLIST were got and nothing is decided, the append is pending
-pub may_append : (h : List Entry) → IsOpenThere h → has (is_got_on Begin Up COMMIT) h ≡ true → has (is_got_on Voter Up YES) h ≡ true
+-- where COMMIT for two phases, YES and the vote of each ENLIST were got and nothing is decided, the append is pending
+pub may_append : (h : List Entry) → IsOpenThere h → has (is_got_on Begin Up COMMIT_TWO) h ≡ true → has (is_got_on Voter Up YES) h ≡ true
     → ((e : EnlNo) → has (is_got_on (Enl e) Up ENLIST) h ≡ true → has (is_got_on (Enl e) Up VOTED) h ≡ true) → may_log (coordinate h) ≡ true
 unfolding may_log
 may_append h r commit answer votes =
     all (coordinate h).stopped (is_active (coordinate h).stage) (coordinate h).commit (coordinate h).yes (each (λ d. is_ready d.ballot) (coordinate h).desks) (running h r.fine)
-    (ap is_active (stage_seen h r) ∙ ap (λ b. is_active (stage_of b)) (begin_got COMMIT h r.fine commit)) (commit_seen h r commit) (yes_seen h r answer)
+    (ap is_active (active_stage h (stage_seen h r) (begin_got COMMIT h r.fine (committed_two h commit)) (two_phase h r.once commit))) (commit_seen h r commit) (yes_seen h r (two_phase h r.once commit) answer)
     (each_more (desk_seen h) (λ d. is_ready d.ballot) ready (coordinate h).desks (desks_seen h r))
   where
     all : (a b c d e : Bool) → a ≡ false → b ≡ true → c ≡ true → d ≡ true → e ≡ true → (not a && b && c && d && e) ≡ true

@@ -10,28 +10,31 @@ use Rattle.dtx_values.specs.declared.message.Conn.TheVariants.{Begin, Enl, Again
 use Rattle.dtx_values.specs.declared.message.Dir.{Dir}
 use Rattle.dtx_values.specs.declared.message.Dir.TheVariants.{Up, Down}
 use Rattle.dtx_values.specs.declared.message.Message.{Message}
-use Rattle.dtx_values.specs.declared.message.Message.TheVariants.{BeginBegin, BeginCommit, EnlistAck, ReenlistAck}
+use Rattle.dtx_values.specs.declared.message.Message.TheVariants.{BeginBegin, BeginCommit, BeginCommitOne, EnlistAck, ReenlistAck}
 use Rattle.dtx_values.specs.declared.note.Note.{Note}
 use Rattle.dtx_values.specs.declared.note.Note.TheVariants.{Single}
 use Rattle.dtx_values.specs.declared.note.Reply.{Reply}
 use Rattle.dtx_values.specs.declared.note.Reply.TheVariants.{Vote as VoteReply, Promote as Promotes, Owner as OwnerReply, Ack}
 use Rattle.dtx_values.specs.declared.number.EnlNo.{EnlNo}
 use Rattle.dtx_values.specs.declared.words.Outcome.{Outcome}
+use Rattle.dtx_values.specs.declared.words.Outcome.TheVariants.{Committed, Aborted, InDoubt}
 use Rattle.dtx_values.specs.declared.words.Vote.{Vote}
 use Rattle.dtx_values.specs.declared.words.Vote.TheVariants.{Yes, No, Done}
 use Rattle.dtx_values.specs.Class.{is_promotable}
 use Rattle.dtx_values.specs.Ends.{knows}
 use Rattle.dtx_values.specs.Lines.{has_line}
+use Rattle.dtx_values.specs.Owners.{commits_alone}
 use Rattle.dtx_values.specs.Vote.{is_no}
 use Rattle.dtx_model.specs.Words.{each}
+use Rattle.dtx_model.specs.Entries.{is_commit_message}
 use Rattle.dtx_model.specs.Observed.{Observed}
 use Rattle.dtx_model.specs.Promotes.{identifier_of}
 use Rattle.dtx_model.specs.Wires.{in_transit}
 use Rattle.dtx_model.specs.Half.{Half, sees, to_up}
 use Rattle.dtx_model.specs.Arrivals.{local_got}
-use Rattle.dtx_model.specs.Acts.{act_entries, commit_sent, promotable_in}
+use Rattle.dtx_model.specs.Acts.{act_entries, commit_message, commit_sent, promotable_in}
 use Rattle.dtx_model.specs.Facts.{facts_if, has_facts}
-use Rattle.dtx_model.specs.Replies.{conn_due, due_of, is_volatile_row, owner_entries, reply_entries, vote_message}
+use Rattle.dtx_model.specs.Replies.{conn_due, due_of, is_volatile_row, one_message, owner_entries, reply_entries, vote_message}
 use Rattle.dtx_model.specs.World.{World, answer_at, core, facts_at, half}
 use Rattle.dtx_model.specs.Steps.{Step, Calls, Replies, Acts, Coordinates, Delivers, Stops, Restarts, block_at, delivered, ended_at}
 use Rattle.dtx_model.proofs.Writes.{Each, e_cons, e_if, e_none, e_one, IsClosed, each_closed, Source, ByAct, ByCall, ByMessage, ByReply, enlists, enlists_promotable, is_making_promotable, is_outcome_message, is_promotable_place, replies, requests, sends, writes}
@@ -58,6 +61,7 @@ meek = each_closed is_meek refl (λ x. refl) (λ n x. refl) refl refl
 -- so are the entries of blocks, but of a seal and of an owner's reply
 meek_up : (s : Source) → requests s ≡ false → (m : Message) → sends s m ≡ true → not (COMMIT m) ≡ true
 meek_up s r BeginCommit t = absurd (not_both (requests s) t r)
+meek_up s r BeginCommitOne t = absurd cc
 meek_up s r _ t = refl
 
 meek_entry : (s : Source) → replies s ≡ false → requests s ≡ false → (x : Entry) → writes s x ≡ true → Meek (x ∷ [])
@@ -79,9 +83,14 @@ meek_act h =
     (record { rest = λ es q. inl q; promote = λ e d w s. inl (e_one (Asked e Promote) refl); single = λ e d s p q. inl (e_one (Asked e AskSingle) refl); seal = λ d s u. inr (s, refl) })
 
 -- a reply is so, or requests
+one_uncommit : (x : Outcome) → not (COMMIT (one_message x)) ≡ true
+one_uncommit Committed = refl
+one_uncommit Aborted = refl
+one_uncommit InDoubt = refl
+
 meek_owner : (h : Half) (e : EnlNo) (x : Outcome) (n : Option Note) → due_of h.seen e.value ≡ n → Meek (owner_entries h e x n) ⊎ Requests h e (owner_entries h e x n)
 meek_owner h e x (Some Single) d = inr (x, d, refl)
-meek_owner h e x _ d = inl (e_cons (OwnerAnswered e x) refl (meek.decides h x))
+meek_owner h e x _ d = inl (e_cons (OwnerAnswered e x) refl (e_if h.seen.promoted (e_if (knows (Enl e) h.seen.ends) (e_one (Sent (Enl e) Up (one_message x)) (one_uncommit x)) e_none) (meek.decides h x)))
 
 vote_uncommit : (v : Vote) → not (COMMIT (vote_message v)) ≡ true
 vote_uncommit Yes = refl
@@ -137,12 +146,20 @@ block_kind t w (Delivers c d) = inl (meek_delivered t w c d (in_transit c d w.pa
 block_kind t w Stops = inl (e_one Stopped refl)
 block_kind t w (Restarts found) = inl (of_restarted (meek.lists []) (core w).stopped found (e_one Stopped refl) (e_one (Restarted found) refl))
 
+-- what is sent after a seal is COMMIT, of either name
+pub commit_named : (o : Observed) → is_commit_message (commit_message o) ≡ true
+commit_named o = by (commits_alone o.table)
+  where
+    by : (b : Bool) → is_commit_message (if b then BeginCommitOne else BeginCommit) ≡ true
+    by true = refl
+    by false = refl
+
 -- what passes the seal and COMMIT passes the block of a seal; and so it is of a request
-pub seal_passes : (p : Entry → Bool) → p Sealed ≡ true → p (Sent Begin Up BeginCommit) ≡ true → (o : Observed) → each p (Sealed ∷ commit_sent o) ≡ true
+pub seal_passes : (p : Entry → Bool) → p Sealed ≡ true → ((m : Message) → is_commit_message m ≡ true → p (Sent Begin Up m) ≡ true) → (o : Observed) → each p (Sealed ∷ commit_sent o) ≡ true
 seal_passes p s c o = and_both (p Sealed) (each p (commit_sent o)) s (by (o.promoted && not (is_some (promotable_in o.table))) (knows Begin o.ends))
   where
-    by : (a b : Bool) → each p (if a then (if b then Sent Begin Up BeginCommit ∷ [] else []) else []) ≡ true
-    by true true = and_both (p (Sent Begin Up BeginCommit)) true c refl
+    by : (a b : Bool) → each p (if a then (if b then Sent Begin Up (commit_message o) ∷ [] else []) else []) ≡ true
+    by true true = and_both (p (Sent Begin Up (commit_message o))) true (c (commit_message o) (commit_named o)) refl
     by true false = refl
     by false b = refl
 
@@ -199,7 +216,7 @@ humble_block t w (Calls n a c j) k =
 humble_block t w (Replies e r) k = of_reply humble (half w) e r (humble_entry (ByReply r) refl)
 humble_block t w Acts k =
     of_whole_act humble (half w) (humble_entry (ByAct (is_some (half w).seen.decided)) refl) (λ e. e_one (Asked e Promote) refl) (λ e. e_one (Asked e AskSingle) refl) (e_one Sealed refl)
-    (e_one (Sent Begin Up BeginCommit) refl)
+    (λ m t. e_one (Sent Begin Up m) refl)
 humble_block t w (Coordinates x) k = of_coordinates (humble.lists []) (core w) x humble_sent (e_one Logged refl) (e_one LogFull refl) (e_one Freed refl) (e_one Stopped refl)
 humble_block t w (Delivers c d) k = humble_delivered t w c d (in_transit c d w.past)
 humble_block t w Stops k = e_one Stopped refl

@@ -1,16 +1,16 @@
 -- In each world that steps made one promotable at most was enlisted; and COMMIT was sent where a promotable had requested it, or none stood, and never where a promotable requested an abort.
 use Rattle.std.proofs.Common.{◌≡◌, ◌==◌, ℕ, Bool, true, false, if◌then◌else◌, ◌&&◌, ◌||◌, inl, inr, List, [], ◌∷◌, Some, refl, ◌∙◌, ap, sym, subst}
-use Rattle.std.specs.Prelude.{filter, not}
+use Rattle.std.specs.Prelude.{filter, is_some, not}
 use Rattle.std.proofs.lemmas.Bool.{eqb-true, false_from_ne_true, or_left}
 use Rattle.dtx_values.specs.declared.call.Call.{Call}
 use Rattle.dtx_values.specs.declared.call.Call.TheVariants.{Promotable as PromotableCall}
 use Rattle.dtx_values.specs.declared.entry.Entry.{Entry}
-use Rattle.dtx_values.specs.declared.entry.Entry.TheVariants.{Called, Enlisted, Init, Requested, Sealed, Sent}
+use Rattle.dtx_values.specs.declared.entry.Entry.TheVariants.{Called, Enlisted, Got, Init, Requested, Sealed, Sent}
 use Rattle.dtx_values.specs.declared.entry.Request.TheVariants.{Abort}
 use Rattle.dtx_values.specs.declared.message.Conn.TheVariants.{Begin, Enl}
 use Rattle.dtx_values.specs.declared.message.Dir.TheVariants.{Up, Down}
 use Rattle.dtx_values.specs.declared.message.Message.{Message}
-use Rattle.dtx_values.specs.declared.message.Message.TheVariants.{BeginAbort, BeginCommit}
+use Rattle.dtx_values.specs.declared.message.Message.TheVariants.{BeginAbort, BeginCommit, BeginCommitOne}
 use Rattle.dtx_values.specs.declared.note.Note.TheVariants.{Single}
 use Rattle.dtx_values.specs.declared.number.ActorNo.{ActorNo}
 use Rattle.dtx_values.specs.declared.number.EnlNo.{EnlNo}
@@ -19,25 +19,25 @@ use Rattle.dtx_values.specs.declared.words.Class.TheVariants.{One, Promotable, Z
 use Rattle.dtx_values.specs.declared.words.Outcome.{Outcome}
 use Rattle.dtx_values.specs.declared.words.Outcome.TheVariants.{Committed, Aborted, InDoubt}
 use Rattle.dtx_values.specs.Class.{is_promotable, is_volatile}
-use Rattle.dtx_values.specs.Ends.{same_connection}
+use Rattle.dtx_values.specs.Ends.{knows, same_connection}
 use Rattle.dtx_model.specs.Words.{always, each, has, onto}
 use Rattle.dtx_model.specs.Entries.{is_call, is_decision, is_promoted, is_sealed}
 use Rattle.dtx_model.specs.Observed.{Observed, is_request, observe}
 use Rattle.dtx_model.specs.Outcome.{durables, enlisted, is_empty}
 use Rattle.dtx_model.specs.Promotes.{is_promoting}
-use Rattle.dtx_model.specs.Wires.{opens}
+use Rattle.dtx_model.specs.Wires.{MayCross, WireRun, opens}
 use Rattle.dtx_model.specs.Half.{Half, to_up}
-use Rattle.dtx_model.specs.Acts.{commit_sent}
+use Rattle.dtx_model.specs.Acts.{commit_message, commit_sent, promotable_in}
 use Rattle.dtx_model.specs.Facts.{facts_if, has_facts}
 use Rattle.dtx_model.specs.Replies.{due_of, request_message, request_of}
 use Rattle.dtx_model.specs.World.{World, answer_at, half}
 use Rattle.dtx_model.specs.Steps.{Step, Calls, after, block_at}
 use Rattle.dtx_model.specs.Caused.{AreMadeOnce, MayCome, Ran}
-use Rattle.dtx_model.proofs.Bools.{and_both, and_left, and_never, and_right, not_both, not_false, not_true, or_case}
+use Rattle.dtx_model.proofs.Bools.{and_both, and_left, and_never, and_right, not_both, not_false, not_true, or_case, or_false, or_right}
 use Rattle.history_table.proofs.Tests.{fourth_of_five}
 use Rattle.history_table.proofs.Scans.{has_more}
 use Rattle.history_table.proofs.EntryTests.{is_enlisted, has_promotable}
-use Rattle.history_table.proofs.Table.{class_row, is_abort_request, is_enlist_got, is_opening_got, is_promotable_of, rule, stands_promotable}
+use Rattle.history_table.proofs.Table.{class_row, is_abort_request, is_abort_sent, is_enlist_got, is_lone_owner, is_opening_got, is_promotable_of, may_commit, rule, stands_promotable}
 use Rattle.history_table.proofs.Keeping.{Keeps, before, keeps_before, newest}
 use Rattle.history_table.proofs.Standing.{opened_if_got}
 use Rattle.history_table.proofs.HalfOwner.{enlist_opening}
@@ -49,7 +49,10 @@ use Rattle.history_table.proofs.BareBlocks.{Requests, Seals}
 use Rattle.settled_histories.proofs.RequestBlocks.{BlockKind, block_kind, humble_block, is_humble, is_meek, request_passes, seal_passes}
 use Rattle.history_table.proofs.Asking.{IsAsking, is_commit_sent, lone_there, request_owed}
 use Rattle.history_table.proofs.Steady.{run_stands}
-use Rattle.history_table.proofs.Crossed.{is_sent_on}
+use Rattle.history_table.proofs.Crossed.{is_got_on, is_sent_on}
+use Rattle.settled_histories.proofs.BeforeRows.{row_of}
+use Rattle.settled_histories.proofs.Counted.{got_first, is_once}
+use Rattle.settled_histories.proofs.Rest.{is_once_committed}
 
 -- a promotable is enlisted where none is
 abbrev pub is_alone : List Entry → Entry → Bool
@@ -60,10 +63,11 @@ is_alone h _ = true
 pub record IsLone (h : List Entry) : Type 0 where
   pub alone : always is_alone h ≡ true
 
--- where a promotable was enlisted COMMIT was sent only where it was requested, and never where an abort was
+-- where a promotable was enlisted COMMIT was sent only where it was requested, and never where an abort was; and it was sent once at most
 pub record IsRequesting (h : List Entry) : Type 0 where
   pub asked : has (is_sent_on Begin Up COMMIT) h ≡ true → has_promotable h ≡ true → has is_request h ≡ true
   pub apart : has is_abort_request h ≡ true → has (is_sent_on Begin Up COMMIT) h ≡ false
+  pub once : always (is_once (is_sent_on Begin Up COMMIT)) h ≡ true
 
 -- two promotables are one
 pub promotable_stands : (e : ℕ) (h : List Entry) → stands_promotable e h ≡ true → has_promotable h ≡ true
@@ -172,7 +176,7 @@ meek_apart h es k i =
 
 -- an abort is requested after the seal
 request_sealed : (x : Entry) (h : List Entry) → Keeps h → rule h x ≡ true → is_abort_request x ≡ true → has is_sealed h ≡ true
-request_sealed (Requested e Abort) h k r t = third (not (has is_decision h)) (has is_promoted h) (has is_sealed h) (stands_promotable e.value h) r
+request_sealed (Requested e Abort) h k r t = third (not (has is_decision h)) (has is_promoted h) (has is_sealed h) _ r
   where
     third : (a b c d : Bool) → (a && b && c && d) ≡ true → c ≡ true
     third a b c d k = and_right (a && b) c (and_left (a && b && c) d k)
@@ -193,7 +197,7 @@ seal_apart h v es q k s =
     subst P (sym s.1)
     (λ a. absurd (not_both (has is_sealed h)
     (before is_abort_request is_sealed request_sealed h k
-    (stood_before is_abort_request is_unaborting (λ x t. not_true (is_abort_request x) t) h (Sealed ∷ commit_sent v.seen) (seal_passes is_unaborting refl refl v.seen) a)) (subst S q s.0)))
+    (stood_before is_abort_request is_unaborting (λ x t. not_true (is_abort_request x) t) h (Sealed ∷ commit_sent v.seen) (seal_passes is_unaborting refl (λ m t. refl) v.seen) a)) (subst S q s.0)))
 
 abort_is_request : (x : Entry) → is_abort_request x ≡ true → is_request x ≡ true
 abort_is_request (Requested e Abort) t = refl
@@ -243,6 +247,107 @@ ran_apart G t (m ∷ ms) w once r k =
     let past = keeps_within v.past (block_at t v m) (subst (λ (x : World). Keeps x.past) r.3 k) in
     subst (λ (x : World). IsApart x.past) (sym r.3) (step_apart t v m past (run_stands G t ms v once r.1 past.ties).asking (ran_apart G t ms v once r.1 past))
 
+-- COMMIT is sent once at most: the seal comes once, and so does the request.
+abbrev IsOnceSent : List Entry → Type 0
+IsOnceSent h = always (is_once is_commit_sent) h ≡ true
+
+meek_once : (h es : List Entry) → each is_meek es ≡ true → IsOnceSent h → IsOnceSent (onto h es)
+meek_once h [] k o = o
+meek_once h (x ∷ es) k o =
+    meek_once (x ∷ h) es (and_right (is_meek x) (each is_meek es) k)
+    (and_both (is_once is_commit_sent h x) (always (is_once is_commit_sent) h)
+    (or_left (not (is_commit_sent x)) (not (has is_commit_sent h)) (not_false (is_commit_sent x) (meek_uncommit x (and_left (is_meek x) (each is_meek es) k)))) o)
+
+first_once : (x y : Entry) (h : List Entry) → is_commit_sent x ≡ false → has is_commit_sent h ≡ false → IsOnceSent h → IsOnceSent (y ∷ x ∷ h)
+first_once x y h n u o =
+    and_both (is_once is_commit_sent (x ∷ h) y) (always (is_once is_commit_sent) (x ∷ h))
+    (or_right (not (is_commit_sent y)) (not (has is_commit_sent (x ∷ h))) (not_false (has is_commit_sent (x ∷ h)) (or_false (is_commit_sent x) (has is_commit_sent h) n u)))
+    (alone_once x h n o)
+  where
+    alone_once : (x : Entry) (h : List Entry) → is_commit_sent x ≡ false → IsOnceSent h → IsOnceSent (x ∷ h)
+    alone_once x h n o = and_both (is_once is_commit_sent h x) (always (is_once is_commit_sent) h) (or_left (not (is_commit_sent x)) (not (has is_commit_sent h)) (not_false (is_commit_sent x) n)) o
+
+then_once : (b : Bool) (x : Entry) (m : Message) (h : List Entry) → is_commit_sent x ≡ false → has is_commit_sent h ≡ false → IsOnceSent h → IsOnceSent (onto (x ∷ h) (if b then Sent Begin Up m ∷ [] else []))
+then_once true x m h n u o = first_once x (Sent Begin Up m) h n u o
+then_once false x m h n u o = and_both (is_once is_commit_sent h x) (always (is_once is_commit_sent) h) (or_left (not (is_commit_sent x)) (not (has is_commit_sent h)) (not_false (is_commit_sent x) n)) o
+
+-- it is sent after the seal
+commit_sealed : (x : Entry) (h : List Entry) → Keeps h → rule h x ≡ true → is_commit_sent x ≡ true → has is_sealed h ≡ true
+commit_sealed (Sent Begin Up BeginCommit) h k r t = sealed_of h (and_left (may_commit h) (not (is_lone_owner (durables h))) (row_of Begin Up BeginCommit h r))
+  where
+    sealed_of : (h : List Entry) → may_commit h ≡ true → has is_sealed h ≡ true
+    sealed_of h m =
+        and_left (has is_sealed h) (has is_promoted h)
+        (and_left (has is_sealed h && has is_promoted h) (not (has is_decision h))
+        (and_left (has is_sealed h && has is_promoted h && not (has is_decision h)) (not (has is_abort_sent h) && (not (has_promotable h) || has is_request h)) m))
+commit_sealed (Sent Begin Up BeginCommitOne) h k r t = sealed_of h (and_left (may_commit h) (is_lone_owner (durables h)) (row_of Begin Up BeginCommitOne h r))
+  where
+    sealed_of : (h : List Entry) → may_commit h ≡ true → has is_sealed h ≡ true
+    sealed_of h m =
+        and_left (has is_sealed h) (has is_promoted h)
+        (and_left (has is_sealed h && has is_promoted h) (not (has is_decision h))
+        (and_left (has is_sealed h && has is_promoted h && not (has is_decision h)) (not (has is_abort_sent h) && (not (has_promotable h) || has is_request h)) m))
+commit_sealed x h k r t = absurd cc
+
+seal_once : (h : List Entry) (v : Half) (es : List Entry) → v.seen ≡ observe h → Keeps h → Seals v es → IsOnceSent h → IsOnceSent (onto h es)
+unfolding observe
+seal_once h v es q k s o =
+    let S : Observed → Type 0 = λ o. o.sealed ≡ false in
+    let P : List Entry → Type 0 = λ es. IsOnceSent (onto h es) in
+    let unsent = false_from_ne_true (has is_commit_sent h) (λ t. not_both (has is_sealed h) (before is_commit_sent is_sealed commit_sealed h k t) (subst S q s.0)) in
+    subst P (sym s.1) (by (v.seen.promoted && not (is_some (promotable_in v.seen.table))) (knows Begin v.seen.ends) unsent)
+  where
+    by : (a b : Bool) → has is_commit_sent h ≡ false → IsOnceSent (onto (Sealed ∷ h) (if a then (if b then Sent Begin Up (commit_message v.seen) ∷ [] else []) else []))
+    by true b u = then_once b Sealed (commit_message v.seen) h refl u o
+    by false b u = o
+
+requests_once : (h : List Entry) (v : Half) (e : EnlNo) (es : List Entry) → v.seen ≡ observe h → Keeps h → IsAsking h → Requests v e es → IsOnceSent h → IsOnceSent (onto h es)
+requests_once h v e es q k i s o =
+    let P : List Entry → Type 0 = λ es. IsOnceSent (onto h es) in
+    let D : Observed → Type 0 = λ o. due_of o e.value ≡ Some Single in
+    let owes = request_owed h e.value s.0 (subst D q s.1) in
+    subst P (sym s.2) (then_once (knows Begin v.seen.ends) (Requested e (request_of s.0)) (request_message s.0) h refl (unsent owes.0 owes.1) o)
+  where
+    unsent : has is_request h ≡ false → has_promotable h ≡ true → has is_commit_sent h ≡ false
+    unsent r p =
+        false_from_ne_true (has is_commit_sent h)
+        (λ a. or_case (has is_request h) (not (has_promotable h)) (λ b. not_both (has is_request h) b r) (λ b. not_both (has_promotable h) p (not_true (has_promotable h) b)) (lone_there h k i.lone a))
+
+step_once : (t : ℕ) (w : World) (m : Step) → Keeps w.past → IsAsking w.past → IsOnceSent w.past → IsOnceSent (after t w m).past
+unfolding after
+step_once t w m k i a = by (block_kind t w m)
+  where
+    by : BlockKind w (block_at t w m) → IsOnceSent (onto w.past (block_at t w m))
+    by (inl q) = meek_once w.past (block_at t w m) q.proof a
+    by (inr (inl s)) = seal_once w.past (half w) (block_at t w m) refl k s a
+    by (inr (inr s)) = requests_once w.past (half w) s.0 (block_at t w m) refl k i s.1 a
+
+ran_once_sent : (G : ℕ → ActorNo → Call → Type 0) (t : ℕ) (ms : List Step) (w : World) → AreMadeOnce G → Ran G t ms w → Keeps w.past → IsOnceSent w.past
+unfolding after
+ran_once_sent G t [] w once r k = subst IsOnceSent (sym r.1) refl
+ran_once_sent G t (m ∷ ms) w once r k =
+    let v = r.0 in
+    let past = keeps_within v.past (block_at t v m) (subst (λ (x : World). Keeps x.past) r.3 k) in
+    subst (λ (x : World). IsOnceSent x.past) (sym r.3) (step_once t v m past (run_stands G t ms v once r.1 past.ties).asking (ran_once_sent G t ms v once r.1 past))
+
+-- so it is got once at most
+pub once_got : (h : List Entry) → WireRun h → always (is_once (is_sent_on Begin Up COMMIT)) h ≡ true → always is_once_committed h ≡ true
+once_got [] w o = refl
+once_got (x ∷ h) w o =
+    let before = and_right (is_once (is_sent_on Begin Up COMMIT) h x) (always (is_once (is_sent_on Begin Up COMMIT)) h) o in
+    and_both (is_once_committed h x) (always is_once_committed h) (one x w.0) (once_got h w.1 before)
+  where
+    later : always (is_once (is_sent_on Begin Up COMMIT)) h ≡ true
+    later = and_right (is_once (is_sent_on Begin Up COMMIT) h x) (always (is_once (is_sent_on Begin Up COMMIT)) h) o
+
+    first : (m : Message) (b : Bool) → COMMIT m ≡ b → MayCross h (Got Begin Up m) → (not b || not (has (is_got_on Begin Up COMMIT) h)) ≡ true
+    first m true q n = not_false (has (is_got_on Begin Up COMMIT) h) (got_first Begin Up m COMMIT h w.1 n q later)
+    first m false q n = refl
+
+    one : (x : Entry) → MayCross h x → is_once_committed h x ≡ true
+    one (Got Begin Up m) n = first m (COMMIT m) refl n
+    one _ n = refl
+
 -- so in each world that steps made
 pub ran_requests : (G : ℕ → ActorNo → Call → Type 0) (t : ℕ) (ms : List Step) (w : World) → AreMadeOnce G → Ran G t ms w → Keeps w.past → IsRequesting w.past
 ran_requests G t ms w once r k =
@@ -250,4 +355,5 @@ ran_requests G t ms w once r k =
       asked = λ s p. or_case (has is_request w.past) (not (has_promotable w.past)) (λ a. a) (λ a. absurd (not_both (has_promotable w.past) p (not_true (has_promotable w.past) a)))
           (lone_there w.past k (run_stands G t ms w once r k.ties).asking.lone s);
       apart = ran_apart G t ms w once r k;
+      once = ran_once_sent G t ms w once r k;
     }

@@ -7,18 +7,18 @@ use Rattle.dtx_values.specs.declared.message.Conn.{Conn}
 use Rattle.dtx_values.specs.declared.message.Conn.TheVariants.{Begin, Voter, Enl}
 use Rattle.dtx_values.specs.declared.message.Dir.{Dir}
 use Rattle.dtx_values.specs.declared.message.Dir.TheVariants.{Up, Down}
-use Rattle.dtx_values.specs.declared.message.Message.TheVariants.{BeginCommit, EnlistEnlist, EnlistPrepare, EnlistPrepared, EnlistReadonly, VoterAsk}
+use Rattle.dtx_values.specs.declared.message.Message.TheVariants.{BeginCommit, BeginCommitOne, EnlistEnlist, EnlistPrepare, EnlistPrepared, EnlistReadonly, EnlistSingle, VoterAsk, VoterYes}
 use Rattle.dtx_values.specs.declared.number.EnlNo.{EnlNo}
 use Rattle.dtx_values.specs.Clones.{is_open_block}
 use Rattle.dtx_values.specs.Lines.{is_opening}
 use Rattle.dtx_values.specs.Waves.{zeros_voted}
 use Rattle.dtx_model.specs.Words.{has, each, always}
-use Rattle.dtx_model.specs.Entries.{is_asked, is_commit, is_decision, is_promoted, is_record, is_sealed, is_vote, is_yes}
+use Rattle.dtx_model.specs.Entries.{is_asked, is_commit, is_decision, is_hand, is_lost, is_owner_answer, is_promoted, is_record, is_sealed, is_vote, is_yes}
 use Rattle.dtx_model.specs.Observed.{clone_rows, is_ask_promote, is_ask_single, is_promote_reply, is_request, rows}
 use Rattle.dtx_model.specs.Promotes.{is_promoting}
 use Rattle.dtx_model.specs.Tied.{is_logged}
 use Rattle.dtx_model.specs.Wires.{in_transit}
-use Rattle.dtx_model.specs.Coordinated.{coordinate, may_log}
+use Rattle.dtx_model.specs.Coordinated.{coordinate, has_desk, is_sole, may_log}
 use Rattle.dtx_model.specs.declared.waiting.EnteredCall.{EnteredCall}
 use Rattle.dtx_model.specs.Waiting.{waiting}
 use Rattle.dtx_model.specs.Half.{half_of}
@@ -26,7 +26,7 @@ use Rattle.dtx_model.specs.Acts.{act_entries}
 use Rattle.history_table.proofs.EntryTests.{is_enlisted, is_volatile_made}
 use Rattle.history_table.proofs.NextActs.{has_answered}
 use Rattle.settled_histories.proofs.MessageKinds.{ASK, BEGUN, CREATED}
-use Rattle.history_table.proofs.Messages.{COMMIT, ENLIST, PREPARE, VOTED}
+use Rattle.history_table.proofs.Messages.{COMMIT, COMMIT_ONE, COMMIT_TWO, ENLIST, PREPARE, VOTED}
 use Rattle.settled_histories.proofs.Fine.{IsFine}
 use Rattle.settled_histories.proofs.Joined.{IsJoined}
 use Rattle.settled_histories.proofs.Debts.{owes_none, paid, pays}
@@ -46,18 +46,22 @@ is_sound past (Promoted u c) = has (is_got_on Begin Down BEGUN) past && has (is_
 is_sound past (Requested e x) = has is_promoted past
 is_sound past (Sent c Down m) = has (is_got_on c Up (is_opening c)) past
 is_sound past (Sent Begin Up BeginCommit) = has is_promoted past
+is_sound past (Sent Begin Up BeginCommitOne) = has is_promoted past
 is_sound past LocalYes = has (is_got_on Voter Down ASK) past && not (has is_yes past)
 is_sound past Logged = has (is_got_on Begin Up COMMIT) past
 is_sound past (Voted e v) = has (is_volatile_made e.value) past || has (is_got_on (Enl e) Down PREPARE) past
 is_sound past x = true
 
--- A record is freed where there is one. ENLIST comes to the coordinator before COMMIT, which comes before PREPARE and ASK are sent; and a vote is sent after PREPARE.
+-- A record is freed where there is one. ENLIST comes to the coordinator before COMMIT, which comes before ASK is sent, and for two phases before PREPARE; and a vote is sent after PREPARE. SINGLE is
+-- sent to the one enlistment that came, where COMMIT was got for a single phase and nothing came of it yet; and YES where the local side said yes.
 abbrev pub is_ordered : List Entry → Entry → Bool
 is_ordered past Freed = has is_record past
 is_ordered past (Got (Enl e) Up (EnlistEnlist i)) = not (has (is_got_on Begin Up COMMIT) past)
 is_ordered past (Sent (Enl e) Up EnlistPrepared) = has (is_got_on (Enl e) Down PREPARE) past
 is_ordered past (Sent (Enl e) Up EnlistReadonly) = has (is_got_on (Enl e) Down PREPARE) past
-is_ordered past (Sent (Enl e) Down EnlistPrepare) = has (is_got_on Begin Up COMMIT) past
+is_ordered past (Sent (Enl e) Down EnlistPrepare) = has (is_got_on Begin Up COMMIT_TWO) past
+is_ordered past (Sent (Enl e) Down EnlistSingle) = has (is_got_on Begin Up COMMIT_ONE) past && (is_sole (coordinate past).stage && has_desk (coordinate past) e.value)
+is_ordered past (Sent Voter Up VoterYes) = has is_yes past
 is_ordered past (Sent Voter Down VoterAsk) = has (is_got_on Begin Up COMMIT) past
 is_ordered past x = true
 
@@ -66,6 +70,11 @@ abbrev pub is_begun : List Entry → Entry → Bool
 is_begun past (Sent Voter Up m) = has (is_got_on Begin Down BEGUN) past
 is_begun past (Sent (Enl e) Up m) = has (is_got_on Begin Down BEGUN) past
 is_begun past x = true
+
+-- COMMIT, of either name, is got once.
+abbrev pub is_once_committed : List Entry → Entry → Bool
+is_once_committed past (Got Begin Up m) = not (COMMIT m) || not (has (is_got_on Begin Up COMMIT) past)
+is_once_committed past x = true
 
 -- each demand was met, and nothing is on the way
 pub record IsQuiet (h : List Entry) : Type 0 where
@@ -103,12 +112,17 @@ pub record IsAtRest (ks : List EnteredCall) (h : List Entry) : Type 0 where
   -- by the table and the rows: after the seal each Zero voted, and no blocking clone is open
   pub zeros : has is_sealed h ≡ true → zeros_voted (rows h) ≡ true
   pub closed : has is_open_block (clone_rows h) ≡ false
-  -- at the end of a block: after COMMIT, while nothing is logged, each enlistment at the coordinator has its PREPARE sent; and none of these is volatile
-  pub prepares : has is_decision h ≡ false → has is_logged h ≡ false → has (is_got_on Begin Up COMMIT) h ≡ true → (e : EnlNo) → has (is_got_on (Enl e) Up ENLIST) h ≡ true → has (is_sent_on (Enl e) Down PREPARE) h ≡ true
+  pub once : always is_once_committed h ≡ true
+  -- at the end of a block: after COMMIT for two phases, while nothing is logged, each enlistment at the coordinator has its PREPARE sent; and none of these is volatile
+  pub prepares : has is_decision h ≡ false → has is_logged h ≡ false → has (is_got_on Begin Up COMMIT_TWO) h ≡ true → (e : EnlNo) → has (is_got_on (Enl e) Up ENLIST) h ≡ true → has (is_sent_on (Enl e) Down PREPARE) h ≡ true
   pub lasting : (e : EnlNo) → has (is_got_on (Enl e) Up ENLIST) h ≡ true → has (is_volatile_made e.value) h ≡ false
   -- no act of the coordinator is pending, and no other reply
   pub append : may_log (coordinate h) ≡ false
   pub answered : has is_decision h ≡ false → has is_logged h ≡ false → each has_answered (rows h) ≡ true
   pub voted : has is_decision h ≡ false → has is_logged h ≡ false → (e : EnlNo) → has (is_asked e.value) h ≡ true → has (is_vote e.value) h ≡ true
   pub requested : has is_decision h ≡ false → has is_ask_single h ≡ true → has is_request h ≡ true
+  -- who was handed the commit has answered; but an answer would have come to the coordinator, and whoever was lost had voted
+  pub owned : has is_decision h ≡ false → (e : EnlNo) → has (is_hand e.value) h ≡ true → has is_owner_answer h ≡ true
+  pub unanswered : has is_decision h ≡ false → has is_owner_answer h ≡ false
+  pub spared : has is_decision h ≡ false → (e : EnlNo) → has (is_lost e.value) h ≡ true → has (is_vote e.value) h ≡ true
   pub asked : has is_commit h ≡ true

@@ -64,11 +64,15 @@ marshalled_rests = record {
   begun = refl;
   zeros = λ k. refl;
   closed = refl;
+  once = refl;
   prepares = λ d l k e n. absurd cc;
   lasting = λ e n. refl;
   append = refl;
   answered = λ u l. refl;
   voted = λ u l e a. absurd cc;
   requested = λ u a. absurd cc;
+  owned = λ d e k. absurd cc;
+  unanswered = λ d. absurd cc;
+  spared = λ d e k. absurd cc;
   asked = refl;
 }

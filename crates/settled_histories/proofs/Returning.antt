@@ -35,15 +35,16 @@ use Rattle.dtx_values.specs.declared.words.Outcome.{Outcome}
 use Rattle.dtx_values.specs.declared.words.Outcome.TheVariants.{Aborted as AbortedOutcome, Committed}
 use Rattle.dtx_model.specs.declared.branch.Branch.{Branch}
 use Rattle.dtx_model.specs.declared.desk.Stage.{Stage}
-use Rattle.dtx_model.specs.declared.desk.Stage.TheVariants.{Aborted, Active, Idle, Over, Recorded, Unknown}
-use Rattle.dtx_model.specs.Words.{each, has, onto, or_else}
+use Rattle.dtx_model.specs.declared.desk.Stage.TheVariants.{Aborted, Active, Answered, Given, Idle, Over, Recorded, Sole, Unknown}
+use Rattle.dtx_model.specs.Words.{each, has, latest, onto, or_else}
+use Rattle.dtx_model.specs.Entries.{handed_of, is_hand}
 use Rattle.dtx_model.specs.Observed.{branch_due, branches, due_in, ends_of, is_branch, observe, rows}
 use Rattle.dtx_model.specs.Outcome.{is_empty}
 use Rattle.dtx_model.specs.Promotes.{identifier_of, is_enlisted_got}
 use Rattle.dtx_model.specs.Tied.{tied}
 use Rattle.dtx_model.specs.Wires.{begins_ended, ended_after, ends, in_transit, is_ended, is_stopped, loses, lost_after, lost_since, opened_with, opens}
-use Rattle.dtx_model.specs.Coordinated.{abort_sends, commit_sends, coordinate, core_got, follow, has_aborted, is_recorded, is_undecided, may_free, may_log, to}
-use Rattle.dtx_model.specs.Half.{Half, info, is_gone, was_told}
+use Rattle.dtx_model.specs.Coordinated.{abort_sends, commit_sends, coordinate, core_got, follow, has_aborted, is_recorded, may_free, may_log, to}
+use Rattle.dtx_model.specs.Half.{Half, info, is_gone, is_handed, was_told}
 use Rattle.dtx_model.specs.Arrivals.{local_got}
 use Rattle.dtx_model.specs.Acts.{act_entries}
 use Rattle.dtx_model.specs.Answers.{if_begun}
@@ -52,7 +53,7 @@ use Rattle.dtx_model.specs.Replies.{conn_due, due_conn, due_of, fits, is_volatil
 use Rattle.dtx_model.specs.World.{World, answer_at, branch_answer, branches_by, core, facts_at, half, has_left, is_connected, is_finished_there, is_linked, is_unfinished_link, recovered_answer, reenlist_answer, reenlist_by, reenlist_facts, unless_connected, unless_stopped, was_opened}
 use Rattle.dtx_model.specs.Steps.{LogAnswer, Done, Full, StoppedBefore, StoppedNow, Step, Calls, Replies, Acts, Coordinates, Delivers, Stops, Restarts, after, appended, block_at, called, delivered, ended_at, freed, restarted}
 use Rattle.dtx_model.specs.Caused.{AreMadeOnce, MayCome, Ran, may_coordinate}
-use Rattle.dtx_model.proofs.Bools.{and_both, and_left, and_right, not_both, not_false, not_true, or_case, or_first, or_right}
+use Rattle.dtx_model.proofs.Bools.{and_both, and_left, and_right, not_both, not_false, not_true, or_case, or_false, or_first, or_right}
 use Rattle.dtx_model.proofs.Connections.{same_is, same_way_is}
 use Rattle.dtx_values.proofs.SameNumbers.{same_enlistment}
 use Rattle.history_table.proofs.Tests.{eq_self}
@@ -63,7 +64,9 @@ use Rattle.history_table.proofs.Table.{is_enlist_got, is_opening_got, stands_vol
 use Rattle.history_table.proofs.Keeping.{Keeps, before as stands_before, keeps_before}
 use Rattle.history_table.proofs.Handing.{keeps_within}
 use Rattle.history_table.proofs.Sendings.{got_line}
-use Rattle.history_table.proofs.Crossed.{IsStill, down_more, end_still, is_got_on, still_more, stopped_down}
+use Rattle.history_table.proofs.Crossed.{IsStill, down_more, end_still, is_got_on, since_opened, still_more, stopped_down}
+use Rattle.history_table.proofs.CameBack.{alone_if_opened}
+use Rattle.history_table.proofs.Undecided.{hand_seen}
 use Rattle.history_table.proofs.CoreStages.{has_recorded, recorded_mark, stopped_same}
 use Rattle.history_table.proofs.CoreKnown.{enlist_of, got_there, record_seen}
 use Rattle.history_table.proofs.HalfKnows.{one_tag_more}
@@ -72,6 +75,7 @@ use Rattle.history_table.proofs.Standing.{unvolatile_if_opened}
 use Rattle.settled_histories.proofs.MildBlocks.{IsWide, is_mild, wide_reply}
 use Rattle.history_table.proofs.Steady.{run_keeps, run_stands, tied_under}
 use Rattle.settled_histories.proofs.Announced.{free_recorded}
+use Rattle.settled_histories.proofs.Awaits.{withholds}
 use Rattle.history_table.proofs.EntryTests.{is_return}
 use Rattle.history_table.proofs.Marks.{IsMarked, enlisted_on, opened_if_returned, return_row}
 use Rattle.history_table.proofs.Reenlisted.{opened_since}
@@ -93,10 +97,13 @@ enlist_came e h k t =
     has_more (is_opening_got (Enl e)) (is_enlist_got e.value) (enlist_of e.value e (eq_self e.value)) h
     (got_there (Enl e) (λ m. true) h k (has_more (is_enlisted_got e.value) (is_got_on (Enl e) Down (λ m. true)) (enlisted_on e) h (stands_before (is_return e.value) (is_enlisted_got e.value) (return_row e.value) h k t)))
 
-over_stage : (s : Stage) → is_recorded s ≡ false → has_aborted s ≡ false → is_undecided s ≡ false → has_recorded s ≡ true
+over_stage : (s : Stage) → is_recorded s ≡ false → has_aborted s ≡ false → withholds s ≡ false → has_recorded s ≡ true
 over_stage Over r a u = refl
 over_stage Idle r a u = absurd cc
 over_stage Active r a u = absurd cc
+over_stage Sole r a u = absurd cc
+over_stage Given r a u = absurd cc
+over_stage Answered r a u = absurd cc
 over_stage Aborted r a u = absurd cc
 over_stage Unknown r a u = absurd cc
 over_stage Recorded r a u = refl
@@ -110,24 +117,24 @@ known_there e f m n h q t =
 
 reenlist_ready : (e f : EnlNo) (id : ℕ) (i : Info) (h : List Entry) → Keeps h → (e.value == f.value) ≡ true → AreFreed h → is_back e.value h ≡ true → IsBack e h
     → is_waiting_there e (Got (Again f) Up (ReenlistReenlist i) ∷ h) ≡ true
-    → (is_undecided (coordinate (Got (Again f) Up (ReenlistReenlist i) ∷ h)).stage ≡ true) ⊎ (has (is_sent_to e) (core_got id (coordinate h) (Again f) (ReenlistReenlist i)) ≡ true)
+    → (withholds (coordinate (Got (Again f) Up (ReenlistReenlist i) ∷ h)).stage ≡ true) ⊎ (has (is_sent_to e) (core_got id (coordinate h) (Again f) (ReenlistReenlist i)) ≡ true)
 unfolding core_got
-reenlist_ready e f id i h k q w b a t = pick (is_recorded (coordinate h).stage) (has_aborted (coordinate h).stage) (is_undecided (coordinate h).stage) refl refl refl
+reenlist_ready e f id i h k q w b a t = pick (is_recorded (coordinate h).stage) (has_aborted (coordinate h).stage) (withholds (coordinate h).stage) refl refl refl
   where
-    pick : (r v u : Bool) → is_recorded (coordinate h).stage ≡ r → has_aborted (coordinate h).stage ≡ v → is_undecided (coordinate h).stage ≡ u
-        → (is_undecided (coordinate (Got (Again f) Up (ReenlistReenlist i) ∷ h)).stage ≡ true)
+    pick : (r v u : Bool) → is_recorded (coordinate h).stage ≡ r → has_aborted (coordinate h).stage ≡ v → withholds (coordinate h).stage ≡ u
+        → (withholds (coordinate (Got (Again f) Up (ReenlistReenlist i) ∷ h)).stage ≡ true)
         ⊎ (has (is_sent_to e) (if r then to (follow (coordinate h) (Got (Again f) Up (ReenlistReenlist i))) (Again f) ReenlistCommitted else if v then to (follow (coordinate h) (Got (Again f) Up (ReenlistReenlist i))) (Again f) ReenlistAborted else []) ≡ true)
     pick true v u x y z = inr (known_there e f (ReenlistReenlist i) ReenlistCommitted h q t)
     pick false true u x y z = inr (known_there e f (ReenlistReenlist i) ReenlistAborted h q t)
-    pick false false true x y z = inl (ap is_undecided (again_same f (ReenlistReenlist i) h) ∙ z)
+    pick false false true x y z = inl (ap withholds (again_same f (ReenlistReenlist i) h) ∙ z)
     pick false false false x y z =
         absurd (never_freed e h w (record_seen h k (over_stage (coordinate h).stage x y z)) (sym (recorded_mark h) ∙ x) (enlist_came e h k (back_returned e.value h b)) a.unfinished a.unrecovered)
 
 other_ready : (e f : EnlNo) (m : Message) (h es : List Entry) → Keeps (Got (Again f) Up m ∷ h) → (e.value == f.value) ≡ true → is_reenlist m ≡ false → IsAnswering e h → IsReady e (Got (Again f) Up m ∷ h) es
 other_ready e f m h es k q n a u = by (is_underway e h) refl
   where
-    by : (b : Bool) → is_underway e h ≡ b → (is_undecided (coordinate (Got (Again f) Up m ∷ h)).stage ≡ true) ⊎ (has (is_sent_to e) es ≡ true)
-    by false c = inl (ap is_undecided (again_same f m h) ∙ a.heard c)
+    by : (b : Bool) → is_underway e h ≡ b → (withholds (coordinate (Got (Again f) Up m ∷ h)).stage ≡ true) ⊎ (has (is_sent_to e) es ≡ true)
+    by false c = inl (ap withholds (again_same f m h) ∙ a.heard c)
     by true c =
         or_case (is_asking_back (in_transit (Again e) Up h)) (not (is_empty (in_transit (Again e) Down h)))
         (λ v. absurd (not_both (is_reenlist m) (next_asks m (in_transit (Again e) Up h) (own_next e f m h k q) v) n))
@@ -174,13 +181,13 @@ delivered_answers t w c Up [] r f k e b =
     head_answers e (Ended c Up) w.past (ended_at w c Up) refl refl (λ y x n q. absurd cc) (lasting_ended_at e w c Up) k (λ u n v. end_reaches e c w.past u n v) (f e) b
 delivered_answers t w c Down [] r f k e b =
     head_answers e (Ended c Down) w.past (ended_at w c Down) refl refl (λ y x n q. absurd cc) (lasting_ended_at e w c Down) k
-    (λ u n v. absurd (not_both (is_undecided (coordinate w.past).stage) u (sym (ap is_undecided (end_same c w.past)) ∙ n))) (f e) b
+    (λ u n v. absurd (not_both (withholds (coordinate w.past).stage) u (sym (ap withholds (end_same c w.past)) ∙ n))) (f e) b
 delivered_answers t w c Up (m ∷ ms) r f k e b = by (same_connection (Again e) c) refl
   where
     by : (q : Bool) → same_connection (Again e) c ≡ q → IsAnswering e (onto (Got c Up m ∷ w.past) (core_got (identifier_of t) (core w) c m))
     by false q =
         head_answers e (Got c Up m) w.past (core_got (identifier_of t) (core w) c m) refl refl (λ y x n p. got_other e c Up x m n y q p) (lasting_core_got e (identifier_of t) (core w) c m) k
-        (λ u n v. got_reaches e (identifier_of t) c m w.past u n v) (f e) b
+        (λ u n v. got_reaches e (identifier_of t) c m w.past (got_line c Up m w.past (keeps_within (Got c Up m ∷ w.past) (core_got (identifier_of t) (core w) c m) k)) u n v) (f e) b
     by true q =
         let P : Conn → Type 0 = λ y. Keeps (onto (Got y Up m ∷ w.past) (core_got (identifier_of t) (core w) y m))
         → is_back e.value (onto (Got y Up m ∷ w.past) (core_got (identifier_of t) (core w) y m)) ≡ true → IsAnswering e (onto (Got y Up m ∷ w.past) (core_got (identifier_of t) (core w) y m)) in
@@ -190,7 +197,7 @@ delivered_answers t w c Down (m ∷ ms) r f k e b = by (same_connection (Again e
     by : (q : Bool) → same_connection (Again e) c ≡ q → IsAnswering e (onto (Got c Down m ∷ w.past) (local_got t (half w) c m))
     by false q =
         head_answers e (Got c Down m) w.past (local_got t (half w) c m) (not_false (same_connection (Again e) c) q) refl (λ y x n p. got_other e c Down x m n y q p) (lasting_local_got e t (half w) c m) k
-        (λ u n v. absurd (not_both (is_undecided (coordinate w.past).stage) u (sym (ap is_undecided (down_same c m w.past)) ∙ n))) (f e) b
+        (λ u n v. absurd (not_both (withholds (coordinate w.past).stage) u (sym (ap withholds (down_same c m w.past)) ∙ n))) (f e) b
     by true q =
         let P : Conn → Type 0 = λ y. Keeps (onto (Got y Down m ∷ w.past) (local_got t (half w) y m)) → is_back e.value (onto (Got y Down m ∷ w.past) (local_got t (half w) y m)) ≡ true → ⊥ in
         absurd
@@ -218,7 +225,7 @@ coordinates_answers h StoppedBefore true l c f k e b = stop_answers h e b
 coordinates_answers h Done false l c f k e b =
     head_answers e Freed h [] refl refl (λ y d n q. absurd cc) refl k
     (λ u n t. absurd
-    (free_recorded (coordinate h) (or_case (may_log (coordinate h)) (may_free (coordinate h) && true) (λ v. absurd (not_both (may_log (coordinate h)) v l)) (λ v. and_left (may_free (coordinate h)) true v) c) u)) (f e) b
+    (free_recorded withholds refl (coordinate h) (or_case (may_log (coordinate h)) (may_free (coordinate h) && true) (λ v. absurd (not_both (may_log (coordinate h)) v l)) (λ v. and_left (may_free (coordinate h)) true v) c) u)) (f e) b
 coordinates_answers h Full false l c f k e b = f e b
 coordinates_answers h StoppedNow false l c f k e b = stop_answers h e b
 coordinates_answers h StoppedBefore false l c f k e b = stop_answers h e b
@@ -444,7 +451,7 @@ return_answers t w n a f (Some d) past g k e b = by (find (is_branch f.value) (b
             let free = branch_free c.enlisted (is_finished_there (half w).seen c.enlistment.value) (is_in c.manager.value (core w).recovered) (is_connected c.enlistment w.past) (core w).stopped c.manager c.enlistment q in
             let P : EnlNo → Type 0 = λ h. IsAnswering h (returned t n a (branch_answer w c) c w.past) in
             subst P (sym (same_enlistment e c.enlistment (eqb-true e.value c.enlistment.value p)))
-            (return_back t n a (branch_answer w c) c w.past k (sym (stopped_same w.past) ∙ free.3) i (sym (finished_seen c.enlistment.value w.past) ∙ free.0) free.1 free.2)
+            (return_back t n a (branch_answer w c) c w.past k (sym (stopped_same w.past) ∙ free.3) i (or_first (is_finished c.enlistment.value w.past) (is_handed (latest handed_of w.past) c.enlistment.value) (sym (finished_seen c.enlistment.value w.past) ∙ free.0)) free.1 free.2)
 
     by : (o : Option Branch) → find (is_branch f.value) (branches w.past) ≡ o → Keeps (onto w.past (Called n a (reenlist_by w o) ∷ facts_if (has_facts (reenlist_by w o)) (reenlist_facts t o)))
         → is_back e.value (onto w.past (Called n a (reenlist_by w o) ∷ facts_if (has_facts (reenlist_by w o)) (reenlist_facts t o))) ≡ true
@@ -466,6 +473,15 @@ connected_back e h w =
     by true true false l r p q = refl
     by false a b l r p q = absurd cc
 
+-- and to none that is back the commit was handed
+back_unhanded : (e : EnlNo) (h : List Entry) → Keeps h → IsBack e h → is_handed (latest handed_of h) e.value ≡ false
+back_unhanded e h k i =
+    let alone = alone_if_opened e h k (since_opened (Again e) h (ap is_some i.awaited.opened)) in
+    hand_seen e.value h k
+    ∙ not_true (has (is_hand e.value) h)
+    (and_right (has (is_enlisted_got e.value) h) (not (has (is_hand e.value) h))
+    (and_left (has (is_enlisted_got e.value) h && not (has (is_hand e.value) h)) (is_ended (Enl e) Down h) alone))
+
 unfinished_link : (w : World) (e : EnlNo) (r : ℕ) → Keeps w.past → IsBack e w.past → has (is_enlist_by e.value r) w.past ≡ true → (bs : List Branch) → each (is_managed_branch w.past) bs ≡ true → has (is_branch e.value) bs ≡ true
     → has (λ b. is_unfinished_link w b && (r == b.manager.value)) bs ≡ true
 unfolding observe
@@ -479,11 +495,14 @@ unfinished_link w e r k i t (b ∷ bs) m g =
     here s m =
         let F : EnlNo → Type 0 = λ f. is_finished f.value w.past ≡ false in
         let C : EnlNo → Type 0 = λ f. is_connected f w.past ≡ true in
+        let H : EnlNo → Type 0 = λ f. is_handed (latest handed_of w.past) f.value ≡ false in
         let M : EnlNo → Type 0 = λ f. has (is_enlist_by f.value b.manager.value) w.past ≡ true in
         let one : r ≡ b.manager.value = one_manager e r b.manager.value w.past k t (subst M (sym s) m) in
         and_both (is_unfinished_link w b) (r == b.manager.value)
         (and_both (not (is_finished_there (half w).seen b.enlistment.value)) (is_connected b.enlistment w.past)
-        (not_false (is_finished_there (half w).seen b.enlistment.value) (finished_seen b.enlistment.value w.past ∙ subst F s i.unfinished)) (subst C s (connected_back e w.past i)))
+        (not_false (is_finished_there (half w).seen b.enlistment.value)
+        (finished_seen b.enlistment.value w.past
+        ∙ or_false (is_finished b.enlistment.value w.past) (is_handed (latest handed_of w.past) b.enlistment.value) (subst F s i.unfinished) (subst H s (back_unhanded e w.past k i)))) (subst C s (connected_back e w.past i)))
         (rw one (eq_self b.manager.value))
 
 recovers_none : (w : World) (q : RmNo) → has_facts (recovered_answer w q) ≡ true → has (is_unfinished_link w) (branches_by w q.value) ≡ false

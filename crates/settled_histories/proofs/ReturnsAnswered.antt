@@ -10,20 +10,21 @@ use Rattle.dtx_values.specs.declared.message.Dir.TheVariants.{Up, Down}
 use Rattle.dtx_values.specs.declared.number.EnlNo.{EnlNo}
 use Rattle.dtx_values.specs.declared.script.Line.{Line}
 use Rattle.dtx_model.specs.Words.{has}
-use Rattle.dtx_model.specs.Entries.{is_record, is_told}
+use Rattle.dtx_model.specs.Entries.{is_told}
 use Rattle.dtx_model.specs.Observed.{ends_of}
-use Rattle.dtx_model.specs.Learned.{are_answered, breaks_off, coordinator_aborted, is_answered, is_decided_there}
+use Rattle.dtx_model.specs.Learned.{are_answered, breaks_off, is_answered, is_decided_there}
 use Rattle.dtx_model.specs.Tied.{tied}
 use Rattle.dtx_model.specs.Wires.{opens}
-use Rattle.dtx_model.specs.Coordinated.{coordinate, is_undecided}
+use Rattle.dtx_model.specs.Coordinated.{coordinate}
 use Rattle.dtx_model.specs.Steps.{deliveries_on}
 use Rattle.dtx_model.specs.Caused.{FreelyCaused, IsCallOf, entered_in}
 use Rattle.dtx_model.specs.Grammar.{are_named_well}
 use Rattle.dtx_model.specs.History.{AreAnswered}
-use Rattle.dtx_model.proofs.Bools.{and_both, not_both, not_false, or_false, or_right}
+use Rattle.dtx_model.proofs.Bools.{and_both, not_both, not_false, or_right}
 use Rattle.history_table.proofs.Tests.{eq_self}
 use Rattle.history_table.proofs.Crossed.{since_opened}
-use Rattle.history_table.proofs.CoreStages.{open_unaborted, open_unrecorded}
+use Rattle.history_table.proofs.Keeping.{Keeps}
+use Rattle.history_table.proofs.Steady.{run_keeps}
 use Rattle.history_table.proofs.Names.{script_once}
 use Rattle.settled_histories.proofs.Idle.{idle, none_left, none_pending_on}
 use Rattle.settled_histories.proofs.EndsNoted.{noted}
@@ -31,6 +32,9 @@ use Rattle.history_table.proofs.EntryTests.{is_return}
 use Rattle.settled_histories.proofs.Awaiting.{is_back, is_underway}
 use Rattle.settled_histories.proofs.Back.{IsBack}
 use Rattle.settled_histories.proofs.Returning.{IsReturning, ran_returning}
+use Rattle.settled_histories.proofs.AllCome.{ran_stood}
+use Rattle.settled_histories.proofs.Awaits.{withholds}
+use Rattle.settled_histories.proofs.OnePhase.{withheld_open}
 
 -- Where nothing is pending, nothing is on the way to it.
 none_underway : (e : EnlNo) (h : List Entry) → has (opens (Again e)) h ≡ true → flat_map (deliveries_on h) (ends_of h) ≡ [] → is_underway e h ≡ false
@@ -71,8 +75,11 @@ pub answered_returns : (s : List Line) (t : ℕ) (h : List Entry) → are_named_
 answered_returns s t h named c d settled =
     by (ran_returning (IsCallOf s t) t c.1.0 (record { calls = c.0; past = h }) (script_once s t named) c.1.1 d) (is_decided_there h) refl
   where
-    open_none : is_undecided (coordinate h).stage ≡ true → is_decided_there h ≡ false
-    open_none u = or_false (has is_record h) (coordinator_aborted h) (open_unrecorded h u) (open_unaborted h u)
+    keeps : Keeps h
+    keeps = run_keeps (IsCallOf s t) t c.1.0 (record { calls = c.0; past = h }) (script_once s t named) c.1.1 d
+
+    open_none : withholds (coordinate h).stage ≡ true → is_decided_there h ≡ false
+    open_none u = withheld_open h keeps (ran_stood (IsCallOf s t) t c.1.0 (record { calls = c.0; past = h }) c.1.1 keeps) u
 
     opened : (e : EnlNo) → IsBack e h → has (opens (Again e)) h ≡ true
     opened e b = since_opened (Again e) h (ap is_some b.awaited.opened)

@@ -12,13 +12,13 @@ use Rattle.dtx_values.specs.declared.message.Conn.TheVariants.{Begin, Voter, Enl
 use Rattle.dtx_values.specs.declared.message.Dir.{Dir}
 use Rattle.dtx_values.specs.declared.message.Dir.TheVariants.{Up, Down}
 use Rattle.dtx_values.specs.declared.message.Message.{Message}
-use Rattle.dtx_values.specs.declared.message.Message.TheVariants.{EnlistEnlist, EnlistEnlisted, EnlistPrepare}
+use Rattle.dtx_values.specs.declared.message.Message.TheVariants.{BeginCommit, EnlistEnlist, EnlistEnlisted, EnlistPrepare}
 use Rattle.dtx_values.specs.declared.number.ActorNo.{ActorNo}
 use Rattle.dtx_values.specs.declared.number.EnlNo.{EnlNo}
 use Rattle.dtx_values.specs.Ends.{same_connection}
 use Rattle.dtx_values.specs.Lines.{has_line, is_opening}
 use Rattle.dtx_model.specs.Words.{always, each, has, latest, onto}
-use Rattle.dtx_model.specs.Entries.{decision_of, is_asked, is_commit, is_commit_got, is_decision, is_promoted, is_sealed}
+use Rattle.dtx_model.specs.Entries.{decision_of, is_asked, is_commit, is_commit_got, is_two_phase_got, is_decision, is_promoted, is_sealed}
 use Rattle.dtx_model.specs.Observed.{handover, is_promotion_failed, observe, track}
 use Rattle.dtx_model.specs.Promotes.{identifier_of, is_promoting, is_under_way}
 use Rattle.dtx_model.specs.Wires.{MayCross, in_transit, is_next, opens}
@@ -51,7 +51,7 @@ use Rattle.history_table.proofs.Keeping.{Keeps, earlier, keeps_before, newest}
 use Rattle.history_table.proofs.Crossed.{got_sent, is_got_on, is_sent_on, was_sent}
 use Rattle.history_table.proofs.CoreKnown.{sent_opened_there}
 use Rattle.history_table.proofs.Leading.{opening_was_sent}
-use Rattle.history_table.proofs.Standing.{ends_has}
+use Rattle.history_table.proofs.Standing.{ends_has, opened_if_got}
 use Rattle.settled_histories.proofs.BeforeRows.{prepare_on}
 use Rattle.settled_histories.proofs.ByTable.{ruled_later}
 use Rattle.settled_histories.proofs.Coming.{AreComing}
@@ -86,7 +86,7 @@ quiet_ungot : (c : Conn) (d : Dir) (p : Message → Bool) (x : Entry) → is_qui
 quiet_ungot c d p (Got e r m) q = absurd cc
 quiet_ungot c d p _ q = refl
 
-quiet_unsealed : (x : Entry) → is_quiet x ≡ true → is_sealed x ≡ false
+pub quiet_unsealed : (x : Entry) → is_quiet x ≡ true → is_sealed x ≡ false
 quiet_unsealed Sealed q = absurd cc
 quiet_unsealed _ q = refl
 
@@ -269,7 +269,7 @@ before_step : (G : ℕ → ActorNo → Call → Type 0) (t : ℕ) (m : Step) (ms
 unfolding after
 before_step G t m ms w r k = keeps_within r.0.past (block_at t r.0 m) (subst (λ (x : World). Keeps x.past) r.3 k)
 
-coming_of : (G : ℕ → ActorNo → Call → Type 0) (t : ℕ) (ms : List Step) (w : World) → Ran G t ms w → Keeps w.past → AreComing w.calls w.past
+pub coming_of : (G : ℕ → ActorNo → Call → Type 0) (t : ℕ) (ms : List Step) (w : World) → Ran G t ms w → Keeps w.past → AreComing w.calls w.past
 coming_of G t ms w r k = ran_coming G t ms w r (ruled_later w.past k.rules)
 
 pub ran_joined : (G : ℕ → ActorNo → Call → Type 0) (t : ℕ) (ms : List Step) (w : World) → Ran G t ms w → Keeps w.past → IsJoined w.past
@@ -289,8 +289,9 @@ no_waiter : (e : ℕ) (ws : List Waiter) → ws ≡ [] → has (is_place_of e) w
 no_waiter e [] q = refl
 no_waiter e (w ∷ ws) q = absurd cc
 
-seal_well : (ks : List EnteredCall) (h : List Entry) → Keeps h → latest decision_of h ≡ None → (waiting ks h ≡ []) × (is_under_way h ≡ false) → AreComing ks h → IsJoined h → IsSealedWell (Sealed ∷ h)
-seal_well ks h k d q c j = λ s e g. by e (was_sent (Enl e) Up ENLIST h k.wires g) (has (is_got_on (Enl e) Down ENLISTED) h) refl
+pub seal_stands : (ks : List EnteredCall) (h : List Entry) → Keeps h → latest decision_of h ≡ None → (waiting ks h ≡ []) × (is_under_way h ≡ false) → AreComing ks h → IsJoined h
+    → (e : EnlNo) → has (opens (Enl e)) h ≡ true → has (is_enlisted e.value) h ≡ true
+seal_stands ks h k d q c j e o = by e (has_more (opens (Enl e)) (is_sent_on (Enl e) Up ENLIST) (opens_sends e) h o) (has (is_got_on (Enl e) Down ENLISTED) h) refl
   where
     undecided : has is_decision h ≡ false
     undecided = sym (decision_seen h) ∙ ap is_some d
@@ -302,6 +303,18 @@ seal_well ks h k d q c j = λ s e g. by e (was_sent (Enl e) Up ENLIST h k.wires 
         (or_case (is_under_way h && is_handed (handover h) e.value) (has is_promoted h && has (is_place_of e.value) (waiting ks h))
         (λ a. not_both (is_under_way h) (and_left (is_under_way h) (is_handed (handover h) e.value) a) q.1)
         (λ a. not_both (has (is_place_of e.value) (waiting ks h)) (and_right (has is_promoted h) (has (is_place_of e.value) (waiting ks h)) a) (no_waiter e.value (waiting ks h) q.0)) (c undecided e s g))
+
+seal_well : (ks : List EnteredCall) (h : List Entry) → Keeps h → latest decision_of h ≡ None → (waiting ks h ≡ []) × (is_under_way h ≡ false) → AreComing ks h → IsJoined h → IsSealedWell (Sealed ∷ h)
+seal_well ks h k d q c j = λ s e g. seal_stands ks h k d q c j e (opened_if_got (Enl e) h k (has_more (is_got_on (Enl e) Up ENLIST) (is_opening_got (Enl e)) (enlist_opened e) h g))
+  where
+    enlist_opened : (e : EnlNo) (x : Entry) → is_got_on (Enl e) Up ENLIST x ≡ true → is_opening_got (Enl e) x ≡ true
+    enlist_opened e (Got c Up m) t = and_both (same_connection (Enl e) c) (is_opening c m) (and_left (same_connection (Enl e) c) true (and_left (same_connection (Enl e) c && true) (ENLIST m) t)) (opened c m (and_left (same_connection (Enl e) c) true (and_left (same_connection (Enl e) c && true) (ENLIST m) t)) (and_right (same_connection (Enl e) c && true) (ENLIST m) t))
+      where
+        opened : (c : Conn) (m : Message) → same_connection (Enl e) c ≡ true → ENLIST m ≡ true → is_opening c m ≡ true
+        opened (Enl f) (EnlistEnlist i) q t = refl
+        opened c m q t = absurd cc
+    enlist_opened e (Got c Down m) t = absurd (not_both (same_connection (Enl e) c && false && ENLIST m) t (not_up (same_connection (Enl e) c) (ENLIST m)))
+    enlist_opened e x t = absurd cc
 
 act_well : (w : World) (es : List Entry) → ActKind (half w) es → Keeps w.past → AreComing w.calls w.past → IsJoined w.past → AreSealedWell w.past → AreSealedWell (onto w.past es)
 unfolding observe
@@ -361,13 +374,17 @@ ran_well G t (m ∷ ms) w r k =
     (step_well t r.0 m b (coming_of G t ms r.0 r.1 b) (ran_upward G t ms r.0 r.1 b) (ran_joined G t ms r.0 r.1 b) (ran_well G t ms r.0 r.1 b))
 
 -- Who is asked to prepare was enlisted: a volatile stands, and a PREPARE comes after COMMIT and ENLIST were got.
+two_commit : (x : Entry) → is_two_phase_got x ≡ true → is_commit_got x ≡ true
+two_commit (Got Begin Up BeginCommit) t = refl
+two_commit _ t = absurd cc
+
 -- where PREPARE is sent, COMMIT was got, and ENLIST on its connection
 prepare_after : (e : EnlNo) (x : Entry) (h : List Entry) → Keeps h → rule h x ≡ true → is_sent_on (Enl e) Down PREPARE x ≡ true → (has is_commit_got h && has (is_opening_got (Enl e)) h) ≡ true
 prepare_after e (Sent c Down EnlistPrepare) h k r t =
     let same : Enl e ≡ c = same_is (Enl e) c (and_left (same_connection (Enl e) c) true (and_left (same_connection (Enl e) c && true) true t)) in
     let P : Conn → Type 0 = λ z. has (is_opening_got z) h ≡ true in
     and_both (has is_commit_got h) (has (is_opening_got (Enl e)) h)
-    (fourth_of_four (has_line c Down EnlistPrepare) (has is_promoting h) (is_there h c Down EnlistPrepare) (message_row h c EnlistPrepare) r)
+    (has_more is_two_phase_got is_commit_got two_commit h (fourth_of_four (has_line c Down EnlistPrepare) (has is_promoting h) (is_there h c Down EnlistPrepare) (message_row h c EnlistPrepare) r))
     (subst P (sym same) (third_of_four (has_line c Down EnlistPrepare) (has is_promoting h) (is_there h c Down EnlistPrepare) (message_row h c EnlistPrepare) r))
 prepare_after e (Sent c Down m) h k r t = absurd (not_both (same_connection (Enl e) c && true && false) t (and_never (same_connection (Enl e) c && true)))
 prepare_after e (Sent c Up m) h k r t = absurd (not_both (same_connection (Enl e) c && false && PREPARE m) t (not_up (same_connection (Enl e) c) (PREPARE m)))

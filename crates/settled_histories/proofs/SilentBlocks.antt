@@ -3,7 +3,7 @@ use Rattle.std.proofs.Common.{◌≡◌, ℕ, Bool, true, false, List, [], ◌�
 use Rattle.dtx_values.specs.declared.call.Call.{Call}
 use Rattle.dtx_values.specs.declared.entry.Answer.{Answer}
 use Rattle.dtx_values.specs.declared.entry.Entry.{Entry}
-use Rattle.dtx_values.specs.declared.entry.Entry.TheVariants.{Handed, Told, Sent, Got, Freed, Stopped, Restarted, Recovered as RecoveredEntry, Cut, Promoting, PromoteReply, Sealed, Requested, LocalYes, Voted, Logged}
+use Rattle.dtx_values.specs.declared.entry.Entry.TheVariants.{OwnerAnswered, Handed, Told, Sent, Got, Freed, Stopped, Restarted, Recovered as RecoveredEntry, Cut, Promoting, PromoteReply, Sealed, Requested, LocalYes, Voted, Logged}
 use Rattle.dtx_values.specs.declared.entry.Party.TheVariants.{Client, Enl as Member}
 use Rattle.dtx_values.specs.declared.message.Conn.{Conn}
 use Rattle.dtx_values.specs.declared.message.Conn.TheVariants.{Enl, Again}
@@ -49,6 +49,7 @@ silent_entry s b r p a x t = silent_one x (passes x t)
     passes (Requested e q) t = absurd (not_both (replies s) t r)
     passes LocalYes t = absurd (not_both (acts s) t a)
     passes (Voted e v) t = absurd (not_both (replies s) t r)
+    passes (OwnerAnswered e x) t = absurd (not_both (replies s) t r)
     passes Logged t = absurd cc
     passes (Got c d m) t = absurd cc
     passes _ t = refl

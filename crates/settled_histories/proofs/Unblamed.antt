@@ -1,7 +1,7 @@
 -- Where nothing is lost and nothing ends the transaction of itself, nothing bad comes: no veto, no abort, no refusal. So it is where all are willing. While nothing is decided, an
 -- enlistment or a connection may be lost as well, where no end is a veto.
-use Rattle.std.proofs.Common.{◌≡◌, ℕ, ◌==◌, Bool, true, false, ◌&&◌, ◌||◌, List, [], ◌∷◌, Option, Some, None, refl, sym, subst}
-use Rattle.std.specs.Prelude.{not}
+use Rattle.std.proofs.Common.{◌≡◌, ℕ, ◌==◌, Bool, true, false, ◌&&◌, ◌||◌, List, [], ◌∷◌, Option, Some, None, refl, ap, sym, subst}
+use Rattle.std.specs.Prelude.{not, if◌then◌else◌}
 use Rattle.std.proofs.lemmas.Bool.{eqb-true, false_from_ne_true}
 use Rattle.dtx_values.specs.declared.entry.Entry.{Entry}
 use Rattle.dtx_values.specs.declared.entry.Entry.TheVariants.{Enlisted, CommitAsked, RollbackAsked, TimedOut, Voted, PromoteReply, Requested, OwnerAnswered, Decided, Told, PromotionFailed, Sent, Got, Down as End, Lost, LogFull, Restarted}
@@ -12,7 +12,7 @@ use Rattle.dtx_values.specs.declared.message.Conn.TheVariants.{Begin, Voter, Enl
 use Rattle.dtx_values.specs.declared.message.Dir.{Dir}
 use Rattle.dtx_values.specs.declared.message.Dir.TheVariants.{Up, Down}
 use Rattle.dtx_values.specs.declared.message.Message.{Message}
-use Rattle.dtx_values.specs.declared.message.Message.TheVariants.{BeginAbort, BeginAborted, VoterNo, VoterRefused, VoterAbort, EnlistNo, EnlistRefused, EnlistAbort, ReenlistAborted}
+use Rattle.dtx_values.specs.declared.message.Message.TheVariants.{BeginAbort, BeginAborted, BeginCommitOne, BeginInDoubt, VoterNo, VoterRefused, VoterAbort, VoterInDoubt, EnlistNo, EnlistRefused, EnlistAbort, EnlistOneAborted, EnlistOneInDoubt, ReenlistAborted}
 use Rattle.dtx_values.specs.declared.note.Plan.{Plan}
 use Rattle.dtx_values.specs.declared.words.Class.{Class}
 use Rattle.dtx_values.specs.declared.words.Class.TheVariants.{Promotable}
@@ -29,16 +29,18 @@ use Rattle.dtx_model.specs.Entries.{decision_of, handed_of, is_decision, is_owne
 use Rattle.dtx_model.specs.Caused.{is_as_planned, is_outcome_planned, is_promotion_planned, is_request_planned, is_vote_planned}
 use Rattle.dtx_model.specs.History.{is_asked_in_time, is_committed, is_ending, is_loss, is_willing, nobody}
 use Rattle.dtx_model.specs.Learned.{coordinator_aborted, is_abort, is_first_abort}
-use Rattle.dtx_model.specs.Outcome.{can_own, coordinator_doubt, doubt, enlisted, is_begin_end, is_lost_owner, is_outcome_got, is_veto, is_veto_end, is_voter_end, owner_doubt}
+use Rattle.dtx_model.specs.Outcome.{can_own, coordinator_doubt, doubt, enlisted, is_begin_end, is_deciding, is_lone, is_lost_owner, is_lost_single, is_outcome_got, is_veto, is_veto_end, is_voter_end, owner_doubt, single_doubt}
 use Rattle.dtx_model.specs.Promotes.{ends_refused, ends_told, is_refusal}
 use Rattle.dtx_model.specs.Wires.{WireRun, is_next, is_stopped, in_transit}
 use Rattle.dtx_model.proofs.Bools.{and_both, and_left, and_never, and_right, or_case, or_false, or_first, or_second, not_both, not_false, not_true}
 use Rattle.dtx_model.proofs.Connections.{same_is}
 use Rattle.history_table.proofs.EntryTests.{is_decided, is_no_vote}
+use Rattle.history_table.proofs.Handed.{is_answered}
+use Rattle.history_table.proofs.Table.{is_one_in_doubt}
 use Rattle.history_table.proofs.Scans.{has_more, has_less}
 use Rattle.history_table.proofs.NextActs.{asked_well}
 use Rattle.settled_histories.proofs.Wired.{IsWired, is_any_end, is_end_on, newest, unlost_unended, unstopped, wired_before}
-use Rattle.settled_histories.proofs.Fine.{IsFine, any_class, blames, ends_aborted, ends_requested, has_cause, is_bad, is_bad_message, is_bad_outcome, is_caused, is_made, is_origin, is_pair, is_spared, is_spared_down}
+use Rattle.settled_histories.proofs.Fine.{IsFine, any_class, blames, ends_aborted, ends_requested, has_cause, is_bad, is_bad_message, is_bad_outcome, is_caused, is_lone_asked, is_made, is_origin, is_pair, is_spared, is_spared_down}
 use Rattle.history_table.proofs.Crossed.{is_sent_on, got_sent}
 use Rattle.dtx_model.specs.AtLog.{is_restart}
 use Rattle.dtx_model.specs.Observed.{is_promotion_failed}
@@ -80,6 +82,7 @@ fine_before x h f = record {
   in_time = and_right (is_asked_in_time h x) (always is_asked_in_time h) f.in_time;
   unbad = or_second (is_bad x) (has is_bad h) f.unbad;
   spared = and_right (is_spared h x) (always is_spared h) f.spared;
+  lone = and_right (is_lone_asked h x) (always is_lone_asked h) f.lone;
 }
 
 -- the newest entry isn't bad, it has a line where it was got, is spared where it is an end, and where it is no loss it is no veto
@@ -104,7 +107,8 @@ no_veto (Restarted found) h f l = absurd cc
 no_veto CommitAsked h f l = asked_well h (and_left (is_asked_in_time h CommitAsked) (always is_asked_in_time h) f.in_time)
 no_veto (Lost e) h f l = absurd cc
 no_veto (End c d) h f l = spared_end c d h f
-no_veto (Got c d m) h f l = let line : has_line c d m ≡ true = lined c d m h f in rw line refl
+no_veto (Got Begin Up BeginCommitOne) h f l = ap (λ b. not b && is_veto_end h Begin Up) (and_left (is_lone h) (always is_lone_asked h) f.lone)
+no_veto (Got c d m) h f l = ap (λ b. not b && is_veto_end h c d) (lined c d m h f)
 no_veto x h f l = refl
 
 no_refusal : (x : Entry) (h : List Entry) → IsFine (x ∷ h) → is_refusal x ≡ false
@@ -131,6 +135,8 @@ no_abort_here : (x : Entry) (h : List Entry) → IsFine (x ∷ h) → is_abort h
 no_abort_here (Got Begin Up BeginAbort) h f = absurd cc
 no_abort_here (Got Voter Up VoterNo) h f = absurd cc
 no_abort_here (Got (Enl e) Up EnlistNo) h f = absurd cc
+no_abort_here (Got (Enl e) Up EnlistOneAborted) h f = absurd cc
+no_abort_here (Got Begin Up BeginCommitOne) h f = ap (λ b. not b && is_veto_end h Begin Up) (and_left (is_lone h) (always is_lone_asked h) f.lone)
 no_abort_here (Got c Up m) h f = with_line (has_line c Up m) (is_veto_end h c Up) (lined c Up m h f)
   where
     with_line : (b v : Bool) → b ≡ true → (not b && v) ≡ false
@@ -159,13 +165,32 @@ decided_well x (Decided y ∷ h) u k = same x y k (or_first (is_bad_outcome y) (
     same x y k u = absurd cc
 decided_well x (y ∷ h) u k = decided_well x h (or_second (is_bad y) (has is_bad h) u) k
 
+-- where nothing is lost, the one that the coordinator let decide isn't
+unlost_undoubted : (h : List Entry) → IsFine h → has is_loss h ≡ false → single_doubt h ≡ false
+unfolding single_doubt
+unlost_undoubted h f l = none h f (unlost_unended h f.wired l)
+  where
+    one : (x : Entry) (h : List Entry) → IsFine (x ∷ h) → is_any_end x ≡ false → is_lost_single h x ≡ false
+    one (End c d) h f n = absurd cc
+    one (Got (Enl e) Up m) h f n = let line : has_line (Enl e) Up m ≡ true = lined (Enl e) Up m h f in ap (λ b. is_deciding h (if b then None else Some e)) line
+    one (Got (Enl e) Down m) h f n = refl
+    one (Got Begin d m) h f n = refl
+    one (Got Voter d m) h f n = refl
+    one (Got (Again e) d m) h f n = refl
+    one _ h f n = refl
+
+    none : (h : List Entry) → IsFine h → has is_any_end h ≡ false → ever is_lost_single h ≡ false
+    none [] f n = refl
+    none (x ∷ h) f n = or_false (is_lost_single h x) (ever is_lost_single h) (one x h f (or_first (is_any_end x) (has is_any_end h) n)) (none h (fine_before x h f) (or_second (is_any_end x) (has is_any_end h) n))
+
 -- where nothing is lost, nobody holds the commit in doubt
 no_doubt : (h : List Entry) → IsFine h → has is_loss h ≡ false → doubt h ≡ false
-unfolding doubt owner_doubt coordinator_doubt
+unfolding doubt owner_doubt coordinator_doubt single_doubt
 no_doubt h f l =
-    or_false (owner_doubt h) (coordinator_doubt h)
+    or_false (owner_doubt h || coordinator_doubt h) (single_doubt h)
+    (or_false (owner_doubt h) (coordinator_doubt h)
     (or_false (has (λ e. has (is_owner e.value InDoubt) h) (all_of handed_of h)) (ever is_lost_owner h) (unanswered (all_of handed_of h)) (unlost_owner h l))
-    (unseen (has is_yes h) (has is_begin_end h) (has is_voter_end h) (not (has is_outcome_got h)) (unseen_end h f (unlost_unended h f.wired l)))
+    (unseen (has is_yes h) (has is_begin_end h) (has is_voter_end h) (not (has is_outcome_got h)) (unseen_end h f (unlost_unended h f.wired l)))) (unlost_undoubted h f l)
   where
     answered : (e : ℕ) (x : Entry) → is_owner e InDoubt x ≡ true → is_bad x ≡ true
     answered e (OwnerAnswered f InDoubt) k = refl
@@ -229,22 +254,44 @@ unrestarted h u = has_less is_restart is_bad restarts h u
 unsent : (h : List Entry) → IsFine h → (coordinator_aborted h || has is_restart h) ≡ true → ⊥
 unsent h f k = not_both (coordinator_aborted h || has is_restart h) k (or_false (coordinator_aborted h) (has is_restart h) (no_abort h f) (unrestarted h f.unbad))
 
-good_sent : (m : Message) (h : List Entry) → IsFine h → has_cause h m ≡ true → is_bad_message m ≡ false
-good_sent BeginAbort h f r =
+-- no owner answered so
+unsaid : (o : Outcome) (h : List Entry) → is_bad_outcome o ≡ true → has is_bad h ≡ false → has (is_answered o) h ≡ true → ⊥
+unsaid o h b u k = not_both (has (is_answered o) h) k (has_less (is_answered o) is_bad (one o b) h u)
+  where
+    one : (o : Outcome) → is_bad_outcome o ≡ true → (x : Entry) → is_answered o x ≡ true → is_bad x ≡ true
+    one Aborted b (OwnerAnswered e Aborted) k = refl
+    one InDoubt b (OwnerAnswered e InDoubt) k = refl
+    one Committed b x k = absurd cc
+    one o b x k = absurd cc
+
+-- nor is the coordinator in doubt
+undoubted : (h : List Entry) → has is_bad h ≡ false → single_doubt h ≡ false → (single_doubt h || has is_one_in_doubt h) ≡ true → ⊥
+undoubted h u n k = not_both (single_doubt h || has is_one_in_doubt h) k (or_false (single_doubt h) (has is_one_in_doubt h) n (has_less is_one_in_doubt is_bad one h u))
+  where
+    one : (x : Entry) → is_one_in_doubt x ≡ true → is_bad x ≡ true
+    one (Got (Enl e) Up EnlistOneInDoubt) k = refl
+    one x k = absurd cc
+
+good_sent : (m : Message) (h : List Entry) → IsFine h → single_doubt h ≡ false → has_cause h m ≡ true → is_bad_message m ≡ false
+good_sent BeginInDoubt h f n r = absurd (undoubted h f.unbad n r)
+good_sent VoterInDoubt h f n r = absurd (undoubted h f.unbad n r)
+good_sent EnlistOneAborted h f n r = absurd (unsaid Aborted h refl f.unbad r)
+good_sent EnlistOneInDoubt h f n r = absurd (unsaid InDoubt h refl f.unbad r)
+good_sent BeginAbort h f n r =
     or_case (is_decided Aborted (latest decision_of h)) (ends_requested h) (λ a. decided_well Aborted h f.unbad a) (λ a. absurd (not_both (ends_requested h) a (not_requested h f))) r
-good_sent VoterNo h f r = decided_well Aborted h f.unbad r
-good_sent EnlistNo h f r = absurd (not_both (has is_no_vote h) r (has_less is_no_vote is_bad votes h f.unbad))
+good_sent VoterNo h f n r = decided_well Aborted h f.unbad r
+good_sent EnlistNo h f n r = absurd (not_both (has is_no_vote h) r (has_less is_no_vote is_bad votes h f.unbad))
   where
     votes : (x : Entry) → is_no_vote x ≡ true → is_bad x ≡ true
     votes (Voted e No) k = refl
     votes x k = absurd cc
-good_sent BeginAborted h f r = absurd (unsent h f r)
-good_sent (VoterRefused c) h f r = absurd (unsent h f r)
-good_sent VoterAbort h f r = absurd (unsent h f r)
-good_sent (EnlistRefused c) h f r = absurd (unsent h f r)
-good_sent EnlistAbort h f r = absurd (unsent h f r)
-good_sent ReenlistAborted h f r = absurd (unsent h f r)
-good_sent m h f r = refl
+good_sent BeginAborted h f n r = absurd (unsent h f r)
+good_sent (VoterRefused c) h f n r = absurd (unsent h f r)
+good_sent VoterAbort h f n r = absurd (unsent h f r)
+good_sent (EnlistRefused c) h f n r = absurd (unsent h f r)
+good_sent EnlistAbort h f n r = absurd (unsent h f r)
+good_sent ReenlistAborted h f n r = absurd (unsent h f r)
+good_sent m h f n r = refl
 
 good_got : (c : Conn) (d : Dir) (m : Message) (h : List Entry) → IsFine h → is_next m (in_transit c d h) → is_bad_message m ≡ false
 good_got c d m h f n =
@@ -266,21 +313,21 @@ good_told InDoubt h f r = decided_well InDoubt h f.unbad (either (is_decided InD
     either false k = absurd cc
 
 -- the newest entry isn't bad, where it doesn't end the transaction of itself, and is no decision and no failure of the promotion
-good_open : (x : Entry) (h : List Entry) → IsFine h → WireRun (x ∷ h) → is_origin x ≡ false → is_decision x ≡ false → is_promotion_failed x ≡ false → is_caused h x ≡ true → is_bad x ≡ false
-good_open RollbackAsked h f run n d u r = absurd cc
-good_open TimedOut h f run n d u r = absurd cc
-good_open LogFull h f run n d u r = absurd cc
-good_open (Voted e v) h f run n d u r = n
-good_open (OwnerAnswered e x) h f run n d u r = n
-good_open (PromoteReply e ok) h f run n d u r = n
-good_open (Requested e Abort) h f run n d u r = absurd cc
-good_open PromotionFailed h f run n d u r = absurd cc
-good_open (Decided x) h f run n d u r = absurd cc
-good_open (Told q x) h f run n d u r = good_told x h f r
-good_open (Sent c m v) h f run n d u r = good_sent v h f r
-good_open (Got c m v) h f run n d u r = good_got c m v h f run.0
-good_open (Restarted found) h f run n d u r = absurd (not_both (is_stopped h) r (unstopped h f.wired.unstopped))
-good_open x h f run n d u r = refl
+good_open : (x : Entry) (h : List Entry) → IsFine h → single_doubt h ≡ false → WireRun (x ∷ h) → is_origin x ≡ false → is_decision x ≡ false → is_promotion_failed x ≡ false → is_caused h x ≡ true → is_bad x ≡ false
+good_open RollbackAsked h f s run n d u r = absurd cc
+good_open TimedOut h f s run n d u r = absurd cc
+good_open LogFull h f s run n d u r = absurd cc
+good_open (Voted e v) h f s run n d u r = n
+good_open (OwnerAnswered e x) h f s run n d u r = n
+good_open (PromoteReply e ok) h f s run n d u r = n
+good_open (Requested e Abort) h f s run n d u r = absurd cc
+good_open PromotionFailed h f s run n d u r = absurd cc
+good_open (Decided x) h f s run n d u r = absurd cc
+good_open (Told q x) h f s run n d u r = good_told x h f r
+good_open (Sent c m v) h f s run n d u r = good_sent v h f s r
+good_open (Got c m v) h f s run n d u r = good_got c m v h f run.0
+good_open (Restarted found) h f s run n d u r = absurd (not_both (is_stopped h) r (unstopped h f.wired.unstopped))
+good_open x h f s run n d u r = refl
 
 -- nor where nothing is lost before it
 good_here : (x : Entry) (h : List Entry) → IsFine h → WireRun (x ∷ h) → is_origin x ≡ false → has is_loss h ≡ false → is_caused h x ≡ true → is_bad x ≡ false
@@ -288,32 +335,36 @@ good_here PromotionFailed h f run n l r = absurd (not_both (ends_refused h) r (n
 good_here (Decided Committed) h f run n l r = refl
 good_here (Decided Aborted) h f run n l r = absurd (not_both (blames h) r (undue h f l))
 good_here (Decided InDoubt) h f run n l r = absurd (not_both (doubt h) r (no_doubt h f l))
-good_here x h f run n l r = good_open x h f run n refl refl r
+good_here x h f run n l r = good_open x h f (unlost_undoubted h f l) run n refl refl r
 
 -- where nothing is lost and nothing ends the transaction of itself, nothing bad comes
-pub unblamed : (h : List Entry) → IsWired h → always is_asked_in_time h ≡ true → has is_origin h ≡ false → has is_loss h ≡ false → always is_caused h ≡ true → has is_bad h ≡ false
-unblamed [] w a n l r = refl
-unblamed (x ∷ h) w a n l r =
+pub unblamed : (h : List Entry) → IsWired h → always is_lone_asked h ≡ true → always is_asked_in_time h ≡ true → has is_origin h ≡ false → has is_loss h ≡ false → always is_caused h ≡ true → has is_bad h ≡ false
+unblamed [] w o a n l r = refl
+unblamed (x ∷ h) w o a n l r =
     let in_time = and_right (is_asked_in_time h x) (always is_asked_in_time h) a in
     let unlost = or_second (is_loss x) (has is_loss h) l in
     let before = wired_before x h w in
-    let past = unblamed h before in_time (or_second (is_origin x) (has is_origin h) n) unlost (and_right (is_caused h x) (always is_caused h) r) in
+    let lone = and_right (is_lone_asked h x) (always is_lone_asked h) o in
+    let past = unblamed h before lone in_time (or_second (is_origin x) (has is_origin h) n) unlost (and_right (is_caused h x) (always is_caused h) r) in
     or_false (is_bad x) (has is_bad h)
-    (good_here x h (record { wired = before; in_time = in_time; unbad = past; spared = none_spared h (unlost_unended h before unlost) }) w.run (or_first (is_origin x) (has is_origin h) n) unlost
+    (good_here x h (record { wired = before; in_time = in_time; unbad = past; spared = none_spared h (unlost_unended h before unlost); lone = lone }) w.run (or_first (is_origin x) (has is_origin h) n) unlost
     (and_left (is_caused h x) (always is_caused h) r)) past
 
 -- nor where no end is a veto, nothing is decided, the promotion didn't fail, and nothing ends the transaction of itself, whatever was lost
-pub open_unblamed : (h : List Entry) → IsWired h → always is_spared h ≡ true → always is_asked_in_time h ≡ true → has is_origin h ≡ false → has is_decision h ≡ false → has is_promotion_failed h ≡ false
+pub open_unblamed : (h : List Entry) → IsWired h → always is_lone_asked h ≡ true → single_doubt h ≡ false → always is_spared h ≡ true → always is_asked_in_time h ≡ true → has is_origin h ≡ false → has is_decision h ≡ false → has is_promotion_failed h ≡ false
     → always is_caused h ≡ true → has is_bad h ≡ false
-open_unblamed [] w s a n d u r = refl
-open_unblamed (x ∷ h) w s a n d u r =
+unfolding single_doubt
+open_unblamed [] w o g s a n d u r = refl
+open_unblamed (x ∷ h) w o g s a n d u r =
+    let lone = and_right (is_lone_asked h x) (always is_lone_asked h) o in
+    let undoubted = or_second (is_lost_single h x) (ever is_lost_single h) g in
     let in_time = and_right (is_asked_in_time h x) (always is_asked_in_time h) a in
     let before = wired_before x h w in
     let spared = and_right (is_spared h x) (always is_spared h) s in
-    let past = open_unblamed h before spared in_time (or_second (is_origin x) (has is_origin h) n) (or_second (is_decision x) (has is_decision h) d) (or_second (is_promotion_failed x) (has is_promotion_failed h) u)
+    let past = open_unblamed h before lone undoubted spared in_time (or_second (is_origin x) (has is_origin h) n) (or_second (is_decision x) (has is_decision h) d) (or_second (is_promotion_failed x) (has is_promotion_failed h) u)
     (and_right (is_caused h x) (always is_caused h) r) in
     or_false (is_bad x) (has is_bad h)
-    (good_open x h (record { wired = before; in_time = in_time; unbad = past; spared = spared }) w.run (or_first (is_origin x) (has is_origin h) n) (or_first (is_decision x) (has is_decision h) d)
+    (good_open x h (record { wired = before; in_time = in_time; unbad = past; spared = spared; lone = lone }) undoubted w.run (or_first (is_origin x) (has is_origin h) n) (or_first (is_decision x) (has is_decision h) d)
     (or_first (is_promotion_failed x) (has is_promotion_failed h) u) (and_left (is_caused h x) (always is_caused h) r)) past
 
 -- an enlistment of a number is willing, with a class that passes
@@ -416,6 +467,6 @@ willing_origin p (x ∷ h) n r k w =
     (willing_origin p h (or_second (is_ending x) (has is_ending h) n) (and_right (is_caused h x) (always is_caused h) r) (and_right (is_as_planned p nobody h x) (always (is_as_planned p nobody) h) k) before)
 
 -- where nothing is lost, nothing ends it, and all are willing and answer as planned, nothing bad comes
-pub nothing_bad : (p : ℕ → Plan) (h : List Entry) → IsWired h → always is_asked_in_time h ≡ true → has is_ending h ≡ false → has is_loss h ≡ false
+pub nothing_bad : (p : ℕ → Plan) (h : List Entry) → IsWired h → always is_lone_asked h ≡ true → always is_asked_in_time h ≡ true → has is_ending h ≡ false → has is_loss h ≡ false
     → always is_caused h ≡ true → always (is_as_planned p nobody) h ≡ true → each (λ x. is_willing (p x.0.value) x.1) (enlisted h) ≡ true → has is_bad h ≡ false
-nothing_bad p h w a n l r k v = unblamed h w a (willing_origin p h n r k v) l r
+nothing_bad p h w o a n l r k v = unblamed h w o a (willing_origin p h n r k v) l r

@@ -6,8 +6,10 @@ use Rattle.std.proofs.lemmas.Bool.{false_from_ne_true, or_left}
 use Rattle.dtx_values.specs.declared.entry.Entry.{Entry}
 use Rattle.dtx_values.specs.declared.entry.Entry.TheVariants.{Freed, Logged, Restarted, Stopped, Decided, OwnerAnswered, Told}
 use Rattle.dtx_values.specs.declared.number.EnlNo.{EnlNo}
+use Rattle.dtx_values.specs.declared.words.Outcome.{Outcome}
+use Rattle.dtx_values.specs.declared.words.Outcome.TheVariants.{Aborted}
 use Rattle.dtx_model.specs.Words.{all_of, each, has, holds, latest, ever}
-use Rattle.dtx_model.specs.Entries.{is_commit_got, is_yes_got, is_record, is_yes, is_good_vote, is_vote}
+use Rattle.dtx_model.specs.Entries.{is_any_hand, is_any_single_sent, is_commit_got, is_two_phase_got, is_yes_got, is_record, is_yes, is_good_vote, is_vote}
 use Rattle.dtx_model.specs.Outcome.{evidence}
 use Rattle.dtx_model.specs.Learned.{coordinator_aborted, is_first_abort}
 use Rattle.dtx_model.specs.Promotes.{is_promoting}
@@ -15,19 +17,21 @@ use Rattle.dtx_model.specs.Tied.{can_log, enlist_got, is_logged, is_ready_got, i
 use Rattle.dtx_model.specs.AtLog.{is_restart}
 use Rattle.dtx_model.proofs.Bools.{and_left, and_right, not_true, not_both, or_second, or_right, or_case, and_both, not_false}
 use Rattle.history_table.proofs.Keeping.{Keeps, keeps_before, newest}
-use Rattle.history_table.proofs.Recording.{stopped_stop, first_none, can_unstopped, first_some, can_live, from_first, keeps_first, live_first, yes_at, came_voted_at, came_voted_stays, promoted_if_yes, promoting_if_promoted, evidence_if_record}
+use Rattle.history_table.proofs.Recording.{can_two_phase, stopped_stop, first_none, can_unstopped, first_some, can_live, from_first, keeps_first, live_first, yes_at, came_voted_at, came_voted_stays, promoted_if_yes, promoting_if_promoted, evidence_if_record}
 use Rattle.history_table.specs.Appended.{stopped_at_append}
-use Rattle.history_table.proofs.Table.{is_enlist_got}
+use Rattle.history_table.proofs.Handed.{is_answered}
+use Rattle.history_table.proofs.LetDecide.{answered_handed, one_apart, one_if_single, unsingle_unhanded}
+use Rattle.history_table.proofs.Table.{is_aborted_for_good, is_enlist_got, is_one_aborted}
 use Rattle.history_table.proofs.Scans.{has_more}
 use Rattle.history_table.proofs.Evident.{good_voted}
 use Rattle.history_table.proofs.Aborting.{IsBarred}
-use Rattle.history_table.proofs.Sendings.{aborted_more}
+use Rattle.history_table.proofs.Sendings.{for_good_more}
 use Rattle.settled_histories.specs.Stopped.{is_record_unknown, is_outcome_said, restarts_without_evidence}
 
 -- Where an append may come, nothing was logged.
 pub can_unlogged : (h : List Entry) → can_log h ≡ true → has is_logged h ≡ false
 can_unlogged h t =
-    let before_stop = has is_commit_got h && has is_yes_got h && each (λ i. has (is_ready_got i.enl.value) h) (all_of enlist_got h) && not (coordinator_aborted h) in
+    let before_stop = has is_two_phase_got h && has is_yes_got h && each (λ i. has (is_ready_got i.enl.value) h) (all_of enlist_got h) && not (coordinator_aborted h) in
     not_true (has is_logged h) (and_right before_stop (not (has is_logged h)) (and_left (before_stop && not (has is_logged h)) (not (has is_stop h)) t))
 
 -- While nothing stopped and nothing was logged, nothing says whether there is a record.
@@ -101,16 +105,29 @@ unknown_voted e h k u came =
     (from_first (λ g. has is_commit_got g && (not (has (is_enlist_got e.value) g) || has (is_good_vote e.value) g)) (came_voted_stays e.value) h k
     (came_voted_at e (before_first_stop h) (keeps_first h k) (unknown_able h u))))
 
+-- It is promoted, and COMMIT was got for two phases: so nobody was let decide, no owner was handed the commit, and none answered.
+pub unknown_promoting : (h : List Entry) → Keeps h → is_record_unknown h ≡ true → has is_promoting h ≡ true
+unknown_promoting h k u = promoting_if_promoted h k (promoted_if_yes h k (unknown_open h k u).yes)
+
+pub unknown_unsingle : (h : List Entry) → Keeps h → is_record_unknown h ≡ true → has is_any_single_sent h ≡ false
+unknown_unsingle h k u =
+    let two = from_first (λ g. has is_two_phase_got g) (λ x g w t. or_right (is_two_phase_got x) (has is_two_phase_got g) t) h k (can_two_phase (before_first_stop h) (unknown_able h u)) in
+    false_from_ne_true (has is_any_single_sent h) (λ t. not_both (has is_two_phase_got h) two (one_apart h k (one_if_single h k t)))
+
+pub unknown_unhanded : (h : List Entry) → Keeps h → is_record_unknown h ≡ true → has is_any_hand h ≡ false
+unknown_unhanded h k u = unsingle_unhanded h k (unknown_promoting h k u) (unknown_unsingle h k u)
+
+pub unknown_unanswered : (h : List Entry) → Keeps h → is_record_unknown h ≡ true → (o : Outcome) → has (is_answered o) h ≡ true → ⊥
+unknown_unanswered h k u o t = not_both (has is_any_hand h) (answered_handed o h k t) (unknown_unhanded h k u)
+
 -- so a record isn't barred
 pub unknown_unbarred : (h : List Entry) → Keeps h → is_record_unknown h ≡ true → IsBarred h → ⊥
-unknown_unbarred h k u (inl a) = not_both (coordinator_aborted h) a (unknown_open h k u).live
+unknown_unbarred h k u (inl (inl a)) = not_both (coordinator_aborted h) (and_left (coordinator_aborted h) (not (has is_any_single_sent h) || has is_one_aborted h) a) (unknown_open h k u).live
+unknown_unbarred h k u (inl (inr (inl a))) = unknown_unanswered h k u Aborted a
+unknown_unbarred h k u (inl (inr (inr w))) = not_both (coordinator_aborted h) w.aborted (unknown_open h k u).live
 unknown_unbarred h k u (inr (inl n)) = not_both (has is_yes h) (unknown_open h k u).yes n
 unknown_unbarred h k u (inr (inr g)) =
     not_both (has (is_vote g.name.value) h) (has_more (is_good_vote g.name.value) (is_vote g.name.value) (good_voted g.name.value) h (unknown_voted g.name h k u g.came)) g.silent
-
--- Nobody was told committed, since there is no evidence; nor aborted, since no abort was decided and the coordinator didn't abort. And no owner answered, since it is promoted.
-pub unknown_promoting : (h : List Entry) → Keeps h → is_record_unknown h ≡ true → has is_promoting h ≡ true
-unknown_promoting h k u = promoting_if_promoted h k (promoted_if_yes h k (unknown_open h k u).yes)
 
 -- what says an outcome leaves it unknown whether the record is there
 unknown_under : (f h : List Entry) → is_record_unknown h ≡ true → (has is_stop h && can_log (before_first f h) && not (has is_restart h)) ≡ true
@@ -126,17 +143,21 @@ unknown_more (Decided o) h s u = unknown_under (Decided o ∷ h) h u
 unknown_more (OwnerAnswered e o) h s u = unknown_under (OwnerAnswered e o ∷ h) h u
 unknown_more _ h s u = absurd cc
 
--- A restart that finds no record where there was no evidence aborts, since a record would have been evidence.
-restart_aborts : (x : Entry) (h : List Entry) → Keeps h → restarts_without_evidence h x ≡ true → coordinator_aborted (x ∷ h) ≡ true
+-- A restart that finds no record where there was no evidence, and nobody was let decide, aborts for good, since a record would have been evidence.
+restart_aborts : (x : Entry) (h : List Entry) → Keeps h → restarts_without_evidence h x ≡ true → is_aborted_for_good (x ∷ h) ≡ true
 unfolding coordinator_aborted
 restart_aborts (Restarted false) h k t =
-    or_left (not (has is_record h)) (ever is_first_abort h)
-    (not_false (has is_record h) (false_from_ne_true (has is_record h) (λ r. not_both (evidence h) (evidence_if_record h k r) (not_true (evidence h) t))))
+    let open_there = and_left (not (evidence h)) (not (has is_any_single_sent h)) t in
+    let unlet = and_right (not (evidence h)) (not (has is_any_single_sent h)) t in
+    and_both (coordinator_aborted (Restarted false ∷ h)) (not (has is_any_single_sent h) || has is_one_aborted h)
+    (or_left (not (has is_record h)) (ever is_first_abort h)
+    (not_false (has is_record h) (false_from_ne_true (has is_record h) (λ r. not_both (evidence h) (evidence_if_record h k r) (not_true (evidence h) open_there)))))
+    (or_left (not (has is_any_single_sent h)) (has is_one_aborted h) unlet)
 restart_aborts (Restarted true) h k t = absurd cc
 restart_aborts _ h k t = absurd cc
 
-pub restarted_aborted : (h : List Entry) → Keeps h → ever restarts_without_evidence h ≡ true → coordinator_aborted h ≡ true
+pub restarted_aborted : (h : List Entry) → Keeps h → ever restarts_without_evidence h ≡ true → is_aborted_for_good h ≡ true
 restarted_aborted [] k t = absurd cc
 restarted_aborted (x ∷ h) k t =
     let past = keeps_before x h k in
-    or_case (restarts_without_evidence h x) (ever restarts_without_evidence h) (λ a. restart_aborts x h past a) (λ b. aborted_more x h (restarted_aborted h past b)) t
+    or_case (restarts_without_evidence h x) (ever restarts_without_evidence h) (λ a. restart_aborts x h past a) (λ b. for_good_more x h (newest x h k) (restarted_aborted h past b)) t

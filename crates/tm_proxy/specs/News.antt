@@ -6,27 +6,30 @@ use Rattle.dtx_values.specs.declared.message.Conn.{Conn}
 use Rattle.dtx_values.specs.declared.message.Conn.TheVariants.{Begin, Voter, Enl, Again}
 use Rattle.dtx_values.specs.declared.message.Dir.TheVariants.{Down}
 use Rattle.dtx_values.specs.declared.message.Message.{Message}
-use Rattle.dtx_values.specs.declared.message.Message.TheVariants.{BeginBegun, BeginCommitted, BeginAborted, VoterYes, VoterCreated, VoterRefused, VoterAsk, VoterCommit, VoterAbort, EnlistEnlisted, EnlistRefused, EnlistPrepare, EnlistCommit, EnlistAbort, ReenlistCommitted, ReenlistAborted}
-use Rattle.dtx_values.specs.declared.words.Outcome.TheVariants.{Committed, Aborted}
+use Rattle.dtx_values.specs.declared.message.Message.TheVariants.{BeginBegun, BeginCommitted, BeginAborted, BeginInDoubt, VoterYes, VoterCreated, VoterRefused, VoterAsk, VoterCommit, VoterAbort, VoterInDoubt, EnlistEnlisted, EnlistRefused, EnlistPrepare, EnlistCommit, EnlistAbort, EnlistSingle, ReenlistCommitted, ReenlistAborted}
+use Rattle.dtx_values.specs.declared.words.Outcome.TheVariants.{Committed, Aborted, InDoubt}
 use Rattle.dtx_values.specs.Ends.{ends_after, saw_end, tag_of, was_got, was_sent}
 use Rattle.tm_proxy.specs.declared.news.ProxyNews.{ProxyNews}
-use Rattle.tm_proxy.specs.declared.news.ProxyNews.TheVariants.{Begun, Created, Enlisted, Refused, AskVote, PrepareFor, CommitFor, AbortFor, OutcomeIs, Unfit}
+use Rattle.tm_proxy.specs.declared.news.ProxyNews.TheVariants.{Begun, Created, Enlisted, Refused, AskVote, PrepareFor, CommitFor, AbortFor, SingleFor, OutcomeIs, Unfit}
 
 -- what the message tells on its connection: each of those that the coordinator may send there tells something, and any other is unfit
 abbrev pub news_of : Conn → Message → ProxyNews
 news_of Begin (BeginBegun u) = Begun u
 news_of Begin BeginCommitted = OutcomeIs Committed
 news_of Begin BeginAborted = OutcomeIs Aborted
+news_of Begin BeginInDoubt = OutcomeIs InDoubt
 news_of Voter VoterCreated = Created
 news_of Voter (VoterRefused cause) = Refused Voter cause
 news_of Voter VoterAsk = AskVote
 news_of Voter VoterCommit = OutcomeIs Committed
 news_of Voter VoterAbort = OutcomeIs Aborted
+news_of Voter VoterInDoubt = OutcomeIs InDoubt
 news_of (Enl e) EnlistEnlisted = Enlisted e
 news_of (Enl e) (EnlistRefused cause) = Refused (Enl e) cause
 news_of (Enl e) EnlistPrepare = PrepareFor e
 news_of (Enl e) EnlistCommit = CommitFor e
 news_of (Enl e) EnlistAbort = AbortFor e
+news_of (Enl e) EnlistSingle = SingleFor e
 news_of (Again e) ReenlistCommitted = CommitFor e
 news_of (Again e) ReenlistAborted = AbortFor e
 news_of _ _ = Unfit
@@ -42,7 +45,7 @@ is_of_both (Again e) = false
 abbrev pub saw_both : List End → Bool
 saw_both ns = saw_end Begin ns && saw_end Voter ns
 
--- the outcome was got on b or on v
+-- the outcome was got on b or on v: that it is in doubt says only that it isn't known there
 abbrev pub got_outcome : List End → Bool
 got_outcome ns =
     was_got Begin (tag_of BeginCommitted) ns || was_got Begin (tag_of BeginAborted) ns || was_got Voter (tag_of VoterCommit) ns || was_got Voter (tag_of VoterAbort) ns

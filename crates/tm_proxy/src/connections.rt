@@ -2,7 +2,7 @@
 ghost use Rattle.std.specs.Prelude.{◌≡◌, ◌≤◌, ◌<◌, ◌↔◌, ◌++◌, [], ◌∷◌, false, not, nat_le, length, filter, if◌then◌else◌};
 ghost use Rattle.dtx_values.specs.declared.entry.Entry.TheVariants.{Sent, Got, Down as Ended};
 ghost use Rattle.dtx_values.specs.declared.message.Dir.TheVariants.{Up, Down};
-ghost use Rattle.dtx_values.specs.Ends.{abort_on, ends_after, is_end_of, knows, saw_end, tag_of, was_got, was_sent, with_opened};
+ghost use Rattle.dtx_values.specs.Ends.{abort_on, ends_after, is_end_of, knows, saw_end, tag_of, was_commit_sent, was_got, was_sent, with_opened};
 ghost use Rattle.dtx_values.specs.Lines.{has_line};
 ghost use Rattle.tm_proxy.specs.News.{got_outcome, is_of_both, loses_all, news_of, saw_both};
 
@@ -105,6 +105,14 @@ impl Proxy {
             .any(|n| is_end_of(c, n) && has_message(n.sent, m))
     }
 
+    /// Whether COMMIT was sent, of either name: for two phases, or for a single one.
+    pub fn was_commit_sent(&self) -> bool
+        ensures { result ≡ was_commit_sent self.now }
+    {
+        self.was_sent(Conn::Begin, &Message::BeginCommit)
+            || self.was_sent(Conn::Begin, &Message::BeginCommitOne)
+    }
+
     /// Whether such a message was got on the connection since it was opened last.
     pub fn was_got(&self, c: Conn, m: &Message) -> bool
         ensures { result ≡ was_got c (tag_of m.now) self.now }
@@ -188,7 +196,7 @@ impl Proxy {
         ensures { result ≡ abort_on self.now }
     {
         let by_begin = self.was_got(Conn::Begin, &Message::BeginBegun(0))
-            && !self.was_sent(Conn::Begin, &Message::BeginCommit)
+            && !self.was_commit_sent()
             && !self.was_sent(Conn::Begin, &Message::BeginAbort)
             && self.knows(Conn::Begin);
         let by_voter = self.was_sent(Conn::Voter, &Message::VoterVoter(0))

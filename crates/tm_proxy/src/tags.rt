@@ -19,6 +19,8 @@ bitflag_items! {
         const BEGIN_BEGUN = 16;
         const BEGIN_COMMITTED = 32;
         const BEGIN_ABORTED = 64;
+        const BEGIN_COMMITONE = 128;
+        const BEGIN_INDOUBT = 256;
         const VOTER_VOTER = 2;
         const VOTER_YES = 4;
         const VOTER_NO = 8;
@@ -27,6 +29,7 @@ bitflag_items! {
         const VOTER_ASK = 64;
         const VOTER_COMMIT = 128;
         const VOTER_ABORT = 256;
+        const VOTER_INDOUBT = 512;
         const ENLIST_ENLIST = 2;
         const ENLIST_PREPARED = 4;
         const ENLIST_NO = 8;
@@ -37,6 +40,10 @@ bitflag_items! {
         const ENLIST_PREPARE = 256;
         const ENLIST_COMMIT = 512;
         const ENLIST_ABORT = 1024;
+        const ENLIST_SINGLE = 2048;
+        const ENLIST_ONECOMMITTED = 4096;
+        const ENLIST_ONEABORTED = 8192;
+        const ENLIST_ONEINDOUBT = 16384;
         const REENLIST_REENLIST = 2;
         const REENLIST_ACK = 4;
         const REENLIST_COMMITTED = 8;
@@ -78,6 +85,8 @@ impl Tags {
             Message::BeginBegun(_) => Tags::BEGIN_BEGUN,
             Message::BeginCommitted => Tags::BEGIN_COMMITTED,
             Message::BeginAborted => Tags::BEGIN_ABORTED,
+            Message::BeginCommitOne => Tags::BEGIN_COMMITONE,
+            Message::BeginInDoubt => Tags::BEGIN_INDOUBT,
             Message::VoterVoter(_) => Tags::VOTER_VOTER,
             Message::VoterYes => Tags::VOTER_YES,
             Message::VoterNo => Tags::VOTER_NO,
@@ -86,6 +95,7 @@ impl Tags {
             Message::VoterAsk => Tags::VOTER_ASK,
             Message::VoterCommit => Tags::VOTER_COMMIT,
             Message::VoterAbort => Tags::VOTER_ABORT,
+            Message::VoterInDoubt => Tags::VOTER_INDOUBT,
             Message::EnlistEnlist(_) => Tags::ENLIST_ENLIST,
             Message::EnlistPrepared => Tags::ENLIST_PREPARED,
             Message::EnlistNo => Tags::ENLIST_NO,
@@ -96,6 +106,10 @@ impl Tags {
             Message::EnlistPrepare => Tags::ENLIST_PREPARE,
             Message::EnlistCommit => Tags::ENLIST_COMMIT,
             Message::EnlistAbort => Tags::ENLIST_ABORT,
+            Message::EnlistSingle => Tags::ENLIST_SINGLE,
+            Message::EnlistOneCommitted => Tags::ENLIST_ONECOMMITTED,
+            Message::EnlistOneAborted => Tags::ENLIST_ONEABORTED,
+            Message::EnlistOneInDoubt => Tags::ENLIST_ONEINDOUBT,
             Message::ReenlistReenlist(_) => Tags::REENLIST_REENLIST,
             Message::ReenlistAck => Tags::REENLIST_ACK,
             Message::ReenlistCommitted => Tags::REENLIST_COMMITTED,

@@ -30,8 +30,8 @@ use Rattle.dtx_values.specs.declared.message.Conn.TheVariants.{Begin, Voter, Enl
 use Rattle.dtx_values.specs.declared.message.Dir.{Dir}
 use Rattle.dtx_values.specs.declared.message.Dir.TheVariants.{Up, Down as Downward}
 use Rattle.dtx_values.specs.declared.message.Message.{Message}
-use Rattle.dtx_values.specs.declared.message.Message.TheVariants.{BeginBegin, BeginCommit, BeginAbort, BeginBegun, BeginCommitted, BeginAborted, VoterVoter, VoterYes, VoterNo, VoterCreated, VoterRefused, VoterAsk, VoterCommit, VoterAbort}
-use Rattle.dtx_values.specs.declared.message.Message.TheVariants.{EnlistEnlist, EnlistPrepared, EnlistNo, EnlistReadonly, EnlistAck, EnlistEnlisted, EnlistRefused, EnlistPrepare, EnlistCommit, EnlistAbort, ReenlistReenlist, ReenlistAck, ReenlistCommitted, ReenlistAborted}
+use Rattle.dtx_values.specs.declared.message.Message.TheVariants.{BeginBegin, BeginCommit, BeginAbort, BeginBegun, BeginCommitted, BeginAborted, BeginCommitOne, BeginInDoubt, VoterVoter, VoterYes, VoterNo, VoterCreated, VoterRefused, VoterAsk, VoterCommit, VoterAbort, VoterInDoubt}
+use Rattle.dtx_values.specs.declared.message.Message.TheVariants.{EnlistEnlist, EnlistPrepared, EnlistNo, EnlistReadonly, EnlistAck, EnlistEnlisted, EnlistRefused, EnlistPrepare, EnlistCommit, EnlistAbort, EnlistSingle, EnlistOneCommitted, EnlistOneAborted, EnlistOneInDoubt, ReenlistReenlist, ReenlistAck, ReenlistCommitted, ReenlistAborted}
 use Rattle.dtx_values.specs.declared.number.TxNo.{TxNo}
 use Rattle.dtx_values.specs.declared.trace.Place.{Place}
 use Rattle.dtx_values.specs.declared.trace.Place.TheVariants.{Context, Transaction, Log}
@@ -216,6 +216,8 @@ message BeginAbort = refl
 message (BeginBegun u) = refl
 message BeginCommitted = refl
 message BeginAborted = refl
+message BeginCommitOne = refl
+message BeginInDoubt = refl
 message (VoterVoter u) = refl
 message VoterYes = refl
 message VoterNo = refl
@@ -224,6 +226,7 @@ message (VoterRefused n) = number n
 message VoterAsk = refl
 message VoterCommit = refl
 message VoterAbort = refl
+message VoterInDoubt = refl
 message (EnlistEnlist i) = refl
 message EnlistPrepared = refl
 message EnlistNo = refl
@@ -234,6 +237,10 @@ message (EnlistRefused n) = number n
 message EnlistPrepare = refl
 message EnlistCommit = refl
 message EnlistAbort = refl
+message EnlistSingle = refl
+message EnlistOneCommitted = refl
+message EnlistOneAborted = refl
+message EnlistOneInDoubt = refl
 message (ReenlistReenlist i) = refl
 message ReenlistAck = refl
 message ReenlistCommitted = refl

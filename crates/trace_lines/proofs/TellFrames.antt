@@ -12,7 +12,7 @@ use Rattle.dtx_values.specs.declared.entry.Entry.{Entry}
 use Rattle.dtx_values.specs.declared.entry.Entry.TheVariants.{Sent, Got}
 use Rattle.dtx_values.specs.declared.message.Info.{Info}
 use Rattle.dtx_values.specs.declared.message.Message.{Message}
-use Rattle.dtx_values.specs.declared.message.Message.TheVariants.{BeginBegin, BeginCommit, BeginAbort, BeginBegun, BeginCommitted, BeginAborted, VoterVoter, VoterYes, VoterNo, VoterCreated, VoterRefused, VoterAsk, VoterCommit, VoterAbort, EnlistEnlist, EnlistPrepared, EnlistNo, EnlistReadonly, EnlistAck, EnlistEnlisted, EnlistRefused, EnlistPrepare, EnlistCommit, EnlistAbort, ReenlistReenlist, ReenlistAck, ReenlistCommitted, ReenlistAborted}
+use Rattle.dtx_values.specs.declared.message.Message.TheVariants.{BeginBegin, BeginCommit, BeginAbort, BeginBegun, BeginCommitted, BeginAborted, BeginCommitOne, BeginInDoubt, VoterVoter, VoterYes, VoterNo, VoterCreated, VoterRefused, VoterAsk, VoterCommit, VoterAbort, VoterInDoubt, EnlistEnlist, EnlistPrepared, EnlistNo, EnlistReadonly, EnlistAck, EnlistEnlisted, EnlistRefused, EnlistPrepare, EnlistCommit, EnlistAbort, EnlistSingle, EnlistOneCommitted, EnlistOneAborted, EnlistOneInDoubt, ReenlistReenlist, ReenlistAck, ReenlistCommitted, ReenlistAborted}
 use Rattle.dtx_values.specs.RecoveryInfo.{id_bytes, info_bytes, number_in, pair_bytes, wide_in}
 use Rattle.dtx_values.proofs.Halves.{from_be_bytes-to_be_bytes_16}
 use Rattle.dtx_values.proofs.Infos.{same_info}
@@ -91,10 +91,11 @@ info_is i small =
 -- messages with this identifier, this recovery information and this cause, each with its type and its tag
 abbrev messages : ℕ → Info → ℕ → List (List ℕ × Message)
 messages u i n =
-    (1 ∷ 1 ∷ [], BeginBegin) ∷ (1 ∷ 2 ∷ [], BeginCommit) ∷ (1 ∷ 3 ∷ [], BeginAbort) ∷ (1 ∷ 4 ∷ [], BeginBegun u) ∷ (1 ∷ 5 ∷ [], BeginCommitted) ∷ (1 ∷ 6 ∷ [], BeginAborted) ∷
+    (1 ∷ 1 ∷ [], BeginBegin) ∷ (1 ∷ 2 ∷ [], BeginCommit) ∷ (1 ∷ 3 ∷ [], BeginAbort) ∷ (1 ∷ 4 ∷ [], BeginBegun u) ∷ (1 ∷ 5 ∷ [], BeginCommitted) ∷ (1 ∷ 6 ∷ [], BeginAborted) ∷ (1 ∷ 7 ∷ [], BeginCommitOne) ∷ (1 ∷ 8 ∷ [], BeginInDoubt) ∷
     (2 ∷ 1 ∷ [], VoterVoter u) ∷ (2 ∷ 2 ∷ [], VoterYes) ∷ (2 ∷ 3 ∷ [], VoterNo) ∷ (2 ∷ 4 ∷ [], VoterCreated) ∷ (2 ∷ 5 ∷ [], VoterRefused n) ∷ (2 ∷ 6 ∷ [], VoterAsk) ∷
-    (2 ∷ 7 ∷ [], VoterCommit) ∷ (2 ∷ 8 ∷ [], VoterAbort) ∷ (3 ∷ 1 ∷ [], EnlistEnlist i) ∷ (3 ∷ 2 ∷ [], EnlistPrepared) ∷ (3 ∷ 3 ∷ [], EnlistNo) ∷ (3 ∷ 4 ∷ [], EnlistReadonly) ∷
+    (2 ∷ 7 ∷ [], VoterCommit) ∷ (2 ∷ 8 ∷ [], VoterAbort) ∷ (2 ∷ 9 ∷ [], VoterInDoubt) ∷ (3 ∷ 1 ∷ [], EnlistEnlist i) ∷ (3 ∷ 2 ∷ [], EnlistPrepared) ∷ (3 ∷ 3 ∷ [], EnlistNo) ∷ (3 ∷ 4 ∷ [], EnlistReadonly) ∷
     (3 ∷ 5 ∷ [], EnlistAck) ∷ (3 ∷ 6 ∷ [], EnlistEnlisted) ∷ (3 ∷ 7 ∷ [], EnlistRefused n) ∷ (3 ∷ 8 ∷ [], EnlistPrepare) ∷ (3 ∷ 9 ∷ [], EnlistCommit) ∷ (3 ∷ 10 ∷ [], EnlistAbort) ∷
+    (3 ∷ 11 ∷ [], EnlistSingle) ∷ (3 ∷ 12 ∷ [], EnlistOneCommitted) ∷ (3 ∷ 13 ∷ [], EnlistOneAborted) ∷ (3 ∷ 14 ∷ [], EnlistOneInDoubt) ∷
     (4 ∷ 1 ∷ [], ReenlistReenlist i) ∷ (4 ∷ 2 ∷ [], ReenlistAck) ∷ (4 ∷ 3 ∷ [], ReenlistCommitted) ∷ (4 ∷ 4 ∷ [], ReenlistAborted) ∷ []
 
 -- the message of a frame, with this identifier and this recovery information in place of its own

@@ -7,7 +7,7 @@ use Rattle.dtx_values.specs.declared.message.Dir.{Dir}
 use Rattle.dtx_values.specs.declared.message.Dir.TheVariants.{Up, Down}
 use Rattle.dtx_values.specs.declared.message.Info.{Info}
 use Rattle.dtx_values.specs.declared.message.Message.{Message}
-use Rattle.dtx_values.specs.declared.message.Message.TheVariants.{BeginBegin, BeginCommit, BeginAbort, BeginBegun, BeginCommitted, BeginAborted, VoterVoter, VoterYes, VoterNo, VoterCreated, VoterRefused, VoterAsk, VoterCommit, VoterAbort, EnlistEnlist, EnlistPrepared, EnlistNo, EnlistReadonly, EnlistAck, EnlistEnlisted, EnlistRefused, EnlistPrepare, EnlistCommit, EnlistAbort, ReenlistReenlist, ReenlistAck, ReenlistCommitted, ReenlistAborted}
+use Rattle.dtx_values.specs.declared.message.Message.TheVariants.{BeginBegin, BeginCommit, BeginAbort, BeginBegun, BeginCommitted, BeginAborted, BeginCommitOne, BeginInDoubt, VoterVoter, VoterYes, VoterNo, VoterCreated, VoterRefused, VoterAsk, VoterCommit, VoterAbort, VoterInDoubt, EnlistEnlist, EnlistPrepared, EnlistNo, EnlistReadonly, EnlistAck, EnlistEnlisted, EnlistRefused, EnlistPrepare, EnlistCommit, EnlistAbort, EnlistSingle, EnlistOneCommitted, EnlistOneAborted, EnlistOneInDoubt, ReenlistReenlist, ReenlistAck, ReenlistCommitted, ReenlistAborted}
 use Rattle.dtx_values.specs.Lines.{has_line}
 use Rattle.dtx_model.specs.TraceText.{message_text}
 use Rattle.line_tail.specs.Cut.{behind, front}
@@ -19,12 +19,13 @@ abbrev single : ℕ → Info → List (List ℕ × Message)
 single u i =
     (codes "begin", BeginBegin) ∷ (codes "begun", BeginBegun u) ∷ (codes "voter", VoterVoter u) ∷ (codes "yes", VoterYes) ∷ (codes "created", VoterCreated) ∷ (codes "ask", VoterAsk) ∷
     (codes "enlist", EnlistEnlist i) ∷ (codes "prepared", EnlistPrepared) ∷ (codes "readonly", EnlistReadonly) ∷ (codes "enlisted", EnlistEnlisted) ∷
-    (codes "prepare", EnlistPrepare) ∷ (codes "reenlist", ReenlistReenlist i) ∷ []
+    (codes "prepare", EnlistPrepare) ∷ (codes "reenlist", ReenlistReenlist i) ∷ (codes "commitone", BeginCommitOne) ∷ (codes "single", EnlistSingle) ∷
+    (codes "onecommitted", EnlistOneCommitted) ∷ (codes "oneaborted", EnlistOneAborted) ∷ (codes "oneindoubt", EnlistOneInDoubt) ∷ []
 
 -- names that messages share, each with the first of them; the words behind are a refusal's cause
 abbrev shared : List ℕ → List (List ℕ × Message)
 shared w =
-    (codes "commit", BeginCommit) ∷ (codes "abort", BeginAbort) ∷ (codes "committed", BeginCommitted) ∷ (codes "aborted", BeginAborted) ∷ (codes "no", VoterNo) ∷
+    (codes "commit", BeginCommit) ∷ (codes "abort", BeginAbort) ∷ (codes "committed", BeginCommitted) ∷ (codes "aborted", BeginAborted) ∷ (codes "indoubt", BeginInDoubt) ∷ (codes "no", VoterNo) ∷
     (codes "ack", EnlistAck) ∷ (codes "refused", VoterRefused (value w)) ∷ []
 
 -- the first message of a name
@@ -50,9 +51,11 @@ pub own_name : (c : Conn) (d : Dir) (m : Message) → has_line c d m ≡ true �
 own_name Begin Up BeginBegin h = refl
 own_name Begin Up BeginCommit h = refl
 own_name Begin Up BeginAbort h = refl
+own_name Begin Up BeginCommitOne h = refl
 own_name Begin Up _ h = absurd (cc h)
 own_name Begin Down BeginCommitted h = refl
 own_name Begin Down BeginAborted h = refl
+own_name Begin Down BeginInDoubt h = refl
 own_name Begin Down (BeginBegun x) h = refl
 own_name Begin Down _ h = absurd (cc h)
 own_name Voter Up VoterYes h = refl
@@ -63,18 +66,23 @@ own_name Voter Down VoterCreated h = refl
 own_name Voter Down VoterAsk h = refl
 own_name Voter Down VoterCommit h = refl
 own_name Voter Down VoterAbort h = refl
+own_name Voter Down VoterInDoubt h = refl
 own_name Voter Down (VoterRefused x) h = refl
 own_name Voter Down _ h = absurd (cc h)
 own_name (Enl e) Up EnlistPrepared h = refl
 own_name (Enl e) Up EnlistNo h = refl
 own_name (Enl e) Up EnlistReadonly h = refl
 own_name (Enl e) Up EnlistAck h = refl
+own_name (Enl e) Up EnlistOneCommitted h = refl
+own_name (Enl e) Up EnlistOneAborted h = refl
+own_name (Enl e) Up EnlistOneInDoubt h = refl
 own_name (Enl e) Up (EnlistEnlist x) h = refl
 own_name (Enl e) Up _ h = absurd (cc h)
 own_name (Enl e) Down EnlistEnlisted h = refl
 own_name (Enl e) Down EnlistPrepare h = refl
 own_name (Enl e) Down EnlistCommit h = refl
 own_name (Enl e) Down EnlistAbort h = refl
+own_name (Enl e) Down EnlistSingle h = refl
 own_name (Enl e) Down (EnlistRefused x) h = refl
 own_name (Enl e) Down _ h = absurd (cc h)
 own_name (Again e) Up ReenlistAck h = refl

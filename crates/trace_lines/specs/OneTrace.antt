@@ -6,7 +6,7 @@ use Rattle.dtx_values.specs.declared.message.Conn.{Conn}
 use Rattle.dtx_values.specs.declared.message.Dir.{Dir}
 use Rattle.dtx_values.specs.declared.message.Info.{Info}
 use Rattle.dtx_values.specs.declared.message.Message.{Message}
-use Rattle.dtx_values.specs.declared.message.Message.TheVariants.{BeginBegun, BeginCommit, BeginAbort, BeginCommitted, BeginAborted, VoterVoter, VoterNo, VoterRefused, VoterCommit, VoterAbort, EnlistEnlist, EnlistNo, EnlistAck, EnlistRefused, EnlistCommit, EnlistAbort, ReenlistReenlist, ReenlistAck, ReenlistCommitted, ReenlistAborted}
+use Rattle.dtx_values.specs.declared.message.Message.TheVariants.{BeginBegun, BeginCommit, BeginAbort, BeginCommitted, BeginAborted, BeginInDoubt, VoterVoter, VoterNo, VoterRefused, VoterCommit, VoterAbort, VoterInDoubt, EnlistEnlist, EnlistNo, EnlistAck, EnlistRefused, EnlistCommit, EnlistAbort, ReenlistReenlist, ReenlistAck, ReenlistCommitted, ReenlistAborted}
 use Rattle.dtx_values.specs.declared.trace.Place.TheVariants.{Log}
 use Rattle.dtx_values.specs.Lines.{has_line}
 use Rattle.dtx_model.specs.Traces.{Placed}
@@ -67,6 +67,8 @@ namesakes BeginCommitted = BeginCommitted ∷ ReenlistCommitted ∷ []
 namesakes ReenlistCommitted = BeginCommitted ∷ ReenlistCommitted ∷ []
 namesakes BeginAborted = BeginAborted ∷ ReenlistAborted ∷ []
 namesakes ReenlistAborted = BeginAborted ∷ ReenlistAborted ∷ []
+namesakes BeginInDoubt = BeginInDoubt ∷ VoterInDoubt ∷ []
+namesakes VoterInDoubt = BeginInDoubt ∷ VoterInDoubt ∷ []
 namesakes VoterNo = VoterNo ∷ EnlistNo ∷ []
 namesakes EnlistNo = VoterNo ∷ EnlistNo ∷ []
 namesakes EnlistAck = EnlistAck ∷ ReenlistAck ∷ []

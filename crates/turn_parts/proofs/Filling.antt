@@ -9,7 +9,6 @@ use Rattle.dtx_values.specs.declared.message.Conn.TheVariants.{Begin}
 use Rattle.dtx_values.specs.declared.message.Dir.{Dir}
 use Rattle.dtx_values.specs.declared.message.Dir.TheVariants.{Down, Up}
 use Rattle.dtx_values.specs.declared.message.Message.{Message}
-use Rattle.dtx_values.specs.declared.message.Message.TheVariants.{BeginCommit}
 use Rattle.dtx_model.specs.Arrivals.{local_got}
 use Rattle.dtx_model.specs.Coordinated.{Coordinated, commit_sends, follow, may_log}
 use Rattle.dtx_model.specs.Half.{Half, sees}
@@ -76,7 +75,7 @@ unfilled_step t w (Calls n a c k) f =
 unfilled_step t w (Replies e r) f = of_reply unfilled (half w) e r (unfilled_entry (ByReply r))
 unfilled_step t w Acts f =
     of_whole_act unfilled (half w) (unfilled_entry (ByAct (is_some (half w).seen.decided))) (λ e. e_one (Asked e Promote) refl) (λ e. e_one (Asked e Single) refl) (e_one Sealed refl)
-    (e_one (Sent Begin Up BeginCommit) refl)
+    (λ m c. e_one (Sent Begin Up m) refl)
 unfilled_step t w (Coordinates a) f = unfilled_coordinates (core w) a (λ e. f (ap Coordinates e))
 unfilled_step t w (Delivers c d) f = unfilled_delivered t w c d (in_transit c d w.past)
 unfilled_step t w Stops f = e_one Stopped refl

@@ -9,7 +9,7 @@ use Rattle.dtx_values.specs.declared.message.Conn.TheVariants.{Enl, Again}
 use Rattle.dtx_values.specs.declared.message.Dir.TheVariants.{Up}
 use Rattle.dtx_values.specs.declared.message.Info.{Info}
 use Rattle.dtx_values.specs.declared.message.Message.{Message}
-use Rattle.dtx_values.specs.declared.message.Message.TheVariants.{EnlistAck, EnlistEnlist, EnlistNo, EnlistPrepared, EnlistReadonly, ReenlistAck}
+use Rattle.dtx_values.specs.declared.message.Message.TheVariants.{EnlistAck, EnlistEnlist, EnlistNo, EnlistOneAborted, EnlistPrepared, EnlistReadonly, ReenlistAck}
 use Rattle.dtx_values.specs.declared.number.EnlNo.{EnlNo}
 use Rattle.dtx_values.specs.declared.words.Vote.{Vote}
 use Rattle.dtx_values.specs.declared.words.Vote.TheVariants.{Yes, No, Done}
@@ -17,31 +17,34 @@ use Rattle.dtx_values.specs.Ends.{is_in}
 use Rattle.dtx_values.specs.Lines.{has_line}
 use Rattle.dtx_values.specs.Table.{insert_by}
 use Rattle.dtx_model.specs.declared.desk.Ballot.{Ballot}
-use Rattle.dtx_model.specs.declared.desk.Ballot.TheVariants.{Prepared}
+use Rattle.dtx_model.specs.declared.desk.Ballot.TheVariants.{Prepared, Refused}
 use Rattle.dtx_model.specs.declared.desk.Desk.{Desk}
 use Rattle.dtx_model.specs.declared.desk.Stage.{Stage}
-use Rattle.dtx_model.specs.declared.desk.Stage.TheVariants.{Idle, Active, Aborted, Recorded, Over, Unknown}
+use Rattle.dtx_model.specs.declared.desk.Stage.TheVariants.{Idle, Active, Sole, Given, Answered as AnsweredStage, Aborted, Recorded, Over, Unknown}
 use Rattle.dtx_model.specs.Words.{all_of, each, has, latest}
-use Rattle.dtx_model.specs.Entries.{is_asked, is_commit_got, is_decision, is_lost, is_record, is_vote}
+use Rattle.dtx_model.specs.Entries.{is_any_single_sent, is_asked, is_commit_got, is_decision, is_lost, is_one_got, is_record, is_single_sent, is_two_phase_got, is_vote, is_vote_got}
 use Rattle.dtx_model.specs.Caused.{same_vote}
 use Rattle.dtx_model.specs.Learned.{coordinator_aborted}
 use Rattle.dtx_model.specs.Tied.{before_first_stop, can_free, can_log, enlist_got, has_mark, is_acked, is_done_there, is_logged, is_prepared_got, is_ready_got, is_recovery, is_stop, is_unmarked, mark_of}
-use Rattle.dtx_model.specs.Coordinated.{Coordinated, accepts, ballot_of, coordinate, desk_number, desks_after, follow, has_aborted, is_active, is_desk_of, is_finished, is_prepared, is_recorded, is_undecided, may_free, stage_after, unacked, with_ack, with_ballot}
-use Rattle.dtx_model.proofs.Bools.{and_left, and_right, and_both, not_both, not_true, or_case, or_right, or_second}
+use Rattle.dtx_model.specs.Coordinated.{Coordinated, accepts, ballot_of, coordinate, desk_number, desks_after, follow, has_aborted, has_desk, hears_one, is_active, is_desk_of, is_finished, is_prepared, is_recorded, is_undecided, may_free, stage_after, unacked, with_ack, with_ballot}
+use Rattle.dtx_model.proofs.Bools.{and_left, and_right, and_both, not_both, not_true, or_case, or_first, or_right, or_second}
 use Rattle.coordinator_core.proofs.Causes.{heard_why}
 use Rattle.history_table.proofs.Tests.{eq_self, eq_swap, third_of_five}
 use Rattle.history_table.proofs.Scans.{has_more}
 use Rattle.history_table.proofs.Lists.{has-insert}
 use Rattle.history_table.proofs.EntryTests.{is_enlisted}
 use Rattle.history_table.proofs.Table.{is_cast, is_enlist_got, is_opening_got, message_row, stands_volatile}
-use Rattle.history_table.proofs.Keeping.{Keeps, keeps_before, newest, newest_tied}
+use Rattle.history_table.proofs.Keeping.{Keeps, arrived, keeps_before, newest, newest_tied}
 use Rattle.history_table.proofs.Crossed.{is_got_on, is_sent_on, was_sent}
 use Rattle.history_table.proofs.Sendings.{from_got, own_info, record_of_mark}
-use Rattle.history_table.proofs.Recording.{can_commit, can_live, can_ready, can_unstopped, if_record, live_first, stopped_stop}
-use Rattle.history_table.proofs.CoreStages.{active_begun, changed, has_recorded, open_before, recorded_mark, restart_open}
-use Rattle.history_table.proofs.CoreKnown.{aborted_there, desk_there, enlist_of, has_made, later_opened, record_seen, work_begun}
+use Rattle.history_table.proofs.Recording.{can_commit, can_live, can_ready, can_two_phase, can_unstopped, from_first, if_record, live_first, stopped_stop}
+use Rattle.history_table.proofs.LetDecide.{one_apart, one_if_single, single_any}
+use Rattle.history_table.proofs.CoreStages.{active_begun, changed, has_recorded, is_after_one, one_if_after, open_before, recorded_mark, restart_open}
+use Rattle.history_table.proofs.CoreKnown.{aborted_there, desk_there, enlist_of, has_made, later_opened, record_seen, unanswered_if_unsent, work_begun}
+use Rattle.history_table.proofs.JointVotes.{vote_joint, vote_two}
 use Rattle.history_table.proofs.Managed.{each_inserted, desks_managed, is_enlist_by, is_managed_desk, one_manager, named_sent, names, is_prepared_desk}
 use Rattle.history_table.proofs.HalfKnows.{one_tag_more}
+use Rattle.world_parts.proofs.Keeping.{active_unrecorded, heard_unrecorded}
 
 -- An enlistment that said PREPARED said nothing else: it votes once.
 abbrev is_unprepared : ℕ → Entry → Bool
@@ -140,7 +143,24 @@ prepared_is e _ t = absurd cc
 came_before : (e f : EnlNo) (h : List Entry) → (e.value == f.value) ≡ true → Keeps (Got (Enl f) Up EnlistPrepared ∷ h) → has (is_enlist_got e.value) h ≡ true
 came_before e f h q k = has_more (is_opening_got (Enl f)) (is_enlist_got e.value) (enlist_of e.value f q) h (later_opened (Enl f) EnlistPrepared h k refl)
 
--- The desk of an enlistment that said PREPARED: no message but another vote of it undoes that.
+-- PREPARED comes after COMMIT for two phases, so who said it isn't let decide, and answers nothing as the owner.
+prepared_vote : (e : ℕ) (x : Entry) → is_prepared_got e x ≡ true → is_vote_got e x ≡ true
+prepared_vote e (Got (Enl f) Up EnlistPrepared) t = t
+prepared_vote e _ t = absurd cc
+
+prepared_two : (e : ℕ) (h : List Entry) → Keeps h → has (is_prepared_got e) h ≡ true → has is_two_phase_got h ≡ true
+prepared_two e h k t =
+    arrived (is_prepared_got e) (λ g. has is_two_phase_got g) (λ x g q. or_right (is_two_phase_got x) (has is_two_phase_got g) q) (λ x g w a. vote_two e x g w (prepared_vote e x a)) h k t
+
+no_answer : (e : ℕ) (x : Entry) (h : List Entry) → Keeps (x ∷ h) → has (is_prepared_got e) h ≡ true → is_one_got e x ≡ false
+no_answer e x h k t =
+    let two : has is_two_phase_got (x ∷ h) ≡ true = or_right (is_two_phase_got x) (has is_two_phase_got h) (prepared_two e h (keeps_before x h k) t) in
+    or_first (is_one_got e x) (has (is_one_got e) h)
+    (unanswered_if_unsent e (x ∷ h) k
+    (false_from_ne_true (has (is_single_sent e) (x ∷ h))
+    (λ s. not_both (has is_two_phase_got (x ∷ h)) two (one_apart (x ∷ h) k (one_if_single (x ∷ h) k (has_more (is_single_sent e) is_any_single_sent (single_any e) (x ∷ h) s))))))
+
+-- The desk of an enlistment that said PREPARED: no message but another vote of it, or its refusal as the one that was let decide, undoes that.
 for_ballot : (e f : ℕ) (o : Option Ballot) (d : Desk) → (is_prepared o ≡ true) ⊎ ((o ≡ None) ⊎ ((e == f) ≡ false)) → is_prepared_desk e d ≡ true → is_prepared_desk e (with_ballot f o d) ≡ true
 for_ballot e f None d c t = t
 for_ballot e f (Some b) d c t = by (is_desk_of f d) refl
@@ -179,15 +199,20 @@ abbrev is_no_restart : Entry → Bool
 is_no_restart (Restarted found) = false
 is_no_restart _ = true
 
-desk_stays : (e : ℕ) (k : Coordinated) (x : Entry) → is_no_restart x ≡ true → (is_active k.stage ≡ true → is_unprepared e x ≡ false) → has (is_prepared_desk e) k.desks ≡ true → has (is_prepared_desk e) (desks_after k x) ≡ true
+desk_stays : (e : ℕ) (k : Coordinated) (x : Entry) → is_no_restart x ≡ true → (is_recorded k.stage ≡ false → (is_unprepared e x ≡ false) × (is_one_got e x ≡ false)) → has (is_prepared_desk e) k.desks ≡ true
+    → has (is_prepared_desk e) (desks_after k x) ≡ true
 desk_stays e k (Got (Enl f) Up (EnlistEnlist i)) n u t =
     let new : Desk = record { enlistment = f; manager = i.rm; ballot = None; acked = false } in
     if_both (is_prepared_desk e) (accepts k) (insert_by desk_number new k.desks) k.desks (has-insert (is_prepared_desk e) desk_number new k.desks ∙ or_right (is_prepared_desk e new) (has (is_prepared_desk e) k.desks) t) t
 desk_stays e k (Got (Enl f) Up EnlistAck) n u t = has_made (is_prepared_desk e) (is_prepared_desk e) (with_ack f.value) (λ d a. for_acked e f.value d a) k.desks t
 desk_stays e k (Got (Again f) Up ReenlistAck) n u t = has_made (is_prepared_desk e) (is_prepared_desk e) (with_ack f.value) (λ d a. for_acked e f.value d a) k.desks t
 desk_stays e k (Got (Enl f) Up EnlistPrepared) n u t = ballot_stays e f EnlistPrepared k (λ a. inl refl) t
-desk_stays e k (Got (Enl f) Up EnlistNo) n u t = ballot_stays e f EnlistNo k (λ a. inr (inr (u a))) t
-desk_stays e k (Got (Enl f) Up EnlistReadonly) n u t = ballot_stays e f EnlistReadonly k (λ a. inr (inr (u a))) t
+desk_stays e k (Got (Enl f) Up EnlistNo) n u t = ballot_stays e f EnlistNo k (λ a. inr (inr (u (active_unrecorded k.stage a)).0)) t
+desk_stays e k (Got (Enl f) Up EnlistReadonly) n u t = ballot_stays e f EnlistReadonly k (λ a. inr (inr (u (active_unrecorded k.stage a)).0)) t
+desk_stays e k (Got (Enl f) Up EnlistOneAborted) n u t =
+    if_runs (is_prepared_desk e) (hears_one k f.value) (map (with_ballot f.value (Some Refused)) k.desks) k.desks
+    (λ a. has_made (is_prepared_desk e) (is_prepared_desk e) (with_ballot f.value (Some Refused))
+    (λ d s. for_ballot e f.value (Some Refused) d (inr (inr (u (heard_unrecorded k.stage (has_desk k f.value) a)).1)) s) k.desks t) t
 desk_stays e k (Got (Enl f) Up m) n u t = ballot_stays e f m k (λ a. inr (inl refl)) t
 desk_stays e k (Restarted b) n u t = absurd cc
 desk_stays e k x n u t = t
@@ -236,19 +261,22 @@ noted_open e (x ∷ h) k u t =
     or_case (is_prepared_got e.value x) (has (is_prepared_got e.value) h)
     (λ a. let w = prepared_is e.value x a in
     let now = subst (λ y. Keeps (y ∷ h)) w.1 k in
-    let active = active_begun h (work_begun (Enl w.0) EnlistPrepared h refl now) early in
+    let active = active_begun h (work_begun (Enl w.0) EnlistPrepared h refl now) (vote_joint e.value x h k (prepared_vote e.value x a)) early in
     subst (λ y. has (is_prepared_desk e.value) (desks_after (coordinate h) y) ≡ true) (sym w.1)
     (noted_now e w.0 (coordinate h) w.2 active (desk_there e.value h (keeps_before x h k) early (came_before e w.0 h w.2 now))))
-    (λ a. desk_stays e.value (coordinate h) x (not_restarting (coordinate h) x u) (λ z. no_other e x h k a) (noted_open e h (keeps_before x h k) early a)) t
+    (λ a. desk_stays e.value (coordinate h) x (not_restarting (coordinate h) x u) (λ z. (no_other e x h k a, no_answer e.value x h k a)) (noted_open e h (keeps_before x h k) early a)) t
 
 -- Nothing is decided where a record may be appended, and where an append may have been tried.
-open_stage : (s : Stage) → has_aborted s ≡ false → has_recorded s ≡ false → is_undecided s ≡ true
-open_stage Idle a r = refl
-open_stage Active a r = refl
-open_stage Aborted a r = absurd cc
-open_stage Unknown a r = absurd cc
-open_stage Recorded a r = absurd cc
-open_stage Over a r = absurd cc
+open_stage : (s : Stage) → has_aborted s ≡ false → has_recorded s ≡ false → is_after_one s ≡ false → is_undecided s ≡ true
+open_stage Idle a r n = refl
+open_stage Active a r n = refl
+open_stage Sole a r n = refl
+open_stage Given a r n = absurd cc
+open_stage AnsweredStage a r n = absurd cc
+open_stage Aborted a r n = absurd cc
+open_stage Unknown a r n = absurd cc
+open_stage Recorded a r n = absurd cc
+open_stage Over a r n = absurd cc
 
 record_marks : (x : Entry) → is_record x ≡ true → is_unmarked (mark_of x) ≡ false
 record_marks Logged t = refl
@@ -262,10 +290,11 @@ unmarked_unrecorded (Freed ∷ h) u t = absurd cc
 unmarked_unrecorded (Restarted b ∷ h) u t = absurd cc
 unmarked_unrecorded (x ∷ h) u t = unmarked_unrecorded h u t
 
-tried_open : (h : List Entry) → Keeps h → is_unmarked (latest mark_of h) ≡ true → coordinator_aborted h ≡ false → is_undecided (coordinate h).stage ≡ true
-tried_open h k u live =
+tried_open : (h : List Entry) → Keeps h → is_unmarked (latest mark_of h) ≡ true → coordinator_aborted h ≡ false → has is_two_phase_got h ≡ true → is_undecided (coordinate h).stage ≡ true
+tried_open h k u live two =
     open_stage (coordinate h).stage (false_from_ne_true (has_aborted (coordinate h).stage) (λ a. not_both (coordinator_aborted h) (aborted_there h k a) live))
     (false_from_ne_true (has_recorded (coordinate h).stage) (λ r. unmarked_unrecorded h u (record_seen h k r)))
+    (false_from_ne_true (is_after_one (coordinate h).stage) (λ a. not_both (has is_two_phase_got h) two (one_apart h k (one_if_after h a))))
 
 -- where nothing was logged and the coordinator never stopped, no entry says whether there is a record
 unlogged_unmarked : (h : List Entry) → Keeps h → has is_logged h ≡ false → has is_stop h ≡ false → is_unmarked (latest mark_of h) ≡ true
@@ -280,7 +309,7 @@ can_unlogged : (h : List Entry) → can_log h ≡ true → has is_logged h ≡ f
 can_unlogged h t = not_true (has is_logged h) (and_right _ (not (has is_logged h)) (and_left _ (not (has is_stop h)) t))
 
 can_open : (h : List Entry) → Keeps h → can_log h ≡ true → is_undecided (coordinate h).stage ≡ true
-can_open h k c = tried_open h k (unlogged_unmarked h k (can_unlogged h c) (can_unstopped h c)) (can_live h c)
+can_open h k c = tried_open h k (unlogged_unmarked h k (can_unlogged h c) (can_unstopped h c)) (can_live h c) (can_two_phase h c)
 
 -- Where there is a record, each whose ENLIST was got said PREPARED or READONLY.
 ready_among : (e : EnlNo) (g h : List Entry) → Keeps h → each (λ i. has (is_ready_got i.enl.value) g) (all_of enlist_got h) ≡ true → has (is_enlist_got e.value) h ≡ true → has (is_ready_got e.value) g ≡ true
@@ -340,15 +369,10 @@ ready_said e (x ∷ h) t n =
     second false b c t n = t
 
 -- and while there is a record.
-recorded_idle : (s : Stage) → is_recorded s ≡ true → is_active s ≡ true → ⊥
-recorded_idle Recorded r a = absurd cc
-recorded_idle _ r a = absurd cc
-
 still_noted : (e : EnlNo) (x : Entry) (h : List Entry) → Keeps (x ∷ h) → is_no_restart x ≡ true → has_mark h ≡ true → (has (is_prepared_got e.value) h ≡ true → has (is_prepared_desk e.value) (coordinate h).desks ≡ true)
     → has (is_prepared_got e.value) (x ∷ h) ≡ true → has (is_prepared_desk e.value) (desks_after (coordinate h) x) ≡ true
 still_noted e x h k n m ih t =
-    let idle : is_active (coordinate h).stage ≡ true → is_unprepared e.value x ≡ false = λ a. absurd (recorded_idle (coordinate h).stage (recorded_mark h ∙ m) a) in
-    desk_stays e.value (coordinate h) x n idle (ih (by (has (is_prepared_got e.value) h) refl))
+    desk_stays e.value (coordinate h) x n (λ a. absurd (not_both (is_recorded (coordinate h).stage) (recorded_mark h ∙ m) a)) (ih (by (has (is_prepared_got e.value) h) refl))
   where
     by : (b : Bool) → has (is_prepared_got e.value) h ≡ b → has (is_prepared_got e.value) h ≡ true
     by true q = q
@@ -370,7 +394,9 @@ noted_recorded e (Restarted true ∷ h) k m t =
     let past = keeps_before (Restarted true) h k in
     for_kept e.value (coordinate h).desks (or_case (has_mark h) (is_unmarked (latest mark_of h) && can_log (before_first_stop h)) (λ u. noted_recorded e h past u t)
     (λ u. let none = and_left (is_unmarked (latest mark_of h)) (can_log (before_first_stop h)) u in
-    noted_open e h past (tried_open h past none (live_first h past (stopped_stop h (newest (Restarted true) h k)) none (can_live (before_first_stop h) (and_right (is_unmarked (latest mark_of h)) (can_log (before_first_stop h)) u)))) t)
+    let can = and_right (is_unmarked (latest mark_of h)) (can_log (before_first_stop h)) u in
+    let two = from_first (λ g. has is_two_phase_got g) (λ x g w q. or_right (is_two_phase_got x) (has is_two_phase_got g) q) h past (can_two_phase (before_first_stop h) can) in
+    noted_open e h past (tried_open h past none (live_first h past (stopped_stop h (newest (Restarted true) h k)) none (can_live (before_first_stop h) can)) two) t)
     (newest_tied (Restarted true) h k))
 noted_recorded e (x ∷ h) k m t = still_noted e x h k refl m (λ p. noted_recorded e h (keeps_before x h k) m p) t
 
@@ -411,6 +437,9 @@ desks_acked (Got (Enl e) Up EnlistAck ∷ h) =
     changed (is_acked_desk h) (is_acked_desk (Got (Enl e) Up EnlistAck ∷ h)) (with_ack e.value) (λ d t. acked_now e.value (Got (Enl e) Up EnlistAck) h (λ n. refl) d t) (coordinate h).desks (desks_acked h)
 desks_acked (Got (Again e) Up ReenlistAck ∷ h) =
     changed (is_acked_desk h) (is_acked_desk (Got (Again e) Up ReenlistAck ∷ h)) (with_ack e.value) (λ d t. acked_now e.value (Got (Again e) Up ReenlistAck) h (λ n. refl) d t) (coordinate h).desks (desks_acked h)
+desks_acked (Got (Enl e) Up EnlistOneAborted ∷ h) =
+    each_if_both (is_acked_desk h) (hears_one (coordinate h) e.value) (map (with_ballot e.value (Some Refused)) (coordinate h).desks) (coordinate h).desks
+    (changed (is_acked_desk h) (is_acked_desk h) (with_ballot e.value (Some Refused)) (λ d t. acked_ballot h e.value (Some Refused) d t) (coordinate h).desks (desks_acked h)) (desks_acked h)
 desks_acked (Got (Enl e) Up m ∷ h) =
     each_if_both (is_acked_desk h) (is_active (coordinate h).stage) (map (with_ballot e.value (ballot_of m)) (coordinate h).desks) (coordinate h).desks
     (changed (is_acked_desk h) (is_acked_desk h) (with_ballot e.value (ballot_of m)) (λ d t. acked_ballot h e.value (ballot_of m) d t) (coordinate h).desks (desks_acked h)) (desks_acked h)

@@ -6,7 +6,6 @@ use Rattle.dtx_values.specs.declared.message.Conn.{Conn}
 use Rattle.dtx_values.specs.declared.message.Dir.{Dir}
 use Rattle.dtx_values.specs.declared.message.Dir.TheVariants.{Up, Down}
 use Rattle.dtx_values.specs.declared.message.Message.{Message}
-use Rattle.dtx_values.specs.declared.message.Message.TheVariants.{BeginCommit}
 use Rattle.dtx_values.specs.declared.number.ActorNo.{ActorNo}
 use Rattle.dtx_model.specs.Acts.{act_entries}
 use Rattle.dtx_model.specs.Caused.{IsNamed, MayCome, Ran}
@@ -45,7 +44,7 @@ delivery_falls t w c d run few k = by d k (in_transit c d w.past) refl
     by Up k [] q = end_up_falls w.calls w.past c (unseen c Up w k q) (left_opened c Up w.past k)
     by Down k [] q = end_down_falls w.calls w.past c (unseen c Down w k q) (left_opened c Down w.past k)
     by Down k (m ∷ ms) q = got_down_falls w.calls w.past t c m ms q (left_opened c Down w.past k)
-    by Up k (m ∷ ms) q = got_up_falls w.calls w.past (identifier_of t) c m ms q (left_opened c Up w.past k) (λ a b. commits_few w.past ms run few (subst (λ (e : Conn). in_transit e Up w.past ≡ BeginCommit ∷ ms) a (q ∙ ap (λ (n : Message). n ∷ ms) b)))
+    by Up k (m ∷ ms) q = got_up_falls w.calls w.past (identifier_of t) c m ms q (left_opened c Up w.past k) (λ a b. commits_few w.past m ms run few b (subst (λ (e : Conn). in_transit e Up w.past ≡ m ∷ ms) a q))
 
 -- the step of a name that is pending
 named_falls : (G : ℕ → ActorNo → Call → Type 0) (t : ℕ) (w : World) (n : StepName) (m : Step) → WireRun w.past → AreFew w.past → IsNamed w n m → MayCome G t w m → steps_left (after t w m) < steps_left w

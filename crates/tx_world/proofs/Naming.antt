@@ -1,5 +1,6 @@
 -- The record that is kept names who said PREPARED: none of them changes while there is a record, nor while the coordinator stands stopped, and each step leaves it so.
 use Rattle.std.proofs.Common.{◌≡◌, ◌∙◌, inl, inr, ℕ, Bool, true, false, ◌&&◌, ◌||◌, not, List, [], ◌∷◌, map, filter, Option, Some, None, is_some, Result, Ok, Err, OnOk, OnErr, refl, ap, sym, subst, if◌then◌else◌}
+use Rattle.std.proofs.lemmas.Bool.{false_from_ne_true}
 use Rattle.dtx_values.specs.RecoveryInfo.{pair_of}
 use Rattle.dtx_values.specs.TxIds.{number_of}
 use Rattle.dtx_values.specs.declared.tx_id.TxId.{TxId}
@@ -9,20 +10,19 @@ use Rattle.dtx_values.specs.declared.message.Conn.{Conn}
 use Rattle.dtx_values.specs.declared.message.Conn.TheVariants.{Enl, Again}
 use Rattle.dtx_values.specs.declared.message.Dir.TheVariants.{Up}
 use Rattle.dtx_values.specs.declared.message.Message.{Message}
-use Rattle.dtx_values.specs.declared.message.Message.TheVariants.{EnlistAck, EnlistEnlist, ReenlistAck}
+use Rattle.dtx_values.specs.declared.message.Message.TheVariants.{EnlistAck, EnlistEnlist, EnlistOneAborted, ReenlistAck}
 use Rattle.dtx_values.specs.Table.{insert_by}
 use Rattle.dtx_model.specs.declared.desk.Desk.{Desk}
-use Rattle.dtx_model.specs.declared.desk.Stage.{Stage}
-use Rattle.dtx_model.specs.declared.desk.Stage.TheVariants.{Recorded}
+use Rattle.dtx_model.specs.declared.desk.Ballot.TheVariants.{Refused}
 use Rattle.dtx_model.specs.Words.{each, onto}
 use Rattle.dtx_model.specs.Log.{CommitRecord}
 use Rattle.dtx_model.specs.Promotes.{identifier_of}
-use Rattle.dtx_model.specs.Coordinated.{Coordinated, accepts, ballot_of, coordinate, desk_number, desks_after, follow, is_active, is_prepared, is_recorded, unacked, with_ack, with_ballot}
+use Rattle.dtx_model.specs.Coordinated.{Coordinated, accepts, ballot_of, coordinate, desk_number, desks_after, follow, has_desk, hears_one, is_active, is_prepared, is_recorded, unacked, with_ack, with_ballot}
 use Rattle.dtx_model.specs.Wires.{MayCross, WireRun}
 use Rattle.dtx_model.specs.World.{World, core}
 use Rattle.dtx_model.specs.Steps.{Step, block_at}
 use Rattle.dtx_model.specs.Caused.{IsIn, IsOwnRun}
-use Rattle.dtx_model.proofs.Bools.{and_left, and_right, or_case}
+use Rattle.dtx_model.proofs.Bools.{and_left, and_right, not_both, or_case}
 use Rattle.dtx_model.proofs.Quiet.{wire_run}
 use Rattle.history_table.proofs.CoreStages.{stopped_same}
 use Rattle.history_table.proofs.Crossed.{nothing_up}
@@ -34,7 +34,7 @@ use Rattle.tx_world.specs.OwnCalls.{DoesAlone}
 use Rattle.tx_world.specs.Prepared.{Names, NamesPrepared}
 use Rattle.tx_world.specs.State.{TxState, sends_begin}
 use Rattle.tx_world.specs.Stepping.{DoesAt}
-use Rattle.world_parts.proofs.Keeping.{is_elsewhere, stage_same, stopped_same as stop_same}
+use Rattle.world_parts.proofs.Keeping.{active_unrecorded, heard_unrecorded, is_elsewhere, stage_same, stopped_same as stop_same}
 use Rattle.tx_world.proofs.Living.{own_ours, seen_as}
 use Rattle.tx_world.proofs.Onward.{turned_past}
 use Rattle.tx_world.proofs.StillTied.{block_elsewhere, is_apart, kept_apart}
@@ -63,32 +63,31 @@ kept_prepared (d ∷ ds) = by (is_prepared d.ballot) refl (kept_prepared ds)
     by true q k = rw q (ap (λ (ps : List (ℕ × ℕ)). pair_of (d.manager, d.enlistment) ∷ ps) k)
     by false q k = k
 
--- While there is a record, and while the coordinator stands stopped, no entry changes them but the log's: ENLIST and votes count while nothing is decided, and nothing comes up to a coordinator that stands stopped.
+-- While there is a record, and while the coordinator stands stopped, no entry changes them but the log's: ENLIST and votes count while nothing is decided, so does a refusal of who decides, and nothing comes up to a coordinator that stands stopped.
 abbrev is_settled : Coordinated → Bool
 is_settled k = k.stopped || is_recorded k.stage
-
-recorded_idle : (s : Stage) → is_recorded s ≡ true → is_active s ≡ false
-recorded_idle Recorded r = refl
-recorded_idle _ r = absurd cc
 
 not_taken : (b : Bool) (xs ys : List Desk) → b ≡ false → pairs_of (if b then xs else ys) ≡ pairs_of ys
 not_taken true xs ys e = absurd cc
 not_taken false xs ys e = refl
 
 -- it heeds no message upward that would change them
-unheeded : (h : List Entry) (e : Conn) (m : Message) (b : Bool) (xs : List Desk) → is_settled (coordinate h) ≡ true → MayCross h (Got e Up m) → (is_active (coordinate h).stage ≡ false → b ≡ false)
+unheeded : (h : List Entry) (e : Conn) (m : Message) (b : Bool) (xs : List Desk) → is_settled (coordinate h) ≡ true → MayCross h (Got e Up m) → (b ≡ true → is_recorded (coordinate h).stage ≡ false)
     → pairs_of (if b then xs else (coordinate h).desks) ≡ pairs_of (coordinate h).desks
 unheeded h e m b xs s w f =
     or_case (coordinate h).stopped (is_recorded (coordinate h).stage) (λ t. absurd (nothing_up e m h (sym (stopped_same h) ∙ t) w))
-    (λ r. not_taken b xs (coordinate h).desks (f (recorded_idle (coordinate h).stage r))) s
+    (λ r. not_taken b xs (coordinate h).desks (false_from_ne_true b (λ t. not_both (is_recorded (coordinate h).stage) r (f t)))) s
 
 one_same : (h : List Entry) (x : Entry) → is_elsewhere x ≡ true → MayCross h x → is_settled (coordinate h) ≡ true → pairs_of (desks_after (coordinate h) x) ≡ pairs_of (coordinate h).desks
 one_same h (Got (Enl e) Up (EnlistEnlist i)) el w s =
     let k = coordinate h in
-    unheeded h (Enl e) (EnlistEnlist i) (accepts k) (insert_by desk_number (record { enlistment = e; manager = i.rm; ballot = None; acked = false }) k.desks) s w (λ n. ap (λ b. b && not k.commit) n)
+    unheeded h (Enl e) (EnlistEnlist i) (accepts k) (insert_by desk_number (record { enlistment = e; manager = i.rm; ballot = None; acked = false }) k.desks) s w (λ t. active_unrecorded k.stage (and_left (is_active k.stage) (not k.commit) t))
 one_same h (Got (Enl e) Up EnlistAck) el w s = acked_prepared e.value (coordinate h).desks
 one_same h (Got (Again e) Up ReenlistAck) el w s = acked_prepared e.value (coordinate h).desks
-one_same h (Got (Enl e) Up m) el w s = unheeded h (Enl e) m (is_active (coordinate h).stage) (map (with_ballot e.value (ballot_of m)) (coordinate h).desks) s w (λ n. n)
+one_same h (Got (Enl e) Up EnlistOneAborted) el w s =
+    let k = coordinate h in
+    unheeded h (Enl e) EnlistOneAborted (hears_one k e.value) (map (with_ballot e.value (Some Refused)) k.desks) s w (heard_unrecorded k.stage (has_desk k e.value))
+one_same h (Got (Enl e) Up m) el w s = unheeded h (Enl e) m (is_active (coordinate h).stage) (map (with_ballot e.value (ballot_of m)) (coordinate h).desks) s w (active_unrecorded (coordinate h).stage)
 one_same h (Restarted found) el w s = absurd cc
 one_same h x el w s = refl
 

@@ -8,7 +8,6 @@ use Rattle.dtx_values.specs.declared.entry.Entry.{Entry}
 use Rattle.dtx_values.specs.declared.entry.Entry.TheVariants.{Asked, Cut, Promoting, Recovered as RecoveredEntry, Sealed, Sent}
 use Rattle.dtx_values.specs.declared.message.Conn.TheVariants.{Begin}
 use Rattle.dtx_values.specs.declared.message.Dir.TheVariants.{Up}
-use Rattle.dtx_values.specs.declared.message.Message.TheVariants.{BeginCommit}
 use Rattle.dtx_values.specs.declared.note.Reply.{Reply}
 use Rattle.dtx_values.specs.declared.number.ActorNo.{ActorNo}
 use Rattle.dtx_values.specs.declared.number.EnlNo.{EnlNo}
@@ -59,7 +58,7 @@ unfolding block_at
 act_calm t w =
     none_begins
     (of_whole_act calm (half w) (calm_entry (ByAct (is_some (half w).seen.decided)) refl) (λ e. e_one (Asked e Promote) refl) (λ e. e_one (Asked e AskSingle) refl) (e_one Sealed refl)
-    (e_one (Sent Begin Up BeginCommit) refl))
+    (λ m c. e_one (Sent Begin Up m) refl))
 
 pub reply_calm : (t : ℕ) (w : World) (e : EnlNo) (r : Reply) → has is_promoting (block_at t w (Replies e r)) ≡ false
 unfolding block_at

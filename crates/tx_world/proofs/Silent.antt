@@ -9,7 +9,7 @@ use Rattle.dtx_values.specs.declared.message.Conn.{Conn}
 use Rattle.dtx_values.specs.declared.message.Conn.TheVariants.{Begin}
 use Rattle.dtx_values.specs.declared.message.Dir.TheVariants.{Up, Down}
 use Rattle.dtx_values.specs.declared.message.Message.{Message}
-use Rattle.dtx_values.specs.declared.message.Message.TheVariants.{BeginBegin, BeginCommit}
+use Rattle.dtx_values.specs.declared.message.Message.TheVariants.{BeginBegin}
 use Rattle.dtx_values.specs.declared.note.Note.{Note}
 use Rattle.dtx_values.specs.declared.note.Note.TheVariants.{Promote}
 use Rattle.dtx_values.specs.declared.note.Reply.{Reply}
@@ -19,6 +19,7 @@ use Rattle.dtx_values.specs.declared.number.EnlNo.{EnlNo}
 use Rattle.dtx_model.specs.Acts.{act_entries}
 use Rattle.dtx_model.specs.Arrivals.{local_got}
 use Rattle.dtx_model.specs.Caused.{is_begin_sent}
+use Rattle.dtx_model.specs.Entries.{is_commit_message}
 use Rattle.dtx_model.specs.Half.{Half, sees}
 use Rattle.dtx_model.specs.Replies.{reply_entries}
 use Rattle.dtx_model.specs.Steps.{Calls, Replies, Acts, Delivers, block_at, delivered}
@@ -57,14 +58,18 @@ none_sent (x ∷ es) e =
     by false b i j = j
     by true b i j = absurd cc
 
--- the local act
+-- the local act: COMMIT of either name is no BEGIN
+commit_silent : (m : Message) → is_commit_message m ≡ true → is_silent (Sent Begin Up m) ≡ true
+commit_silent BeginBegin c = absurd cc
+commit_silent _ c = refl
+
 pub act_silent : (t : ℕ) (w : World) → sends_begin t w Acts ≡ false
 unfolding block_at
 act_silent t w =
     let h = half w in
     none_sent (act_entries h)
     (of_whole_act silent h (silent_entry (ByAct (is_some h.seen.decided)) refl) (λ e. e_one (Asked e AskPromote) refl) (λ e. e_one (Asked e AskSingle) refl) (e_one Sealed refl)
-    (e_one (Sent Begin Up BeginCommit) refl)).proof
+    (λ m c. e_one (Sent Begin Up m) (commit_silent m c))).proof
 
 -- a delivery downward
 got_silent : (t : ℕ) (h : Half) (c : Conn) (m : Message) → Each is_silent (local_got t h c m)

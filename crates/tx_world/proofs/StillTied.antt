@@ -11,7 +11,6 @@ use Rattle.dtx_values.specs.declared.message.Conn.TheVariants.{Begin}
 use Rattle.dtx_values.specs.declared.message.Dir.{Dir}
 use Rattle.dtx_values.specs.declared.message.Dir.TheVariants.{Up, Down}
 use Rattle.dtx_values.specs.declared.message.Message.{Message}
-use Rattle.dtx_values.specs.declared.message.Message.TheVariants.{BeginCommit}
 use Rattle.dtx_values.specs.declared.note.Reply.{Reply}
 use Rattle.dtx_values.specs.declared.number.EnlNo.{EnlNo}
 use Rattle.dtx_values.specs.Lines.{has_line}
@@ -70,7 +69,7 @@ elsewhere_act h =
       rest = λ es q. q;
       promote = λ e d w s. e_one (Asked e Promote) refl;
       single = λ e d s p q. e_one (Asked e AskSingle) refl;
-      seal = λ d s u. e_cons Sealed refl (of_commit_sent elsewhere [] h.seen (e_one (Sent Begin Up BeginCommit) refl));
+      seal = λ d s u. e_cons Sealed refl (of_commit_sent elsewhere [] h.seen (λ m c. e_one (Sent Begin Up m) refl));
     })
 
 elsewhere_down : (t : ℕ) (h : Half) (c : Conn) (m : Message) → Each is_elsewhere (local_got t h c m)

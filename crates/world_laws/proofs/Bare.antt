@@ -9,7 +9,7 @@ use Rattle.dtx_values.specs.declared.message.Conn.{Conn}
 use Rattle.dtx_values.specs.declared.message.Conn.TheVariants.{Begin, Again}
 use Rattle.dtx_values.specs.declared.message.Dir.TheVariants.{Up, Down}
 use Rattle.dtx_values.specs.declared.message.Message.{Message}
-use Rattle.dtx_values.specs.declared.message.Message.TheVariants.{BeginCommit, ReenlistReenlist}
+use Rattle.dtx_values.specs.declared.message.Message.TheVariants.{ReenlistReenlist}
 use Rattle.dtx_values.specs.declared.note.Reply.{Reply}
 use Rattle.dtx_values.specs.declared.number.EnlNo.{EnlNo}
 use Rattle.dtx_model.specs.declared.branch.Branch.{Branch}
@@ -60,7 +60,7 @@ bare_local_down h c = of_local_down bare h c
 pub bare_act : (h : Half) → Each is_bare (act_entries h)
 bare_act h =
     of_whole_act bare h (bare_entry (ByAct (is_some h.seen.decided)) refl) (λ e. e_one (Asked e Promote) refl) (λ e. e_one (Asked e AskSingle) refl) (e_one Sealed refl)
-    (e_one (Sent Begin Up BeginCommit) refl)
+    (λ m c. e_one (Sent Begin Up m) refl)
 
 pub bare_reply : (h : Half) (e : EnlNo) (r : Reply) → Each is_bare (reply_entries h e r)
 bare_reply h e r = of_reply bare h e r (bare_entry (ByReply r) refl)

@@ -8,15 +8,16 @@ use Rattle.dtx_values.specs.declared.message.Conn.{Conn}
 use Rattle.dtx_values.specs.declared.message.Conn.TheVariants.{Begin, Voter, Enl, Again}
 use Rattle.dtx_values.specs.declared.message.Dir.TheVariants.{Up, Down}
 use Rattle.dtx_values.specs.declared.message.Message.{Message}
-use Rattle.dtx_values.specs.declared.message.Message.TheVariants.{EnlistAck, EnlistEnlist, ReenlistAck}
+use Rattle.dtx_values.specs.declared.message.Message.TheVariants.{EnlistAck, EnlistEnlist, EnlistOneAborted, ReenlistAck}
 use Rattle.dtx_values.specs.declared.number.EnlNo.{EnlNo}
 use Rattle.dtx_values.specs.Ends.{same_connection}
 use Rattle.dtx_values.specs.Lines.{has_line, is_opening}
 use Rattle.dtx_values.specs.Table.{how_many, insert_by}
 use Rattle.dtx_model.specs.declared.branch.Branch.{Branch}
 use Rattle.dtx_model.specs.declared.desk.Ballot.{Ballot}
+use Rattle.dtx_model.specs.declared.desk.Ballot.TheVariants.{Refused}
 use Rattle.dtx_model.specs.declared.desk.Desk.{Desk}
-use Rattle.dtx_model.specs.Coordinated.{accepts, ballot_of, coordinate, desk_number, follow, is_active, is_desk_of, is_prepared, kept_desks, unacked, with_ack, with_ballot}
+use Rattle.dtx_model.specs.Coordinated.{accepts, ballot_of, coordinate, desk_number, follow, hears_one, is_active, is_desk_of, is_prepared, kept_desks, unacked, with_ack, with_ballot}
 use Rattle.dtx_model.specs.Observed.{branch_number, branches, is_branch}
 use Rattle.dtx_model.specs.Wires.{WireRun, in_transit, is_next, is_open_wire, is_stopped, opened_with, opens, sent_behind, without_first}
 use Rattle.dtx_model.specs.Words.{each, has}
@@ -153,6 +154,15 @@ desk_count e (Got (Enl f) Up EnlistAck ∷ h) =
     let le = desk_count e h in let more = one_more ((e.value == f.value) && false) (how_many (is_opening_got (Enl e)) h) in omega (arith, same, le, more)
 desk_count e (Got (Again f) Up ReenlistAck ∷ h) =
     let same = how_many-map (is_desk_of e.value) (with_ack f.value) (λ d. refl) (coordinate h).desks in let le = desk_count e h in omega (arith, same, le)
+desk_count e (Got (Enl f) Up EnlistOneAborted ∷ h) = by (hears_one (coordinate h) f.value) (desk_count e h)
+  where
+    by : (b : Bool) → how_many (is_desk_of e.value) (coordinate h).desks ≤ how_many (is_opening_got (Enl e)) h
+        → how_many (is_desk_of e.value) (if b then map (with_ballot f.value (Some Refused)) (coordinate h).desks else (coordinate h).desks)
+        ≤ (if (e.value == f.value) && false then suc (how_many (is_opening_got (Enl e)) h) else how_many (is_opening_got (Enl e)) h)
+    by true le =
+        let same = how_many-map (is_desk_of e.value) (with_ballot f.value (Some Refused)) (λ d. number_kept e.value f.value (Some Refused) d) (coordinate h).desks in
+        let more = one_more ((e.value == f.value) && false) (how_many (is_opening_got (Enl e)) h) in omega (arith, same, le, more)
+    by false le = let more = one_more ((e.value == f.value) && false) (how_many (is_opening_got (Enl e)) h) in omega (arith, le, more)
 desk_count e (Got (Enl f) Up m ∷ h) = by (is_active (coordinate h).stage) (desk_count e h)
   where
     by : (b : Bool) → how_many (is_desk_of e.value) (coordinate h).desks ≤ how_many (is_opening_got (Enl e)) h

@@ -9,7 +9,7 @@ use Rattle.dtx_values.specs.declared.message.Conn.{Conn}
 use Rattle.dtx_values.specs.declared.message.Conn.TheVariants.{Again, Begin, Enl, Voter}
 use Rattle.dtx_values.specs.declared.message.Dir.TheVariants.{Down, Up}
 use Rattle.dtx_values.specs.declared.message.Message.{Message}
-use Rattle.dtx_values.specs.declared.message.Message.TheVariants.{BeginAborted, BeginBegin, BeginCommit, EnlistAbort, EnlistEnlist, EnlistRefused, VoterAbort, VoterRefused, VoterVoter, VoterYes}
+use Rattle.dtx_values.specs.declared.message.Message.TheVariants.{BeginAborted, BeginBegin, BeginCommit, BeginCommitOne, EnlistAbort, EnlistEnlist, EnlistRefused, VoterAbort, VoterRefused, VoterVoter, VoterYes}
 use Rattle.dtx_values.specs.declared.number.EnlNo.{EnlNo}
 use Rattle.dtx_values.specs.declared.words.Outcome.TheVariants.{Aborted}
 use Rattle.dtx_values.specs.Ends.{same_connection}
@@ -129,6 +129,7 @@ begin_opened h k c = arrived is_commit_got (λ g. has (opens Begin) g) (λ x g t
   where
     from : (x : Entry) (h : List Entry) → Keeps (x ∷ h) → is_commit_got x ≡ true → has (opens Begin) h ≡ true
     from (Got Begin Up BeginCommit) h k t = got_opened Begin BeginCommit h k
+    from (Got Begin Up BeginCommitOne) h k t = got_opened Begin BeginCommitOne h k
     from _ h k t = absurd cc
 
 voter_opened : (h : List Entry) → Keeps h → has is_yes_got h ≡ true → has (opens Voter) h ≡ true

@@ -7,7 +7,7 @@ use Rattle.dtx_values.specs.declared.entry.Party.TheVariants.{Client, Enl as Mem
 use Rattle.dtx_values.specs.declared.message.Conn.{Conn}
 use Rattle.dtx_values.specs.declared.message.Conn.TheVariants.{Begin, Voter, Enl, Again}
 use Rattle.dtx_values.specs.declared.message.Dir.TheVariants.{Up}
-use Rattle.dtx_values.specs.declared.message.Message.TheVariants.{BeginBegin, BeginCommit, EnlistAck, ReenlistAck, VoterAsk, VoterYes}
+use Rattle.dtx_values.specs.declared.message.Message.TheVariants.{BeginBegin, BeginCommit, BeginCommitOne, EnlistAck, ReenlistAck, VoterAsk, VoterYes}
 use Rattle.dtx_values.specs.declared.note.Note.{Note}
 use Rattle.dtx_values.specs.declared.note.Note.TheVariants.{Prepare as PrepareNote, Promote as PromoteNote, Hand, Single as SingleNote, Commit}
 use Rattle.dtx_values.specs.declared.note.Reply.{Reply}
@@ -20,7 +20,7 @@ use Rattle.dtx_values.specs.declared.words.Vote.{Vote}
 use Rattle.dtx_values.specs.declared.words.Vote.TheVariants.{Yes, No, Done}
 use Rattle.dtx_values.specs.Class.{is_class, is_promotable}
 use Rattle.dtx_values.specs.Ends.{tag_of, was_got}
-use Rattle.dtx_values.specs.Owners.{owner_of}
+use Rattle.dtx_values.specs.Owners.{commits_alone, owner_of}
 use Rattle.dtx_values.specs.Row.{is_marked, is_of}
 use Rattle.dtx_values.specs.Table.{voted_before}
 use Rattle.dtx_values.specs.Vote.{is_no}
@@ -33,13 +33,13 @@ use Rattle.dtx_model.specs.Acts.{act_by, act_entries, ask_or, asked_act, commit_
 use Rattle.dtx_model.specs.Half.{Half, decide, ended, fails_if, half_of, is_gone, is_handed, is_promoting, sees, to_up, veto}
 use Rattle.dtx_model.specs.Observed.{Observed, is_branch, listeners, observe, rows}
 use Rattle.dtx_model.specs.Outcome.{is_empty}
-use Rattle.dtx_model.specs.Replies.{ack_on, conn_due, due_conn, due_of, fits, is_volatile_row, may_still_vote, note_of_conn, note_of_row, owes_outcome, owes_promotion, owes_request, owes_vote, owner_entries, promote_entries, reply_entries, request_message, request_of, row_note, vote_message, voted_by}
+use Rattle.dtx_model.specs.Replies.{ack_on, conn_due, due_conn, due_of, fits, is_volatile_row, is_unsettled, may_still_answer, may_still_vote, note_of_conn, note_of_row, one_message, owes_outcome, owes_promotion, owes_request, owes_vote, owner_entries, promote_entries, reply_entries, request_message, request_of, row_note, vote_message, voted_by}
 use Rattle.dtx_model.specs.Words.{has, onto, or_else}
 use Rattle.dtx_model.proofs.Bools.{and_both, and_left, and_right, not_true}
 use Rattle.history_table.proofs.Tests.{eq_self, second_of_four, second_of_three}
 use Rattle.world_laws.specs.Left.{unmarked, untold, unvoted}
 use Rattle.world_laws.proofs.LeftCounts.{find-passes, has-found}
-use Rattle.world_laws.proofs.LeftHalf.{client-half, decided-half, handed-half, promote-half, replied-half, requested-half, sealed-half, single-half, yes-half}
+use Rattle.world_laws.proofs.LeftHalf.{client-half, decided-half, handed-half, owner-half, promote-half, replied-half, requested-half, sealed-half, single-half, yes-half}
 use Rattle.world_laws.proofs.LeftItems.{acked-less, marked-less, told-less, voted-less}
 use Rattle.world_laws.proofs.LeftLocal.{free-ended, free-up, free-veto, free-veto_if}
 use Rattle.world_laws.proofs.LeftSpend.{Free, by-half, falls-by, free-cons, free-if, free-more, free-none, left, less-free, spend}
@@ -51,7 +51,7 @@ no e = absurd cc
 abbrev pub Owed : Observed → ℕ → Note → Type 0
 Owed o e PrepareNote = has (λ x. is_of e x && unvoted x) o.table ≡ true
 Owed o e PromoteNote = o.promote_replied ≡ false
-Owed o e Hand = is_some o.decided ≡ false
+Owed o e Hand = may_still_answer o ≡ true
 Owed o e SingleNote = o.requested ≡ false
 Owed o e Commit = has (λ b. is_branch e b && owes_ack b) o.branches ≡ true
 Owed o e _ = Unit {0}
@@ -65,7 +65,7 @@ owed_row o e x n f k = by (owes_vote o x) (owes_promotion o x) (owes_outcome o x
         has-found (is_of e) (λ y. is_of e y && unvoted y) x o.table f
         (and_both (is_of e x) (unvoted x) (find-passes (is_of e) x o.table f) (second_of_three (is_marked x) (unvoted x) (may_still_vote o x) p))
     by false true c d p q r s PromoteNote k = not_true o.promote_replied (second_of_four o.promote_asked (not o.promote_replied) (is_promotable x.class) (not (is_some o.decided)) q)
-    by false false true d p q r s Hand k = not_true (is_some o.decided) (and_right (is_handed o.handed x.number.value) (not (is_some o.decided)) r)
+    by false false true d p q r s Hand k = and_right (is_handed o.handed x.number.value) (may_still_answer o) r
     by false false false true p q r s SingleNote k = not_true o.requested (second_of_four o.single_asked (not o.requested) (is_promotable x.class) (not (is_some o.decided)) s)
     by _ _ _ _ p q r s _ k = absurd cc
 
@@ -146,9 +146,32 @@ request_falls ks h g e x n =
     falls-by ks h (to_up g.seen Begin (request_message x)) (Requested e (request_of x)) 2 1 (by-half ks h (Requested e (request_of x)) 2 (requested-half ks e (request_of x) h n) refl (omega arith))
     (less-free (free-request g.seen x)) (omega arith)
 
-owned_falls : (ks : List EnteredCall) (h : List Entry) (g : Half) (e : EnlNo) (x : Outcome) → is_some (observe h).decided ≡ false → left ks (onto h (OwnerAnswered e x ∷ decide g x)) < left ks h
+free-answer : (o : Observed) (e : EnlNo) (x : Outcome) → Free (to_up o (Enl e) (one_message x)) 1
+free-answer o e Committed = free-up o (Enl e) (one_message Committed) 1 (omega arith)
+free-answer o e Aborted = free-up o (Enl e) (one_message Aborted) 1 (omega arith)
+free-answer o e InDoubt = free-up o (Enl e) (one_message InDoubt) 1 (omega arith)
+
+alone_falls : (ks : List EnteredCall) (h : List Entry) (g : Half) (e : EnlNo) (x : Outcome) → is_some (observe h).decided ≡ false → left ks (onto h (OwnerAnswered e x ∷ decide g x)) < left ks h
 unfolding observe
-owned_falls ks h g e x n = let a = spend ks (OwnerAnswered e x) h refl in let b = decide_falls ks (OwnerAnswered e x ∷ h) g x n in omega arith
+alone_falls ks h g e x n = let a = spend ks (OwnerAnswered e x) h refl in let b = decide_falls ks (OwnerAnswered e x ∷ h) g x n in omega arith
+
+-- the owner's answer: where it is promoted the coordinator is told, else it decides
+owned_falls : (ks : List EnteredCall) (h : List Entry) (e : EnlNo) (x : Outcome) → may_still_answer (observe h) ≡ true
+    → left ks (onto h (OwnerAnswered e x ∷ (if (observe h).promoted then to_up (observe h) (Enl e) (one_message x) else decide (half_of ks h) x))) < left ks h
+owned_falls ks h e x m = by (observe h).promoted (may m)
+  where
+    o : Observed
+    o = observe h
+
+    may : may_still_answer o ≡ true → (if o.promoted then not o.answered && is_unsettled o.decided else not (is_some o.decided)) ≡ true
+    may m = m
+
+    by : (b : Bool) → (if b then not o.answered && is_unsettled o.decided else not (is_some o.decided)) ≡ true
+        → left ks (onto h (OwnerAnswered e x ∷ (if b then to_up o (Enl e) (one_message x) else decide (half_of ks h) x))) < left ks h
+    by true q =
+        falls-by ks h (to_up o (Enl e) (one_message x)) (OwnerAnswered e x) 2 1
+        (by-half ks h (OwnerAnswered e x) 2 (owner-half ks e x h (not_true o.answered (and_left (not o.answered) (is_unsettled o.decided) q))) refl (omega arith)) (less-free (free-answer o e x)) (omega arith)
+    by false q = alone_falls ks h (half_of ks h) e x (not_true (is_some o.decided) q)
 
 ack_falls : (ks : List EnteredCall) (h : List Entry) (g : Half) (e : EnlNo) (c : Option Conn) → Owed (observe h) e.value Commit → left ks (onto h (Acked e ∷ ack_on g.seen c)) < left ks h
 unfolding observe
@@ -160,7 +183,7 @@ unfolding reply_entries
 reply_falls ks h e (VoteReply v) PrepareNote d f = vote_falls ks h (sees (half_of ks h) (Voted e v)) e v (owed (observe h) e.value PrepareNote d)
 reply_falls ks h e (Promotes ok) PromoteNote d f = promote_falls ks h (half_of ks h) e ok (owed (observe h) e.value PromoteNote d)
 reply_falls ks h e (OwnerReply x) Hand d f =
-    subst (λ (o : Option Note). left ks (onto h (owner_entries (half_of ks h) e x o)) < left ks h) (sym d) (owned_falls ks h (half_of ks h) e x (owed (observe h) e.value Hand d))
+    subst (λ (o : Option Note). left ks (onto h (owner_entries (half_of ks h) e x o)) < left ks h) (sym d) (owned_falls ks h e x (owed (observe h) e.value Hand d))
 reply_falls ks h e (OwnerReply x) SingleNote d f =
     subst (λ (o : Option Note). left ks (onto h (owner_entries (half_of ks h) e x o)) < left ks h) (sym d) (request_falls ks h (half_of ks h) e x (owed (observe h) e.value SingleNote d))
 reply_falls ks h e Ack Commit d f = ack_falls ks h (half_of ks h) e (conn_due (observe h) e.value) (owed (observe h) e.value Commit d)
@@ -243,7 +266,11 @@ drops-sealed ks h d =
     (λ _. drops-ask false (all_voted (rows h)) (drops-if (is_some (observe h).handed) (λ _. drops-none) (λ n. drops-commit ks h (half_of ks h) (owner_of (rows h)) n d)))
 
 free-commit_sent : (o : Observed) → Free (commit_sent o) 1
-free-commit_sent o = free-if (o.promoted && not (is_some (promotable_in o.table))) (free-up o Begin BeginCommit 1 (omega arith)) (free-none 1)
+free-commit_sent o = free-if (o.promoted && not (is_some (promotable_in o.table))) (by (commits_alone o.table)) (free-none 1)
+  where
+    by : (b : Bool) → Free (to_up o Begin (if b then BeginCommitOne else BeginCommit)) 1
+    by true = free-up o Begin BeginCommitOne 1 (omega arith)
+    by false = free-up o Begin BeginCommit 1 (omega arith)
 
 drops-asked : (ks : List EnteredCall) (h : List Entry) → is_some (observe h).decided ≡ false → Drops ks h (asked_act (half_of ks h))
 unfolding observe

@@ -1,5 +1,5 @@
 -- COMMIT is sent at most once after the seal and once on request; so where one is on the way, the coordinator got one at most.
-use Rattle.std.proofs.Common.{◌≡◌, ◌⊎◌, inl, inr, ℕ, suc, ◌+◌, ◌≤◌, Bool, true, false, ◌&&◌, ◌||◌, not, List, [], ◌∷◌, ◌++◌, Some, is_some, if◌then◌else◌, refl, sym, subst, ap, arith}
+use Rattle.std.proofs.Common.{◌≡◌, ◌⊎◌, inl, inr, ℕ, suc, ◌+◌, ◌≤◌, Bool, true, false, ◌&&◌, ◌||◌, not, List, [], ◌∷◌, ◌++◌, Some, is_some, if◌then◌else◌, refl, sym, subst, ap, ◌∙◌, arith}
 use Rattle.dtx_values.specs.declared.call.Call.{Call}
 use Rattle.dtx_values.specs.declared.entry.Entry.{Entry}
 use Rattle.dtx_values.specs.declared.entry.Entry.TheVariants.{Called, Down as Ended, Got, Requested, Sealed, Sent, Stopped}
@@ -7,17 +7,17 @@ use Rattle.dtx_values.specs.declared.message.Conn.{Conn}
 use Rattle.dtx_values.specs.declared.message.Conn.TheVariants.{Begin, Voter, Enl}
 use Rattle.dtx_values.specs.declared.message.Dir.TheVariants.{Up, Down}
 use Rattle.dtx_values.specs.declared.message.Message.{Message}
-use Rattle.dtx_values.specs.declared.message.Message.TheVariants.{BeginCommit, EnlistPrepare, VoterAsk}
+use Rattle.dtx_values.specs.declared.message.Message.TheVariants.{BeginCommit, BeginCommitOne, EnlistPrepare, VoterAsk}
 use Rattle.dtx_values.specs.declared.note.Note.TheVariants.{Single as SingleNote}
 use Rattle.dtx_values.specs.declared.number.ActorNo.{ActorNo}
 use Rattle.dtx_values.specs.declared.number.EnlNo.{EnlNo}
 use Rattle.dtx_values.specs.Ends.{knows, same_connection}
 use Rattle.dtx_values.specs.Table.{how_many}
 use Rattle.dtx_model.specs.declared.desk.Desk.{Desk}
-use Rattle.dtx_model.specs.Acts.{act_entries, promotable_in}
+use Rattle.dtx_model.specs.Acts.{act_entries, commit_message, promotable_in}
 use Rattle.dtx_model.specs.Caused.{Ran}
 use Rattle.dtx_model.specs.Coordinated.{Coordinated, coordinate, core_got, is_active, may_log, to, to_each}
-use Rattle.dtx_model.specs.Entries.{is_commit_got, is_sealed}
+use Rattle.dtx_model.specs.Entries.{is_commit_got, is_commit_message, is_sealed}
 use Rattle.dtx_model.specs.Facts.{facts_if, has_facts}
 use Rattle.dtx_model.specs.Half.{Half, to_up}
 use Rattle.dtx_model.specs.Observed.{Observed, is_request, observe}
@@ -92,8 +92,8 @@ seal_few h es v q s i =
     let P : List Entry → Type 0 = λ es. AreFew (onto h es) in
     subst P (sym s.1) (by (v.seen.promoted && not (is_some (promotable_in v.seen.table))) unsealed)
   where
-    by : (b : Bool) → has is_sealed h ≡ false → AreFew (onto (Sealed ∷ h) (if b then to_up v.seen Begin BeginCommit else []))
-    by true u = sent_few v.seen BeginCommit (Sealed ∷ h) (let a : one_if (has is_sealed h) ≡ 0 = ap one_if u in let c = i.few in omega arith)
+    by : (b : Bool) → has is_sealed h ≡ false → AreFew (onto (Sealed ∷ h) (if b then to_up v.seen Begin (commit_message v.seen) else []))
+    by true u = sent_few v.seen (commit_message v.seen) (Sealed ∷ h) (let a : one_if (has is_sealed h) ≡ 0 = ap one_if u in let c = i.few in omega arith)
     by false u = quiet_few Sealed h refl i
 
 request_few : (h : List Entry) (es : List Entry) (v : Half) (e : EnlNo) → v.seen ≡ observe h → Requests v e es → AreFew h → AreFew (onto h es)
@@ -178,6 +178,7 @@ got_fewer (x ∷ h) = by (is_commit_got x) (is_got_on Begin Up COMMIT x) (same x
   where
     same : (x : Entry) → is_commit_got x ≡ true → is_got_on Begin Up COMMIT x ≡ true
     same (Got Begin Up BeginCommit) t = refl
+    same (Got Begin Up BeginCommitOne) t = refl
     same _ t = absurd (no t)
 
     by : (a b : Bool) → (a ≡ true → b ≡ true) → commits h ≤ how_many (is_got_on Begin Up COMMIT) h
@@ -188,16 +189,21 @@ got_fewer (x ∷ h) = by (is_commit_got x) (is_got_on Begin Up COMMIT x) (same x
     by false false s i = i
 
 -- where a COMMIT comes, one came before at most
-pub commits_few : (h : List Entry) (ms : List Message) → WireRun h → AreFew h → in_transit Begin Up h ≡ BeginCommit ∷ ms → commits h ≤ 1
-commits_few h ms w i t =
+pub commits_few : (h : List Entry) (m : Message) (ms : List Message) → WireRun h → AreFew h → is_commit_message m ≡ true → in_transit Begin Up h ≡ m ∷ ms → commits h ≤ 1
+commits_few h m ms w i c t =
     let a = no_more Begin Up COMMIT h w in
-    let b : how_many COMMIT (in_transit Begin Up h) ≡ suc (how_many COMMIT ms) = ap (how_many COMMIT) t in
-    let c = got_fewer h in
+    let b : how_many COMMIT (in_transit Begin Up h) ≡ suc (how_many COMMIT ms) = ap (how_many COMMIT) t ∙ ap (λ (b : Bool). if b then suc (how_many COMMIT ms) else how_many COMMIT ms) (named m c) in
+    let g = got_fewer h in
     let d = i.few in
     let s = most (has is_sealed h) in
     let r = most (has is_request h) in
     omega arith
   where
+    named : (m : Message) → is_commit_message m ≡ true → COMMIT m ≡ true
+    named BeginCommit c = refl
+    named BeginCommitOne c = refl
+    named _ c = absurd (no c)
+
     most : (b : Bool) → one_if b ≤ 1
     most true = omega arith
     most false = omega arith

@@ -7,17 +7,17 @@ use Rattle.dtx_values.specs.declared.message.Conn.TheVariants.{Begin, Voter, Enl
 use Rattle.dtx_values.specs.declared.message.Dir.TheVariants.{Up, Down}
 use Rattle.dtx_values.specs.declared.message.Info.{Info}
 use Rattle.dtx_values.specs.declared.message.Message.{Message}
-use Rattle.dtx_values.specs.declared.message.Message.TheVariants.{BeginBegin, BeginCommit, BeginCommitted, BeginAborted, VoterCommit, VoterAbort, EnlistEnlist, EnlistCommit, EnlistAbort, ReenlistCommitted, ReenlistAborted}
+use Rattle.dtx_values.specs.declared.message.Message.TheVariants.{BeginBegin, BeginCommit, BeginCommitOne, BeginCommitted, BeginAborted, BeginInDoubt, VoterCommit, VoterAbort, VoterInDoubt, EnlistEnlist, EnlistCommit, EnlistAbort, EnlistOneAborted, EnlistOneCommitted, EnlistOneInDoubt, EnlistSingle, ReenlistCommitted, ReenlistAborted}
 use Rattle.dtx_values.specs.declared.number.EnlNo.{EnlNo}
 use Rattle.dtx_values.specs.Ends.{same_connection}
 use Rattle.dtx_values.specs.Table.{insert_by}
 use Rattle.dtx_model.specs.declared.desk.Ballot.{Ballot}
 use Rattle.dtx_model.specs.declared.desk.Desk.{Desk}
 use Rattle.dtx_model.specs.declared.desk.Stage.{Stage}
-use Rattle.dtx_model.specs.declared.desk.Stage.TheVariants.{Idle, Active, Aborted, Recorded, Over, Unknown}
+use Rattle.dtx_model.specs.declared.desk.Stage.TheVariants.{Idle, Active, Sole, Given, Answered, Aborted, Recorded, Over, Unknown}
 use Rattle.dtx_model.specs.declared.waiting.EnteredCall.{EnteredCall}
 use Rattle.dtx_model.specs.Caused.{is_full_answer, may_coordinate}
-use Rattle.dtx_model.specs.Coordinated.{Coordinated, abort_sends, accepts, begin_if, commit_sends, coordinate, desk_number, follow, is_active, is_prepared, is_recorded, is_undecided, may_free, may_log, still_hears, to, to_each, to_waiting}
+use Rattle.dtx_model.specs.Coordinated.{Coordinated, abort_sends, accepts, begin_if, commit_sends, coordinate, decides, desk_number, doubt_sends, follow, hears_one, is_active, is_given, is_one, is_prepared, is_recorded, is_sole, is_undecided, may_free, may_log, one_sends, sole_if, stage_if, still_hears, to, to_each, to_waiting, with_ballot}
 use Rattle.dtx_model.specs.Steps.{Done, Full, LogAnswer, StoppedBefore, StoppedNow, appended, coordinates, freed}
 use Rattle.dtx_model.specs.Wires.{in_transit}
 use Rattle.dtx_model.specs.Words.{has, onto}
@@ -75,6 +75,13 @@ free-commit k =
     (free-join (free-join (free-join (free-to k Begin BeginCommitted 2 (omega arith)) (free-to k Voter VoterCommit 2 (omega arith)))
     (free-each3 k EnlistCommit told (omega arith))) (free-waiting k ReenlistCommitted (omega arith)))
 
+-- what it sends where the one that decides said committed, or in its doubt
+pub free-one : (k : Coordinated) → Free (one_sends k) 4
+free-one k = free-join (free-to k Begin BeginCommitted 2 (omega arith)) (free-to k Voter VoterCommit 2 (omega arith))
+
+pub free-doubt : (k : Coordinated) → Free (doubt_sends k) 4
+free-doubt k = free-join (free-to k Begin BeginInDoubt 2 (omega arith)) (free-to k Voter VoterInDoubt 2 (omega arith))
+
 -- an entry of the coordinator's that leaves so much less there
 by-core : (ks : List EnteredCall) (h : List Entry) (x : Entry) (r : ℕ) → core_left (commits (x ∷ h)) (follow (coordinate h) x) + r ≤ core_left (commits (x ∷ h)) (coordinate h) → half_left (half_of ks (x ∷ h)) ≤ half_left (half_of ks h)
     → wires_left (x ∷ h) ≤ wires_left h → left ks (x ∷ h) + r ≤ left ks h
@@ -102,6 +109,9 @@ stop_falls ks h n =
 undecided : (s : Stage) → is_active s ≡ true → is_undecided s ≡ true
 undecided Active a = refl
 undecided Idle a = absurd cc
+undecided Sole a = absurd cc
+undecided Given a = absurd cc
+undecided Answered a = absurd cc
 undecided Aborted a = absurd cc
 undecided Recorded a = absurd cc
 undecided Over a = absurd cc
@@ -119,6 +129,9 @@ freed-less asks k r = by k.stage r
     by Recorded r = omega arith
     by Active r = absurd cc
     by Idle r = absurd cc
+    by Sole r = absurd cc
+    by Given r = absurd cc
+    by Answered r = absurd cc
     by Aborted r = absurd cc
     by Over r = absurd cc
     by Unknown r = absurd cc
@@ -193,6 +206,9 @@ begin-core asks k = by k.stage
         ≤ outcome_left s (length k.desks + length k.waits) + asks_left asks (2 * length k.desks + 2) + unless k.stopped 1
     by Idle = omega arith
     by Active = omega arith
+    by Sole = omega arith
+    by Given = omega arith
+    by Answered = omega arith
     by Aborted = omega arith
     by Recorded = omega arith
     by Over = omega arith
@@ -205,6 +221,64 @@ commit-core zero k l = omega arith
 commit-core (suc zero) k l = omega arith
 commit-core (suc (suc n)) k l = absurd (omega (arith, l))
 
+-- COMMIT for a single phase, before which one came at most
+pub commit-one-core : (asks : ℕ) (k : Coordinated) → asks ≤ 1 → core_left (suc asks) (follow k (Got Begin Up BeginCommitOne)) + (2 * length k.desks + 2) ≤ core_left asks k
+unfolding follow
+commit-one-core asks k l = let a = stages k.stage k.commit (is_one k.desks) (length k.desks + length k.waits) in let b = fewer asks l in omega arith
+  where
+    fewer : (n : ℕ) → n ≤ 1 → asks_left (suc n) (2 * length k.desks + 2) + (2 * length k.desks + 2) ≤ asks_left n (2 * length k.desks + 2)
+    fewer zero l = omega arith
+    fewer (suc zero) l = omega arith
+    fewer (suc (suc n)) l = absurd (omega (arith, l))
+
+    stages : (s : Stage) (came one : Bool) (n : ℕ) → outcome_left (sole_if (is_active s && not came) one s) n ≤ outcome_left s n
+    stages Active true one n = omega arith
+    stages Active false true n = omega arith
+    stages Active false false n = omega arith
+    stages Idle came one n = omega arith
+    stages Sole came one n = omega arith
+    stages Given came one n = omega arith
+    stages Answered came one n = omega arith
+    stages Aborted came one n = omega arith
+    stages Recorded came one n = omega arith
+    stages Over came one n = omega arith
+    stages Unknown came one n = omega arith
+
+-- where not exactly one enlistment came, the outcome of each is left to be sent
+pub not-one-core : (asks : ℕ) (k : Coordinated) → accepts k ≡ true → is_one k.desks ≡ false
+    → core_left asks (follow k (Got Begin Up BeginCommitOne)) + (3 * length k.desks + 3 * length k.waits + 6) ≤ core_left asks k
+unfolding follow
+not-one-core asks k a o = rw (a, o) (by k.stage (and_left (is_active k.stage) (not k.commit) a))
+  where
+    by : (s : Stage) → is_active s ≡ true → (0 + asks_left asks (2 * length k.desks + 2) + unless k.stopped 1) + (3 * length k.desks + 3 * length k.waits + 6)
+        ≤ outcome_left s (length k.desks + length k.waits) + asks_left asks (2 * length k.desks + 2) + unless k.stopped 1
+    by Active a = omega arith
+    by Idle a = absurd cc
+    by Sole a = absurd cc
+    by Given a = absurd cc
+    by Answered a = absurd cc
+    by Aborted a = absurd cc
+    by Recorded a = absurd cc
+    by Over a = absurd cc
+    by Unknown a = absurd cc
+
+-- the answer of the one that decides, or its end: what is left of the outcome is what is sent by it
+given-out : (s : Stage) (n : ℕ) → is_given s ≡ true → 3 * n + 6 ≤ outcome_left s n
+given-out Given n g = omega arith
+given-out Idle n g = absurd cc
+given-out Active n g = absurd cc
+given-out Sole n g = absurd cc
+given-out Answered n g = absurd cc
+given-out Aborted n g = absurd cc
+given-out Recorded n g = absurd cc
+given-out Over n g = absurd cc
+given-out Unknown n g = absurd cc
+
+-- so much is left where it decides, and nothing of it after its answer
+pub is-left-given : (asks : ℕ) (k : Coordinated) (x : Entry) → is_given k.stage ≡ true → (follow k x).stage ≡ Answered → (follow k x).desks ≡ k.desks → (follow k x).stopped ≡ k.stopped
+    → core_left asks (follow k x) + 6 ≤ core_left asks k
+is-left-given asks k x g s d p = rw (s, d, p) (let a = given-out k.stage (length k.desks + length k.waits) g in omega arith)
+
 -- ENLIST, by which a desk may come
 pub enlist-core : (asks : ℕ) (k : Coordinated) (e : EnlNo) (i : Info) → core_left asks (follow k (Got (Enl e) Up (EnlistEnlist i))) ≤ core_left asks k + 7
 unfolding follow
@@ -216,6 +290,9 @@ enlist-core asks k e i = by (accepts k)
     stages : (s : Stage) (n : ℕ) → outcome_left s (n + 1) ≤ outcome_left s n + 3
     stages Idle n = omega arith
     stages Active n = omega arith
+    stages Sole n = omega arith
+    stages Given n = omega arith
+    stages Answered n = omega arith
     stages Aborted n = omega arith
     stages Recorded n = omega arith
     stages Over n = omega arith

@@ -8,11 +8,12 @@ use Rattle.dtx_values.specs.declared.message.Conn.TheVariants.{Begin, Voter, Enl
 use Rattle.dtx_values.specs.declared.message.Dir.{Dir}
 use Rattle.dtx_values.specs.declared.message.Dir.TheVariants.{Up, Down}
 use Rattle.dtx_values.specs.declared.message.Message.{Message}
-use Rattle.dtx_values.specs.declared.message.Message.TheVariants.{BeginBegin, BeginCommit, EnlistEnlist, EnlistAck, ReenlistReenlist, ReenlistAck}
+use Rattle.dtx_values.specs.declared.message.Message.TheVariants.{BeginBegin, BeginCommit, BeginCommitOne, EnlistEnlist, EnlistAck, EnlistOneAborted, EnlistOneCommitted, EnlistOneInDoubt, EnlistSingle, ReenlistReenlist, ReenlistAck}
+use Rattle.dtx_values.specs.declared.number.EnlNo.{EnlNo}
 use Rattle.dtx_values.specs.Lines.{has_line}
 use Rattle.dtx_model.specs.declared.desk.Stage.{Stage}
-use Rattle.dtx_model.specs.declared.desk.Stage.TheVariants.{Idle, Active, Aborted, Recorded, Over, Unknown}
-use Rattle.dtx_model.specs.Coordinated.{Coordinated, abort_if, aborts, ballot_of, but, follow, is_active, is_undecided, with_ack, with_ballot}
+use Rattle.dtx_model.specs.declared.desk.Stage.TheVariants.{Idle, Active, Sole, Given, Answered, Aborted, Recorded, Over, Unknown}
+use Rattle.dtx_model.specs.Coordinated.{Coordinated, abort_if, aborts, ballot_of, but, decides, follow, is_active, is_sole, is_undecided, stage_if, with_ack, with_ballot}
 use Rattle.dtx_model.specs.Entries.{is_commit_got}
 use Rattle.dtx_model.proofs.Bools.{and_left, and_right}
 use Rattle.half_parts.proofs.Lists.{length-filter-le}
@@ -25,6 +26,9 @@ no e = absurd cc
 pub out-le : (s : Stage) (n m : ℕ) → n ≤ m → outcome_left s n ≤ outcome_left s m
 out-le Idle n m k = omega arith
 out-le Active n m k = omega arith
+out-le Sole n m k = omega arith
+out-le Given n m k = omega arith
+out-le Answered n m k = omega arith
 out-le Aborted n m k = omega arith
 out-le Recorded n m k = omega arith
 out-le Over n m k = omega arith
@@ -34,6 +38,9 @@ out-le Unknown n m k = omega arith
 pub abort-out : (b : Bool) (s : Stage) (n m : ℕ) → n ≤ m → outcome_left (abort_if b s) n ≤ outcome_left s m
 abort-out true Idle n m k = omega arith
 abort-out true Active n m k = omega arith
+abort-out true Sole n m k = omega arith
+abort-out true Given n m k = omega arith
+abort-out true Answered n m k = omega arith
 abort-out true Aborted n m k = omega arith
 abort-out true Recorded n m k = omega arith
 abort-out true Over n m k = omega arith
@@ -63,12 +70,30 @@ is_core_free Logged = false
 is_core_free (Restarted found) = false
 is_core_free _ = true
 
+-- SINGLE takes its own part from what is left
+pub single-core : (asks : ℕ) (k : Coordinated) (e : EnlNo) → core_left asks (follow k (Sent (Enl e) Down EnlistSingle)) + (if is_sole k.stage then 2 else 0) ≤ core_left asks k
+unfolding follow
+single-core asks k e = by k.stage
+  where
+    by : (s : Stage) → (outcome_left (stage_if (is_sole s) Given s) (length k.desks + length k.waits) + asks_left asks (2 * length k.desks + 2) + unless k.stopped 1) + (if is_sole s then 2 else 0)
+        ≤ outcome_left s (length k.desks + length k.waits) + asks_left asks (2 * length k.desks + 2) + unless k.stopped 1
+    by Idle = omega arith
+    by Active = omega arith
+    by Sole = omega arith
+    by Given = omega arith
+    by Answered = omega arith
+    by Aborted = omega arith
+    by Recorded = omega arith
+    by Over = omega arith
+    by Unknown = omega arith
+
 sent-core : (asks : ℕ) (k : Coordinated) (c : Conn) (d : Dir) (m : Message) → core_left asks (follow k (Sent c d m)) ≤ core_left asks k
 unfolding follow
 sent-core asks k (Again e) Down m = let z = length-filter-le (λ f. not (e.value == f.value)) k.waits in part-le false k.stage (length k.desks) (length k.desks) (length (but e.value k.waits)) (length k.waits) asks k.stopped (omega arith) z
 sent-core asks k (Again e) Up m = omega arith
 sent-core asks k Begin d m = omega arith
 sent-core asks k Voter d m = omega arith
+sent-core asks k (Enl e) Down EnlistSingle = let z = single-core asks k e in omega arith
 sent-core asks k (Enl e) d m = omega arith
 
 end-core : (asks : ℕ) (k : Coordinated) (c : Conn) (d : Dir) → core_left asks (follow k (Ended c d)) ≤ core_left asks k
@@ -76,7 +101,12 @@ unfolding follow
 end-core asks k (Again e) Up = let z = length-filter-le (λ f. not (e.value == f.value)) k.waits in part-le false k.stage (length k.desks) (length k.desks) (length (but e.value k.waits)) (length k.waits) asks k.stopped (omega arith) z
 end-core asks k Begin Up = part-le (not k.commit) k.stage (length k.desks) (length k.desks) (length k.waits) (length k.waits) asks k.stopped (omega arith) (omega arith)
 end-core asks k Voter Up = part-le (not k.yes) k.stage (length k.desks) (length k.desks) (length k.waits) (length k.waits) asks k.stopped (omega arith) (omega arith)
-end-core asks k (Enl e) Up = part-le (aborts k (Ended (Enl e) Up)) k.stage (length k.desks) (length k.desks) (length k.waits) (length k.waits) asks k.stopped (omega arith) (omega arith)
+end-core asks k (Enl e) Up = by (decides k e.value)
+  where
+    by : (b : Bool) → outcome_left (if b then Answered else abort_if (aborts k (Ended (Enl e) Up)) k.stage) (length k.desks + length k.waits) + asks_left asks (2 * length k.desks + 2) + unless k.stopped 1
+        ≤ core_left asks k
+    by true = omega arith
+    by false = part-le (aborts k (Ended (Enl e) Up)) k.stage (length k.desks) (length k.desks) (length k.waits) (length k.waits) asks k.stopped (omega arith) (omega arith)
 end-core asks k Begin Down = omega arith
 end-core asks k Voter Down = omega arith
 end-core asks k (Enl e) Down = omega arith
@@ -127,6 +157,9 @@ logged-core asks k a = by k.stage a
         ≤ outcome_left s (length k.desks + length k.waits) + asks_left asks (2 * length k.desks + 2) + unless k.stopped 1
     by Active a = omega arith
     by Idle a = absurd cc
+    by Sole a = absurd cc
+    by Given a = absurd cc
+    by Answered a = absurd cc
     by Aborted a = absurd cc
     by Recorded a = absurd cc
     by Over a = absurd cc
@@ -136,6 +169,9 @@ logged-core asks k a = by k.stage a
 aborted-out : (s : Stage) (n e w : ℕ) → is_undecided s ≡ true → outcome_left (abort_if true s) n + (3 * e + 3 * w + 6) ≤ outcome_left s (e + w)
 aborted-out Idle n e w a = omega arith
 aborted-out Active n e w a = omega arith
+aborted-out Sole n e w a = omega arith
+aborted-out Given n e w a = absurd cc
+aborted-out Answered n e w a = absurd cc
 aborted-out Aborted n e w a = absurd cc
 aborted-out Recorded n e w a = absurd cc
 aborted-out Over n e w a = absurd cc
@@ -161,30 +197,52 @@ abort-core asks k x i a =
     let o = aborted-out k.stage (length (follow k x).desks + length (follow k x).waits) (length k.desks) (length k.waits) (and_right (aborts k x) (is_undecided k.stage) a) in
     rw (i.stage, i.stopped, p) (let z = asks-le asks (2 * length (follow k x).desks + 2) (2 * length k.desks + 2) (let d = i.desks in omega arith) in omega arith)
 
--- What is got. Each keeps its desks and who waits, but an ENLIST that is accepted, a REENLIST and a COMMIT.
+-- What is got. Each keeps its desks and who waits, but an ENLIST that is accepted, a REENLIST, a COMMIT, and the answer of the one that decides.
 abbrev pub is_special : Conn → Message → Bool
 is_special Begin BeginBegin = true
 is_special Begin BeginCommit = true
+is_special Begin BeginCommitOne = true
 is_special (Enl e) (EnlistEnlist i) = true
+is_special (Enl e) EnlistOneCommitted = true
+is_special (Enl e) EnlistOneAborted = true
+is_special (Enl e) EnlistOneInDoubt = true
 is_special (Again e) (ReenlistReenlist i) = true
 is_special _ _ = false
 
--- such a message is one of these
-pub got-fewer : (k : Coordinated) (c : Conn) (m : Message) → is_special c m ≡ false → IsFewer k (Got c Up m)
+-- the enlistment of this connection decides
+abbrev pub decides_on : Coordinated → Conn → Bool
+decides_on k (Enl e) = decides k e.value
+decides_on k c = false
+
+-- any other message is one of these, unless it ends the connection of the one that decides
+pub got-fewer : (k : Coordinated) (c : Conn) (m : Message) → is_special c m ≡ false → (not (has_line c Up m) && decides_on k c) ≡ false → IsFewer k (Got c Up m)
 unfolding follow
-got-fewer k Begin BeginBegin f = absurd cc
-got-fewer k Begin m f = record { desks = omega arith; waits = omega arith; stage = refl; stopped = refl }
-got-fewer k Voter m f = record { desks = omega arith; waits = omega arith; stage = refl; stopped = refl }
-got-fewer k (Enl e) (EnlistEnlist i) f = absurd cc
-got-fewer k (Enl e) EnlistAck f = record { desks = let z = length-map k.desks (with_ack e.value) in omega arith; waits = omega arith; stage = refl; stopped = refl }
-got-fewer k (Enl e) m f = record { desks = by (is_active k.stage); waits = omega arith; stage = refl; stopped = refl }
+got-fewer k Begin BeginBegin f d = absurd cc
+got-fewer k Begin BeginCommitOne f d = absurd cc
+got-fewer k Begin m f d = record { desks = omega arith; waits = omega arith; stage = refl; stopped = refl }
+got-fewer k Voter m f d = record { desks = omega arith; waits = omega arith; stage = both (has_line Voter Up m) (abort_if (aborts k (Got Voter Up m)) k.stage); stopped = refl }
   where
+    both : (b : Bool) (s : Stage) → (if b then s else s) ≡ s
+    both true s = refl
+    both false s = refl
+got-fewer k (Enl e) (EnlistEnlist i) f d = absurd cc
+got-fewer k (Enl e) EnlistAck f d = record { desks = let z = length-map k.desks (with_ack e.value) in omega arith; waits = omega arith; stage = refl; stopped = refl }
+got-fewer k (Enl e) EnlistOneCommitted f d = absurd cc
+got-fewer k (Enl e) EnlistOneAborted f d = absurd cc
+got-fewer k (Enl e) EnlistOneInDoubt f d = absurd cc
+got-fewer k (Enl e) m f d = record { desks = by (is_active k.stage); waits = omega arith; stage = same (has_line (Enl e) Up m) (decides k e.value) (abort_if (aborts k (Got (Enl e) Up m)) k.stage) d; stopped = refl }
+  where
+    same : (b c : Bool) (s : Stage) → (not b && c) ≡ false → (if b then s else if c then Answered else s) ≡ s
+    same true c s d = refl
+    same false true s d = absurd cc
+    same false false s d = refl
+
     by : (b : Bool) → length (if b then map (with_ballot e.value (ballot_of m)) k.desks else k.desks) ≤ length k.desks
     by true = let z = length-map k.desks (with_ballot e.value (ballot_of m)) in omega arith
     by false = omega arith
-got-fewer k (Again e) (ReenlistReenlist i) f = absurd cc
-got-fewer k (Again e) ReenlistAck f = record { desks = let z = length-map k.desks (with_ack e.value) in omega arith; waits = omega arith; stage = refl; stopped = refl }
-got-fewer k (Again e) m f = record { desks = omega arith; waits = by (has_line (Again e) Up m); stage = refl; stopped = refl }
+got-fewer k (Again e) (ReenlistReenlist i) f d = absurd cc
+got-fewer k (Again e) ReenlistAck f d = record { desks = let z = length-map k.desks (with_ack e.value) in omega arith; waits = omega arith; stage = refl; stopped = refl }
+got-fewer k (Again e) m f d = record { desks = omega arith; waits = by (has_line (Again e) Up m); stage = refl; stopped = refl }
   where
     by : (b : Bool) → length (if b then k.waits else but e.value k.waits) ≤ length k.waits
     by true = omega arith

@@ -25,7 +25,7 @@ use Rattle.dtx_values.specs.Table.{how_many, marks}
 use Rattle.local_half.specs.Half.{owes_ack}
 use Rattle.dtx_model.specs.declared.branch.Branch.{Branch}
 use Rattle.dtx_model.specs.declared.listener.Listener.{Listener}
-use Rattle.dtx_model.specs.Entries.{client_told_of, decision_of, handed_of, is_promoted, is_sealed, is_yes}
+use Rattle.dtx_model.specs.Entries.{client_told_of, decision_of, handed_of, is_owner_answer, is_promoted, is_sealed, is_yes}
 use Rattle.dtx_model.specs.Half.{half_of}
 use Rattle.dtx_model.specs.Observed.{branch_aborted, branch_acked, branch_number, branches, due_in, hear, is_ask_promote, is_ask_single, is_branch, is_promote_reply, is_request, listeners, observe, rows}
 use Rattle.dtx_model.specs.declared.waiting.EnteredCall.{EnteredCall}
@@ -216,6 +216,11 @@ sealed-half ks h n = let m : has is_sealed h ≡ false = n in rw m (omega arith)
 pub handed-half : (ks : List EnteredCall) (e : EnlNo) (h : List Entry) → is_some (observe h).handed ≡ false → half_left (half_of ks (Handed e ∷ h)) + 1 ≤ half_left (half_of ks h)
 unfolding observe
 handed-half ks e h n = let m : is_some (latest handed_of h) ≡ false = n in rw m (omega arith)
+
+-- the owner's answer
+pub owner-half : (ks : List EnteredCall) (e : EnlNo) (x : Outcome) (h : List Entry) → (observe h).answered ≡ false → half_left (half_of ks (OwnerAnswered e x ∷ h)) + 2 ≤ half_left (half_of ks h)
+unfolding observe
+owner-half ks e x h n = let m : has is_owner_answer h ≡ false = n in rw m (omega arith)
 
 -- the decision
 pub decided-half : (ks : List EnteredCall) (x : Outcome) (h : List Entry) → is_some (observe h).decided ≡ false → half_left (half_of ks (Decided x ∷ h)) + 1 ≤ half_left (half_of ks h)

@@ -4,13 +4,13 @@ use Rattle.std.specs.List.{flat_map}
 use Rattle.dtx_values.specs.declared.entry.Answer.TheVariants.{Fine, Ended as EndedAnswer, Id}
 use Rattle.dtx_values.specs.declared.entry.Ask.TheVariants.{Prepare}
 use Rattle.dtx_values.specs.declared.entry.Entry.{Entry}
-use Rattle.dtx_values.specs.declared.entry.Entry.TheVariants.{Answered, Asked, Decided, Enlisted, Told, Sent, Got, Down as Ended, Promoted, PromotionFailed}
+use Rattle.dtx_values.specs.declared.entry.Entry.TheVariants.{Answered, Asked, Decided, Enlisted, Handed, Told, Sent, Got, Down as Ended, Promoted, PromotionFailed}
 use Rattle.dtx_values.specs.declared.entry.Party.TheVariants.{Enl as Member}
 use Rattle.dtx_values.specs.declared.message.Conn.{Conn}
 use Rattle.dtx_values.specs.declared.message.Conn.TheVariants.{Begin, Voter, Enl, Again}
 use Rattle.dtx_values.specs.declared.message.Dir.TheVariants.{Up, Down}
 use Rattle.dtx_values.specs.declared.message.Message.{Message}
-use Rattle.dtx_values.specs.declared.message.Message.TheVariants.{BeginAbort, BeginBegun, BeginCommitted, BeginAborted, VoterVoter, VoterNo, VoterCreated, VoterRefused, VoterAsk, VoterCommit, VoterAbort, EnlistEnlist, EnlistEnlisted, EnlistRefused, EnlistPrepare, EnlistCommit, EnlistAbort, ReenlistCommitted, ReenlistAborted}
+use Rattle.dtx_values.specs.declared.message.Message.TheVariants.{BeginAbort, BeginBegun, BeginCommitted, BeginAborted, BeginInDoubt, VoterVoter, VoterNo, VoterCreated, VoterRefused, VoterAsk, VoterCommit, VoterAbort, VoterInDoubt, EnlistEnlist, EnlistEnlisted, EnlistRefused, EnlistPrepare, EnlistCommit, EnlistAbort, EnlistSingle, ReenlistCommitted, ReenlistAborted}
 use Rattle.dtx_values.specs.declared.number.EnlNo.{EnlNo}
 use Rattle.dtx_values.specs.declared.number.RmNo.{RmNo}
 use Rattle.dtx_values.specs.declared.words.Cause.{Cause}
@@ -21,7 +21,7 @@ use Rattle.dtx_values.specs.Ends.{knows, may_abort_by_begin, may_abort_by_voter,
 use Rattle.dtx_values.specs.Table.{how_many, voted}
 use Rattle.dtx_model.specs.declared.waiting.EnteredCall.{EnteredCall}
 use Rattle.dtx_model.specs.declared.waiting.Wanted.TheVariants.{Identifier, Place}
-use Rattle.dtx_model.specs.Arrivals.{aborted_by, arrived, begun, committed_by, created, ended_by, enlisted_at, hand_over, has_both_ends, local_down, local_got, place_given, told_abort, unless_decided}
+use Rattle.dtx_model.specs.Arrivals.{aborted_by, arrived, begun, committed_by, created, doubted_by, ended_by, enlisted_at, hand_over, handed_by, has_both_ends, is_called_off, local_down, local_got, place_given, told_abort, unless_decided}
 use Rattle.dtx_model.specs.Coordinated.{coordinate}
 use Rattle.dtx_model.specs.Entries.{is_promoted}
 use Rattle.dtx_model.specs.Half.{Half, by_manager, decide, ended, enlist_sent, fails_if, given, half_of, info, is_gone, is_handed, is_promoting, over, promoted_by, sees, stands, to_up, veto, veto_if, veto_message, was_told}
@@ -204,21 +204,30 @@ free-committed g n = free-unless g (free-more n (omega arith) (free-decide g Com
 free-aborted : (g : Half) (n : ℕ) → Free (aborted_by g) n
 free-aborted g n = free-unless g (free-more n (omega arith) (free-decide g Aborted))
 
+free-doubted : (g : Half) (n : ℕ) → Free (doubted_by g) n
+free-doubted g n = free-unless g (free-more n (omega arith) (free-decide g InDoubt))
+
+free-handed : (g : Half) (e : EnlNo) (n : ℕ) → Free (handed_by g e) n
+free-handed g e n = free-if (is_called_off g.seen.decided || is_gone g.seen e.value) (free-none n) (free-more n (omega arith) (free-cons (Handed e) refl (free-none 0)))
+
 less-arrived : (ks : List EnteredCall) (h : List Entry) (t : ℕ) (g : Half) (c : Conn) (m : Message) → g.seen.promoted ≡ has is_promoted h → g.waits ≡ waiting ks h → Less ks h (arrived t g c m) (allowed c m)
 less-arrived ks h t g Begin (BeginBegun u) p w = less-free (free-begun t g)
 less-arrived ks h t g Begin BeginCommitted p w = less-free (free-committed g 1)
 less-arrived ks h t g Begin BeginAborted p w = less-free (free-aborted g 1)
+less-arrived ks h t g Begin BeginInDoubt p w = less-free (free-doubted g 1)
 less-arrived ks h t g Begin m p w = less-free (free-ended_by g Begin)
 less-arrived ks h t g Voter VoterCreated p w = less-created ks h t g p w
 less-arrived ks h t g Voter (VoterRefused cause) p w = less-free (free-unless g (free-veto g))
 less-arrived ks h t g Voter VoterAsk p w = less-free (free-none 1)
 less-arrived ks h t g Voter VoterCommit p w = less-free (free-committed g 1)
 less-arrived ks h t g Voter VoterAbort p w = less-free (free-aborted g 1)
+less-arrived ks h t g Voter VoterInDoubt p w = less-free (free-doubted g 1)
 less-arrived ks h t g Voter m p w = less-free (free-ended_by g Voter)
 less-arrived ks h t g (Enl e) EnlistEnlisted p w = less-more 1 (omega arith) (less-enlisted ks h t g e p w)
 less-arrived ks h t g (Enl e) (EnlistRefused cause) p w = less-free (free-unless g (free-veto g))
 less-arrived ks h t g (Enl e) EnlistPrepare p w = less-free (free-more 1 (omega arith) (free-cons (Asked e Prepare) refl (free-none 0)))
 less-arrived ks h t g (Enl e) EnlistCommit p w = less-free (free-more 0 (omega arith) (free-cons (Told (Member e) Committed) refl (free-none 0)))
+less-arrived ks h t g (Enl e) EnlistSingle p w = less-free (free-handed g e 1)
 less-arrived ks h t g (Enl e) EnlistAbort p w = less-free (free-more 1 (omega arith) (free-join (free-told_abort g e) (free-aborted g 0)))
 less-arrived ks h t g (Enl e) m p w = less-free (free-ended_by g (Enl e))
 less-arrived ks h t g (Again e) ReenlistCommitted p w = less-free (free-more 0 (omega arith) (free-cons (Told (Member e) Committed) refl (free-none 0)))

@@ -13,7 +13,7 @@ use Rattle.dtx_values.specs.declared.message.Conn.TheVariants.{Begin, Voter, Enl
 use Rattle.dtx_values.specs.declared.message.Dir.{Dir}
 use Rattle.dtx_values.specs.declared.message.Dir.TheVariants.{Up, Down}
 use Rattle.dtx_values.specs.declared.message.Message.{Message}
-use Rattle.dtx_values.specs.declared.message.Message.TheVariants.{BeginBegin, BeginCommit, BeginAbort, BeginBegun, BeginCommitted, BeginAborted, VoterVoter, VoterNo, VoterYes, VoterCreated, VoterRefused, VoterAsk, VoterCommit, VoterAbort, EnlistEnlist, EnlistAck, EnlistEnlisted, EnlistRefused, EnlistPrepare, EnlistCommit, EnlistAbort, ReenlistReenlist, ReenlistAck, ReenlistCommitted, ReenlistAborted}
+use Rattle.dtx_values.specs.declared.message.Message.TheVariants.{BeginBegin, BeginCommit, BeginAbort, BeginCommitOne, BeginBegun, BeginCommitted, BeginAborted, BeginInDoubt, VoterVoter, VoterNo, VoterYes, VoterCreated, VoterRefused, VoterAsk, VoterCommit, VoterAbort, VoterInDoubt, EnlistEnlist, EnlistAck, EnlistOneCommitted, EnlistOneAborted, EnlistOneInDoubt, EnlistEnlisted, EnlistRefused, EnlistPrepare, EnlistCommit, EnlistAbort, EnlistSingle, ReenlistReenlist, ReenlistAck, ReenlistCommitted, ReenlistAborted}
 use Rattle.dtx_values.specs.declared.note.Note.{Note}
 use Rattle.dtx_values.specs.declared.note.Note.TheVariants.{Single}
 use Rattle.dtx_values.specs.declared.note.Reply.{Reply}
@@ -29,28 +29,28 @@ use Rattle.dtx_values.specs.Class.{is_promotable}
 use Rattle.dtx_values.specs.Clones.{is_open_rollback}
 use Rattle.dtx_values.specs.Ends.{knows, may_abort_by_begin, may_abort_by_voter, same_connection, tag_of, was_got}
 use Rattle.dtx_values.specs.Lines.{has_line, is_opening}
-use Rattle.dtx_values.specs.Owners.{owner_of}
+use Rattle.dtx_values.specs.Owners.{commits_alone, owner_of}
 use Rattle.dtx_values.specs.RecoveryInfo.{is_id}
 use Rattle.dtx_values.specs.Table.{voted}
 use Rattle.dtx_values.specs.Vote.{is_no}
 use Rattle.dtx_values.specs.Waves.{all_voted, is_over, next_ask}
 use Rattle.dtx_model.specs.declared.desk.Desk.{Desk}
 use Rattle.dtx_model.specs.declared.desk.Stage.{Stage}
-use Rattle.dtx_model.specs.declared.desk.Stage.TheVariants.{Idle, Active, Aborted as AbortedStage, Recorded, Over, Unknown}
+use Rattle.dtx_model.specs.declared.desk.Stage.TheVariants.{Idle, Active, Sole, Given, Answered as AnsweredStage, Aborted as AbortedStage, Recorded, Over, Unknown}
 use Rattle.dtx_model.specs.declared.listener.Listener.{Listener}
-use Rattle.dtx_model.specs.Acts.{tell, is_to_tell, promotable_in, under_way, commit_sent, ask_or, after_seal, commit_act, yes_act, voter_act, promoted_act, sealed_act, asked_act, unasked_promotable, undecided_act, act_by, act_entries}
+use Rattle.dtx_model.specs.Acts.{tell, is_to_tell, promotable_in, under_way, commit_message, commit_sent, ask_or, after_seal, commit_act, yes_act, voter_act, promoted_act, sealed_act, asked_act, unasked_promotable, undecided_act, act_by, act_entries}
 use Rattle.dtx_model.specs.Answers.{class_of, limit_of}
-use Rattle.dtx_model.specs.Arrivals.{unless_decided, told_abort, has_both_ends, ended_there, ended_by, begin_arrived, voter_arrived, enlist_arrived, again_arrived, arrived, local_down}
-use Rattle.dtx_model.specs.Coordinated.{Coordinated, aborts, opening_by, abort_sends, commit_sends, core_down, core_got, follow, has_aborted, is_active, is_early, is_prepared, is_recorded, is_undecided, may_log, opening_answer, still_hears, to, to_each, to_waiting}
+use Rattle.dtx_model.specs.Arrivals.{unless_decided, is_called_off, told_abort, has_both_ends, ended_there, ended_by, begin_arrived, voter_arrived, enlist_arrived, again_arrived, arrived, local_down}
+use Rattle.dtx_model.specs.Coordinated.{Coordinated, abort_block, aborts, accepts, opening_by, abort_sends, commit_sends, core_down, core_got, decides, doubt_sends, ended_block, follow, has_aborted, hears_one, is_active, is_one, is_prepared, is_recorded, is_sole, is_undecided, may_log, one_sends, opening_answer, still_hears, to, to_each, to_waiting}
 use Rattle.dtx_model.specs.Facts.{facts_if, is_late, local_facts, reaches, ticked, time_up}
 use Rattle.dtx_model.specs.Frames.{is_valid}
 use Rattle.dtx_model.specs.Half.{Half, sees, is_promoting, to_up, fails_if, decide, veto_message, veto, veto_if, over, stands, is_gone, was_told, is_handed}
 use Rattle.dtx_model.specs.Observed.{Observed, track}
 use Rattle.dtx_model.specs.Promotes.{is_promoting as is_start}
-use Rattle.dtx_model.specs.Replies.{ack_on, conn_due, due_of, is_volatile_row, owner_entries, reply_entries, request_message, request_of, vote_message, voted_by}
+use Rattle.dtx_model.specs.Replies.{ack_on, conn_due, due_of, is_volatile_row, one_message, owner_entries, reply_entries, request_message, request_of, vote_message, voted_by}
 use Rattle.dtx_model.specs.Steps.{LogAnswer, Done, Full, StoppedNow, StoppedBefore, appended, coordinates, freed}
 use Rattle.dtx_model.specs.Words.{has}
-use Rattle.dtx_model.specs.World.{World, half, cut, cut_upward, facts_at, gone_by, gone_decides, open_ones}
+use Rattle.dtx_model.specs.World.{World, half, cut, cut_upward, facts_at, gone_by, gone_decides, has_answered_there, open_ones}
 use Rattle.dtx_model.proofs.Bools.{and_left, and_right, not_true}
 use Rattle.world_laws.proofs.SendingApt.{Apt, apt_cons, apt_flat, apt_if, apt_join, apt_map, apt_none, apt_one, apt_sent, apt_when, can_send, is_apt}
 use Rattle.dtx_model.proofs.Writes.{promotes}
@@ -94,6 +94,21 @@ apt_commit k s =
     apt_join (apt_join (apt_join (apt_to k s Begin BeginCommitted refl) (apt_to k s Voter VoterCommit refl))
     (apt_each k s EnlistCommit (λ e. refl) (filter (λ d. is_prepared d.ballot) k.desks))) (apt_waiting k s ReenlistCommitted (λ e. refl))
 
+apt_one_sends : {p : List Entry} (k : Coordinated) → Speaks p k → Apt p (one_sends k)
+apt_one_sends k s = apt_join (apt_to k s Begin BeginCommitted refl) (apt_to k s Voter VoterCommit refl)
+
+apt_doubt : {p : List Entry} (k : Coordinated) → Speaks p k → Apt p (doubt_sends k)
+apt_doubt k s = apt_join (apt_to k s Begin BeginInDoubt refl) (apt_to k s Voter VoterInDoubt refl)
+
+apt_abort_block : {p : List Entry} (k : Coordinated) (x : Entry) → Speaks p (follow k x) → Apt p (abort_block k x)
+apt_abort_block k x s = apt_if (aborts k x && is_undecided k.stage) (apt_abort (follow k x) s) apt_none
+
+apt_ended_block : {p : List Entry} (k : Coordinated) (c : Conn) (x : Entry) → Speaks p (follow k x) → Apt p (ended_block k c x)
+apt_ended_block k (Enl e) x s = apt_if (decides k e.value) (apt_doubt (follow k x) s) (apt_abort_block k x s)
+apt_ended_block k Begin x s = apt_abort_block k x s
+apt_ended_block k Voter x s = apt_abort_block k x s
+apt_ended_block k (Again e) x s = apt_abort_block k x s
+
 -- the answer to VOTER or ENLIST
 answer_later : (c : Conn) (good abort : Message) (refused : ℕ → Message) → is_later c Down good ≡ true → is_later c Down abort ≡ true → is_later c Down (refused 1) ≡ true
     → is_later c Down (refused 2) ≡ true → (s : Stage) (b : Bool) → is_later c Down (opening_by s b good abort refused) ≡ true
@@ -103,6 +118,9 @@ answer_later c good abort refused p q r t Over b = t
 answer_later c good abort refused p q r t Active true = r
 answer_later c good abort refused p q r t Active false = p
 answer_later c good abort refused p q r t Idle b = r
+answer_later c good abort refused p q r t Sole b = r
+answer_later c good abort refused p q r t Given b = r
+answer_later c good abort refused p q r t AnsweredStage b = r
 answer_later c good abort refused p q r t Recorded b = r
 
 -- after a message: k is what was known before it, and the history has it
@@ -123,12 +141,19 @@ apt_core_got {p} id k Begin BeginCommit v s =
 apt_core_got id k (Again e) (ReenlistReenlist i) v s =
     apt_if (is_recorded k.stage) (apt_to (follow k (Got (Again e) Up (ReenlistReenlist i))) s (Again e) ReenlistCommitted refl)
     (apt_if (has_aborted k.stage) (apt_to (follow k (Got (Again e) Up (ReenlistReenlist i))) s (Again e) ReenlistAborted refl) apt_none)
-apt_core_got id k c m v s = apt_if (aborts k (Got c Up m) && is_undecided k.stage) (apt_abort (follow k (Got c Up m)) s) apt_none
+apt_core_got {p} id k Begin BeginCommitOne v s =
+    let before : Speaks p k = record { down = s.down } in
+    apt_if (not (accepts k)) apt_none (apt_if (is_one k.desks) (apt_to k before Voter VoterAsk refl) (apt_abort (follow k (Got Begin Up BeginCommitOne)) s))
+apt_core_got {p} id k Voter VoterYes v s = let before : Speaks p k = record { down = s.down } in apt_if (is_sole k.stage) (apt_each k before EnlistSingle (λ e. refl) k.desks) apt_none
+apt_core_got {p} id k (Enl e) EnlistOneCommitted v s = let before : Speaks p k = record { down = s.down } in apt_if (decides k e.value) (apt_one_sends k before) apt_none
+apt_core_got {p} id k (Enl e) EnlistOneInDoubt v s = let before : Speaks p k = record { down = s.down } in apt_if (decides k e.value) (apt_doubt k before) apt_none
+apt_core_got id k (Enl e) EnlistOneAborted v s = apt_if (hears_one k e.value) (apt_abort (follow k (Got (Enl e) Up EnlistOneAborted)) s) apt_none
+apt_core_got id k c m v s = apt_if (has_line c Up m) (apt_abort_block k (Got c Up m) s) (apt_ended_block k c (Got c Up m) s)
 
 -- after the end of a connection
 pub apt_core_down : {p : List Entry} (k : Coordinated) (c : Conn) → Speaks p (follow k (Ended c Up)) → Apt p (core_down k c)
 unfolding core_down
-apt_core_down k c s = apt_if (is_early k c && is_undecided k.stage) (apt_abort (follow k (Ended c Up)) s) apt_none
+apt_core_down k c s = apt_ended_block k c (Ended c Up) s
 
 -- the coordinator's act; where it is stopped by it, that is the whole block
 abbrev pub is_hit : LogAnswer → Bool
@@ -207,6 +232,7 @@ apt_begin : {p : List Entry} (t : ℕ) (h : Half) → Hears p h.seen → (m : Me
 apt_begin t h s (BeginBegun u) g = absurd cc
 apt_begin t h s BeginCommitted g = apt_unless h (apt_decide h Committed)
 apt_begin t h s BeginAborted g = apt_unless h (apt_decide h Aborted)
+apt_begin t h s BeginInDoubt g = apt_unless h (apt_decide h InDoubt)
 apt_begin t h s _ g = apt_ended h s Begin
 
 apt_voter : {p : List Entry} (t : ℕ) (h : Half) → Hears p h.seen → (m : Message) → is_going_on Voter m ≡ false → Apt p (voter_arrived t h m)
@@ -215,6 +241,7 @@ apt_voter t h s (VoterRefused cause) g = apt_unless h (apt_veto h s)
 apt_voter t h s VoterAsk g = apt_none
 apt_voter t h s VoterCommit g = apt_unless h (apt_decide h Committed)
 apt_voter t h s VoterAbort g = apt_unless h (apt_decide h Aborted)
+apt_voter t h s VoterInDoubt g = apt_unless h (apt_decide h InDoubt)
 apt_voter t h s _ g = apt_ended h s Voter
 
 apt_enlist : {p : List Entry} (t : ℕ) (h : Half) → Hears p h.seen → (e : EnlNo) (m : Message) → is_going_on (Enl e) m ≡ false → Apt p (enlist_arrived t h e m)
@@ -222,6 +249,7 @@ apt_enlist t h s e EnlistEnlisted g = absurd cc
 apt_enlist t h s e (EnlistRefused cause) g = apt_unless h (apt_veto h s)
 apt_enlist t h s e EnlistPrepare g = apt_one (Asked e Prepare) refl refl
 apt_enlist t h s e EnlistCommit g = apt_one (Told (Member e) Committed) refl refl
+apt_enlist t h s e EnlistSingle g = apt_if (is_called_off h.seen.decided || is_gone h.seen e.value) apt_none (apt_one (Handed e) refl refl)
 apt_enlist t h s e EnlistAbort g = apt_join (apt_told_abort h e) (apt_unless h (apt_decide h Aborted))
 apt_enlist t h s e _ g = apt_ended h s (Enl e)
 
@@ -277,8 +305,12 @@ apt_sealed_act : {p : List Entry} (h : Half) → Hears p h.seen → Apt p (seale
 apt_sealed_act h s =
     apt_if h.seen.promoted (apt_promoted_act h s (promotable_in h.seen.table)) (apt_after_seal h (apt_if (is_some h.seen.handed) apt_none (apt_commit_act h (owner_of h.seen.table))))
 
+commit_later : (b : Bool) → is_later Begin Up (if b then BeginCommitOne else BeginCommit) ≡ true
+commit_later true = refl
+commit_later false = refl
+
 apt_commit_sent : {p : List Entry} (o : Observed) → Hears p o → Apt p (commit_sent o)
-apt_commit_sent o s = apt_if (o.promoted && not (is_some (promotable_in o.table))) (apt_up o s Begin BeginCommit refl) apt_none
+apt_commit_sent o s = apt_if (o.promoted && not (is_some (promotable_in o.table))) (apt_up o s Begin (commit_message o) (commit_later (commits_alone o.table))) apt_none
 
 apt_asked_act : {p : List Entry} (h : Half) → Hears p h.seen → Apt p (asked_act h)
 apt_asked_act h s =
@@ -322,9 +354,14 @@ vote_later e Yes = refl
 vote_later e No = refl
 vote_later e VoteDone = refl
 
+one_later : (e : EnlNo) (x : Outcome) → is_later (Enl e) Up (one_message x) ≡ true
+one_later e Committed = refl
+one_later e Aborted = refl
+one_later e InDoubt = refl
+
 apt_owner : {p : List Entry} (h : Half) → Hears p h.seen → (e : EnlNo) (x : Outcome) (n : Option Note) → Apt p (owner_entries h e x n)
 apt_owner h s e x (Some Single) = apt_cons (Requested e (request_of x)) refl refl (apt_up h.seen s Begin (request_message x) (request_later x))
-apt_owner h s e x _ = apt_cons (OwnerAnswered e x) refl refl (apt_decide h x)
+apt_owner h s e x _ = apt_cons (OwnerAnswered e x) refl refl (apt_if h.seen.promoted (apt_up h.seen s (Enl e) (one_message x) (one_later e x)) (apt_decide h x))
 
 apt_voted : {p : List Entry} (h : Half) → Hears p h.seen → (e : EnlNo) (v : Vote) → Apt p (voted_by h e v)
 apt_voted h s e v = apt_if (is_volatile_row h.seen e.value) (apt_veto_if (is_no v) h s) (apt_up h.seen s (Enl e) (vote_message v) (vote_later e v))
@@ -370,7 +407,9 @@ apt_facts t h s (Tick u n) a g =
 apt_facts t h s _ a g = apt_none
 
 apt_gone_decides : {p : List Entry} (h : Half) → Hears p h.seen → (e : EnlNo) → Apt p (gone_decides h e)
-apt_gone_decides h s e = apt_if (is_some h.seen.decided || voted e.value h.seen.table) apt_none (apt_if (is_handed h.seen.handed e.value) (apt_decide h InDoubt) (apt_veto h s))
+apt_gone_decides h s e =
+    apt_if (has_answered_there h.seen e.value) apt_none
+    (apt_if (is_some h.seen.decided || voted e.value h.seen.table) apt_none (apt_if (is_handed h.seen.handed e.value) (apt_decide h InDoubt) (apt_veto h s)))
 
 apt_gone : {p : List Entry} (w : World) → Hears p (half w).seen → (e : EnlNo) (cs : List Conn) → Apt p (gone_by w e cs)
 unfolding track

@@ -14,7 +14,7 @@ use Rattle.dtx_values.specs.Table.{how_many}
 use Rattle.local_half.specs.Half.{owes_ack}
 use Rattle.dtx_model.specs.declared.desk.Stage.{Stage}
 use Rattle.dtx_model.specs.declared.listener.Listener.{Listener}
-use Rattle.dtx_model.specs.Coordinated.{Coordinated, is_recorded, is_undecided, without}
+use Rattle.dtx_model.specs.Coordinated.{Coordinated, is_given, is_recorded, is_undecided, without}
 use Rattle.dtx_model.specs.Entries.{is_commit_got}
 use Rattle.dtx_model.specs.Half.{Half}
 use Rattle.dtx_model.specs.Observed.{Observed}
@@ -86,9 +86,9 @@ abbrev pub wires_left : List Entry → ℕ
 wires_left h = total (wire_left h) (opened h)
 
 -- The coordinator's part: while nothing is decided the outcome for each of its enlistments and for each that came back, and one for the other two
--- connections; for each COMMIT that may come the PREPARE of each enlistment and the voter's; the record's free; and a stop.
+-- connections, and SINGLE; after SINGLE all but that; for each COMMIT that may come the PREPARE of each enlistment and the voter's; the record's free; and a stop.
 abbrev pub outcome_left : Stage → ℕ → ℕ
-outcome_left s n = if is_undecided s then 3 * n + 6 else if is_recorded s then 1 else 0
+outcome_left s n = if is_undecided s then 3 * n + 8 else if is_given s then 3 * n + 6 else if is_recorded s then 1 else 0
 
 -- COMMIT is sent twice at most: after the seal, and where it is requested
 abbrev pub asks_left : ℕ → ℕ → ℕ
@@ -112,7 +112,7 @@ places_left promoted n = if promoted then 4 * n else 17 * n
 abbrev pub local_left : Observed → ℕ
 local_left o =
     how_many unmarked o.table + 2 * how_many unvoted o.table + how_many untold o.listeners + 2 * how_many owes_ack o.branches
-    + unless o.sealed 2 + unless (is_some o.handed) 1 + unless (is_some o.decided) 1 + unless (is_some o.told_client) 1
+    + unless o.sealed 2 + unless (is_some o.handed) 1 + unless o.answered 2 + unless (is_some o.decided) 1 + unless (is_some o.told_client) 1
     + unless o.promote_asked 1 + unless o.promote_replied 24 + unless o.single_asked 1 + unless o.requested 2 + unless o.yes 2
 
 -- what is left at the local side and of the calls that wait

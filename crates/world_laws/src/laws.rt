@@ -12,8 +12,9 @@ ghost use Rattle.history_table.specs.Appended.{is_abort_decision, stopped_at_app
 ghost use Rattle.local_half.specs.Rights.{is_in_one_place, right_after, right_of, right_seen};
 
 /// The law of the right to commit, a function that does nothing when it runs: a caller's proof asks for it. In a history that a script's lines freely cause the right
-/// is in exactly one place, and the local side knows it. It was never handed over, sent with COMMIT and in flight at once; and each entry moves it as `right_after`
-/// says: only the promotion, the handing of the commit, the sending of COMMIT and the decision move it.
+/// is in exactly one place, and the local side knows it. While it is in flight it isn't handed over, nor sent with COMMIT; where it was sent with COMMIT and handed over,
+/// the coordinator had let the one enlistment decide, with SINGLE. And each entry moves it as `right_after` says: only the promotion, the handing of the commit, the
+/// sending of COMMIT and the decision move it.
 pub fn rights()
     ensures placed { (s : List Line) (t : TxNo) (h : List Entry) → are_named_well s ≡ true → FreelyCaused (IsCallOf s t.value) t.value h → right_seen (observe h) ≡ right_of h }
     ensures one { (s : List Line) (t : ℕ) (h : List Entry) → are_named_well s ≡ true → FreelyCaused (IsCallOf s t) t h → tied h ≡ true → is_in_one_place h ≡ true }

@@ -1,22 +1,20 @@
 -- What a coordinator keeps of the log is what it knows: so it stays with each entry that isn't the log's, and with a stop; and an append, a free and a restart make it anew.
-use Rattle.std.proofs.Common.{◌≡◌, ◌&&◌, ◌∙◌, ℕ, Bool, true, false, List, [], ◌∷◌, Option, Some, None, refl, sym, subst}
+use Rattle.std.proofs.Common.{◌≡◌, ◌&&◌, ◌||◌, ◌∙◌, ℕ, Bool, true, false, List, [], ◌∷◌, Option, Some, None, refl, sym, subst}
 use Rattle.std.specs.Prelude.{is_some, IfSome}
 use Rattle.dtx_values.specs.declared.entry.Entry.{Entry}
-use Rattle.dtx_values.specs.declared.entry.Entry.TheVariants.{Freed, Got, LogFull, Logged, Restarted, Stopped}
-use Rattle.dtx_values.specs.declared.message.Conn.TheVariants.{Begin}
-use Rattle.dtx_values.specs.declared.message.Dir.TheVariants.{Up}
-use Rattle.dtx_values.specs.declared.message.Message.TheVariants.{BeginBegin, ReenlistCommitted, ReenlistAborted}
+use Rattle.dtx_values.specs.declared.entry.Entry.TheVariants.{Freed, LogFull, Logged, Restarted, Stopped}
+use Rattle.dtx_values.specs.declared.message.Message.TheVariants.{ReenlistCommitted, ReenlistAborted}
 use Rattle.dtx_model.specs.declared.desk.Stage.{Stage}
-use Rattle.dtx_model.specs.declared.desk.Stage.TheVariants.{Active}
+use Rattle.dtx_model.specs.declared.desk.Stage.TheVariants.{Active, Recorded}
 use Rattle.dtx_model.specs.Words.{each}
 use Rattle.dtx_model.specs.Log.{CommitRecord}
-use Rattle.dtx_model.specs.Coordinated.{Coordinated, abort_sends, aborts, commit_sends, follow, follow_all, is_active, is_recorded, may_free, may_log}
+use Rattle.dtx_model.specs.Coordinated.{Coordinated, abort_sends, commit_sends, follow, follow_all, is_active, is_given, is_recorded, is_undecided, may_free, may_log}
 use Rattle.coordinator_core.proofs.Causes.{active_then, heard_why, voted_why}
 use Rattle.coordinator_core.proofs.Following.{after_abort, after_commit, after_waiting, with_waits}
 use Rattle.coordinator_core.specs.Kept.{unreached}
 use Rattle.dtx_values.specs.declared.number.EnlNo.{EnlNo}
 use Rattle.world_parts.specs.AtLog.{IsOurs, Kept}
-use Rattle.history_table.proofs.CoreStages.{begin_recorded, abort_recorded, none_recorded}
+use Rattle.history_table.proofs.CoreStages.{is_marking, none_recorded, record_after}
 
 -- the entry isn't the log's: none of an append, a free, a stop and a restart
 abbrev pub is_elsewhere : Entry → Bool
@@ -26,14 +24,15 @@ is_elsewhere Stopped = false
 is_elsewhere (Restarted found) = false
 is_elsewhere _ = true
 
+no_mark : (x : Entry) → is_elsewhere x ≡ true → is_marking x ≡ false
+no_mark Logged e = absurd cc
+no_mark Freed e = absurd cc
+no_mark (Restarted found) e = absurd cc
+no_mark _ e = refl
+
 pub stage_same : (k : Coordinated) (x : Entry) → is_elsewhere x ≡ true → is_recorded (follow k x).stage ≡ is_recorded k.stage
 unfolding follow
-stage_same k (Got Begin Up BeginBegin) e = begin_recorded k.stage
-stage_same k Logged e = absurd cc
-stage_same k Freed e = absurd cc
-stage_same k Stopped e = absurd cc
-stage_same k (Restarted found) e = absurd cc
-stage_same k x e = abort_recorded (aborts k x) k.stage
+stage_same k x e = record_after is_recorded (record { idle = refl; active = refl; sole = refl; given = refl; answered = refl; aborted = refl }) k x (no_mark x e)
 
 pub stopped_same : (k : Coordinated) (x : Entry) → is_elsewhere x ≡ true → (follow k x).stopped ≡ k.stopped
 unfolding follow
@@ -75,9 +74,14 @@ none_there : (o : Option CommitRecord) → is_some o ≡ false → o ≡ None
 none_there (Some r) n = absurd cc
 none_there None n = refl
 
-active_unrecorded : (s : Stage) → is_active s ≡ true → is_recorded s ≡ false
+pub active_unrecorded : (s : Stage) → is_active s ≡ true → is_recorded s ≡ false
 active_unrecorded Active a = refl
 active_unrecorded _ a = absurd cc
+
+-- nor is there a record where the refusal of who decides counts
+pub heard_unrecorded : (s : Stage) (b : Bool) → (is_undecided s || (is_given s && b)) ≡ true → is_recorded s ≡ false
+heard_unrecorded Recorded b t = absurd cc
+heard_unrecorded _ b t = refl
 
 pub none_kept : (id : ℕ) (k : Coordinated) (x : Kept) → may_log k ≡ true → IsOurs id k x → (x.ours ≡ None) × (x.unsure ≡ false)
 none_kept id k x m o =

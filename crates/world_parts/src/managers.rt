@@ -57,11 +57,14 @@ fn is_any_out(rows: &[Row], e: EnlNo) -> bool
     rows.iter().any(|x| is_out(x, e))
 }
 
-/// Whether the enlistment acknowledged, was told the abort, or voted no or done.
+/// Whether the enlistment acknowledged, was told the abort, voted no or done, or was handed the commit.
 fn is_finished_there(half: &LocalHalf, e: EnlNo) -> bool
     ensures { result ≡ is_finished_there half.now.half.seen e.value }
 {
-    is_either(is_any_told(half.branches(), e), is_any_out(half.rows(), e))
+    is_either(
+        is_either(is_any_told(half.branches(), e), is_any_out(half.rows(), e)),
+        half.is_handed(e),
+    )
 }
 
 /// Whether one of the enlistment's own connections is linked.

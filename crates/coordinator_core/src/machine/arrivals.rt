@@ -15,7 +15,7 @@ ghost use Rattle.coordinator_core.specs.Kept.{HasRoom, HasRoomFor, IsFew, after_
 use super::Core;
 use crate::desks::{acknowledge, seat_if, vote_if};
 use crate::lists::{close, leave_if, open, wait};
-use crate::stages::{Opening, begun, has_aborted, is_active, is_recorded, opening_at};
+use crate::stages::{Opening, begun, has_aborted, is_active, is_going, is_recorded, opening_at};
 use dtx_model::{Ballot, Desk};
 use dtx_values::{Conn, EnlNo, Info, Message, Outbox};
 
@@ -69,13 +69,13 @@ impl Core {
         }
     }
 
-    /// The voter's NO: the transaction aborts, and the voter needn't hear it.
+    /// The voter's NO, noted while nothing is decided: the transaction aborts, and the voter needn't hear it.
     fn no_came(&mut self, out: &mut Outbox)
         requires { HasRoomFor 34 out.old }
         ensures kept { self.new ≡ after_got self.old Voter VoterNo }
         ensures out { out.new ≡ written out.old (answers self.old Voter VoterNo) }
     {
-        self.no |= is_active(self.stage);
+        self.no |= is_going(self.stage);
         self.abort_if(true, out);
     }
 
@@ -159,6 +159,91 @@ impl Core {
         self.down(c, out);
     }
 
+    /// What follows of a message on b.
+    fn got_begin(&mut self, m: Message, out: &mut Outbox) -> bool
+        requires few { IsFew (follow self.old.state (Got Begin Up m)) }
+        requires room { HasRoom out.old }
+        ensures fits { result ≡ has_line Begin Up m }
+        ensures kept { self.new ≡ after_got self.old Begin m }
+        ensures out { out.new ≡ written out.old (answers self.old Begin m) }
+    {
+        match m {
+            Message::BeginBegin => self.begin_came(self.identifier(), out),
+            Message::BeginCommit => self.commit_came(out),
+            Message::BeginCommitOne => self.commit_one_came(out),
+            Message::BeginAbort => self.abort_if(true, out),
+            _ => {
+                self.unlined_came(Conn::Begin, m, out);
+                return false;
+            }
+        }
+        true
+    }
+
+    /// What follows of a message on v.
+    fn got_voter(&mut self, m: Message, out: &mut Outbox) -> bool
+        requires few { IsFew (follow self.old.state (Got Voter Up m)) }
+        requires room { HasRoom out.old }
+        ensures fits { result ≡ has_line Voter Up m }
+        ensures kept { self.new ≡ after_got self.old Voter m }
+        ensures out { out.new ≡ written out.old (answers self.old Voter m) }
+    {
+        match m {
+            Message::VoterVoter(_) => self.voter_came(out),
+            Message::VoterYes => self.yes_came(out),
+            Message::VoterNo => self.no_came(out),
+            _ => {
+                self.unlined_came(Conn::Voter, m, out);
+                return false;
+            }
+        }
+        true
+    }
+
+    /// What follows of a message on the connection of an enlistment.
+    fn got_enlist(&mut self, e: EnlNo, m: Message, out: &mut Outbox) -> bool
+        requires few { IsFew (follow self.old.state (Got (Enl e) Up m)) }
+        requires room { HasRoom out.old }
+        ensures fits { result ≡ has_line (Enl e) Up m }
+        ensures kept { self.new ≡ after_got self.old (Enl e) m }
+        ensures out { out.new ≡ written out.old (answers self.old (Enl e) m) }
+    {
+        match m {
+            Message::EnlistEnlist(i) => self.enlist_came(e, i, out),
+            Message::EnlistPrepared => self.vote(e, Ballot::Prepared),
+            Message::EnlistReadonly => self.vote(e, Ballot::ReadOnly),
+            Message::EnlistNo => self.refusal_came(e, out),
+            Message::EnlistAck => acknowledge(&mut self.desks, e),
+            Message::EnlistOneCommitted => self.one_committed_came(e, out),
+            Message::EnlistOneAborted => self.one_aborted_came(e, out),
+            Message::EnlistOneInDoubt => self.one_in_doubt_came(e, out),
+            _ => {
+                self.unlined_came(Conn::Enl(e), m, out);
+                return false;
+            }
+        }
+        true
+    }
+
+    /// What follows of a message on the connection of one that came back.
+    fn got_again(&mut self, e: EnlNo, m: Message, out: &mut Outbox) -> bool
+        requires few { IsFew (follow self.old.state (Got (Again e) Up m)) }
+        requires room { HasRoom out.old }
+        ensures fits { result ≡ has_line (Again e) Up m }
+        ensures kept { self.new ≡ after_got self.old (Again e) m }
+        ensures out { out.new ≡ written out.old (answers self.old (Again e) m) }
+    {
+        match m {
+            Message::ReenlistReenlist(_) => self.reenlist_came(e, out),
+            Message::ReenlistAck => acknowledge(&mut self.desks, e),
+            _ => {
+                self.unlined_came(Conn::Again(e), m, out);
+                return false;
+            }
+        }
+        true
+    }
+
     /// What follows of a message, which the caller wrote as got. False where the connection doesn't carry the message: that counts as
     /// the connection's end.
     pub fn got(&mut self, c: Conn, m: Message, out: &mut Outbox) -> bool
@@ -169,26 +254,12 @@ impl Core {
         ensures state { self.new.state ≡ follow_all self.old.state (Got c Up m ∷ core_got (identifier_of (number_of self.old.transaction)) self.old.state c m) }
         ensures out { out.new ≡ written out.old (core_got (identifier_of (number_of self.old.transaction)) self.old.state c m) }
     {
-        match (c, m) {
-            (Conn::Begin, Message::BeginBegin) => self.begin_came(self.identifier(), out),
-            (Conn::Begin, Message::BeginCommit) => self.commit_came(out),
-            (Conn::Begin, Message::BeginAbort) => self.abort_if(true, out),
-            (Conn::Voter, Message::VoterVoter(_)) => self.voter_came(out),
-            (Conn::Voter, Message::VoterYes) => self.yes |= is_active(self.stage),
-            (Conn::Voter, Message::VoterNo) => self.no_came(out),
-            (Conn::Enl(e), Message::EnlistEnlist(i)) => self.enlist_came(e, i, out),
-            (Conn::Enl(e), Message::EnlistPrepared) => self.vote(e, Ballot::Prepared),
-            (Conn::Enl(e), Message::EnlistReadonly) => self.vote(e, Ballot::ReadOnly),
-            (Conn::Enl(e), Message::EnlistNo) => self.refusal_came(e, out),
-            (Conn::Enl(e), Message::EnlistAck) => acknowledge(&mut self.desks, e),
-            (Conn::Again(e), Message::ReenlistReenlist(_)) => self.reenlist_came(e, out),
-            (Conn::Again(e), Message::ReenlistAck) => acknowledge(&mut self.desks, e),
-            _ => {
-                self.unlined_came(c, m, out);
-                return false;
-            }
+        match c {
+            Conn::Begin => self.got_begin(m, out),
+            Conn::Voter => self.got_voter(m, out),
+            Conn::Enl(e) => self.got_enlist(e, m, out),
+            Conn::Again(e) => self.got_again(e, m, out),
         }
-        true
     }
 
     /// What follows of a connection's end, which the caller wrote as seen.
@@ -198,9 +269,10 @@ impl Core {
         ensures state { self.new.state ≡ follow_all self.old.state (End c Up ∷ core_down self.old.state c) }
         ensures out { out.new ≡ written out.old (core_down self.old.state c) }
     {
+        let is_doubt = self.is_deciding(c);
         let is_early = self.is_early(c);
         close(&mut self.known, c);
         leave_if(&mut self.waits, c);
-        self.abort_if(is_early, out);
+        self.lose(is_doubt, is_early, out);
     }
 }

@@ -3,9 +3,10 @@ ghost use Rattle.std.specs.Prelude.{◌≡◌, ◌++◌, [], if◌then◌else◌
 ghost use Rattle.dtx_values.specs.Outgoing.{written};
 ghost use Rattle.dtx_values.specs.declared.message.Conn.TheVariants.{Again, Begin, Enl, Voter};
 ghost use Rattle.dtx_values.specs.declared.message.Message.TheVariants.{EnlistPrepare, VoterAbort, VoterAsk};
+ghost use Rattle.dtx_model.specs.declared.desk.Stage.TheVariants.{Aborted};
 ghost use Rattle.dtx_model.specs.Coordinated.{abort_sends, commit_sends, follow_all, is_active, to, to_each, to_waiting};
 ghost use Rattle.coordinator_core.specs.Hearing.{hears, told};
-ghost use Rattle.coordinator_core.specs.Kept.{HasRoomFor, Uses, abort_block, aborted_if};
+ghost use Rattle.coordinator_core.specs.Kept.{HasRoomFor, Uses, abort_block, aborted_if, off_block, staged_if};
 
 use super::Core;
 use crate::ballots::hears;
@@ -118,6 +119,19 @@ impl Core {
         self.abort_voter(out);
         self.send_each(Message::EnlistAbort, out);
         self.answer_waiting(Message::ReenlistAborted, out);
+    }
+
+    /// Aborts and tells each, where the test holds.
+    pub(super) fn call_off(&mut self, is_so: bool, out: &mut Outbox)
+        requires { HasRoomFor 34 out.old }
+        ensures transaction { self.new.transaction ≡ self.old.transaction }
+        ensures state { self.new.state ≡ follow_all (staged_if is_so Aborted self.old.state) (off_block is_so self.old.state) }
+        ensures out { out.new ≡ written out.old (off_block is_so self.old.state) }
+    {
+        if is_so {
+            self.stage = Stage::Aborted;
+            self.tell_abort(out);
+        }
     }
 
     /// Tells each that it is committed: b, the voter, each enlistment that said PREPARED, and each that waits.

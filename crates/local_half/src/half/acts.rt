@@ -8,7 +8,7 @@ ghost use Rattle.dtx_values.specs.declared.entry.Entry.TheVariants.{LocalYes, Se
 ghost use Rattle.dtx_values.specs.declared.message.Conn.TheVariants.{Voter};
 ghost use Rattle.dtx_values.specs.declared.message.Message.TheVariants.{VoterYes};
 ghost use Rattle.dtx_model.specs.Outcome.{is_empty};
-ghost use Rattle.dtx_model.specs.Acts.{act_entries, after_seal, ask_or, commit_act, commit_sent, hears_abort, is_to_tell, lasts, promotable_in, sealed_act, tell, unasked_promotable, under_way, voter_act};
+ghost use Rattle.dtx_model.specs.Acts.{act_entries, after_seal, ask_or, commit_act, commit_message, commit_sent, hears_abort, is_to_tell, lasts, promotable_in, sealed_act, tell, unasked_promotable, under_way, voter_act};
 ghost use Rattle.dtx_model.specs.Half.{is_handed, to_up};
 ghost use Rattle.dtx_model.specs.Steps.{Acts, after as world_after};
 ghost use Rattle.dtx_model.specs.World.{World};
@@ -19,7 +19,7 @@ use super::LocalHalf;
 use dtx_model::Listener;
 use dtx_values::{Ask, Conn, EnlNo, Entry, Message, Outbox, Outcome, Party};
 use half_parts::branches::is_enlisted;
-use half_parts::votes::first_promotable;
+use half_parts::votes::{commits_alone, first_promotable};
 use light_committer::{LightAct, decide};
 use volatile_enlist::{hears, next_ask};
 
@@ -39,8 +39,8 @@ pub enum LocalAct {
 #[tactic(auto, using(half_parts::proofs::Writing::outgoing), unfolding(dtx_model::specs::Half::heeds_all, dtx_model::specs::Acts::act_entries))]
 impl LocalHalf {
     /// Whether the commit was handed to the enlistment.
-    pub(super) fn is_handed(&self, e: EnlNo) -> bool
-        ensures { result ≡ is_handed self.now.half.seen.handed e.value }
+    pub fn is_handed(&self, e: EnlNo) -> bool
+        ensures handed { result ≡ is_handed self.now.half.seen.handed e.value }
     {
         self.handed == Some(e)
     }
@@ -233,6 +233,17 @@ impl LocalHalf {
         self.handover.is_over() && self.promotable().is_none()
     }
 
+    /// COMMIT: for a single phase where the one durable can own the commit, else for two.
+    fn commit_message(&self) -> Message
+        ensures { result ≡ commit_message self.now.half.seen }
+    {
+        if commits_alone(self.table.rows()) {
+            Message::BeginCommitOne
+        } else {
+            Message::BeginCommit
+        }
+    }
+
     /// Seals the transaction. COMMIT is sent where it is promoted, unless a promotable has to request it.
     fn seal(&mut self, out: &mut Outbox)
         requires { IsRoom 2 1 out.old }
@@ -242,7 +253,8 @@ impl LocalHalf {
         let commits = self.commits_by_seal();
         self.write(Entry::Sealed, out);
         if commits {
-            self.send_up(Conn::Begin, Message::BeginCommit, out);
+            let commit = self.commit_message();
+            self.send_up(Conn::Begin, commit, out);
         }
     }
 

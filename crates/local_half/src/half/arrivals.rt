@@ -6,7 +6,7 @@ ghost use Rattle.dtx_values.specs.Lines.{has_line};
 ghost use Rattle.dtx_values.specs.Outgoing.{written};
 ghost use Rattle.dtx_values.specs.declared.entry.Entry.TheVariants.{Got, Down as Ended};
 ghost use Rattle.dtx_values.specs.declared.message.Dir.TheVariants.{Down};
-ghost use Rattle.dtx_model.specs.Arrivals.{aborted_by, begun, created, ended_by, ended_there, enlisted_at, hand_over, has_both_ends, local_down, local_got, place_given, refused_by, told_abort, unless_decided};
+ghost use Rattle.dtx_model.specs.Arrivals.{aborted_by, begun, created, ended_by, ended_there, enlisted_at, hand_over, handed_by, has_both_ends, local_down, local_got, place_given, refused_by, told_abort, unless_decided};
 ghost use Rattle.dtx_model.specs.Half.{by_manager, decide, enlist_sent, veto};
 ghost use Rattle.half_parts.specs.Half.{HasRoom, IsRoom, after};
 ghost use Rattle.local_half.specs.Told.{aborted_for, told_by};
@@ -144,6 +144,17 @@ impl LocalHalf {
         self.learn(Outcome::Aborted, out);
     }
 
+    /// After SINGLE: the commit is handed to the enlistment, unless an abort was decided or it is lost. Then SINGLE is used up.
+    fn hand_over(&mut self, e: EnlNo, out: &mut Outbox)
+        requires { IsRoom 1 0 out.old }
+        ensures state { self.new ≡ after [] self.old (handed_by self.old.half e) }
+        ensures out { out.new ≡ written out.old (handed_by self.old.half e) }
+    {
+        if self.decided != Some(Outcome::Aborted) && !self.is_gone(e) {
+            self.write(Entry::Handed(e), out);
+        }
+    }
+
     /// After the end of b or v: after yes it is in doubt once both are seen down; before it this is a veto.
     fn ended_there(&mut self, out: &mut Outbox)
         requires { IsRoom 35 1 out.old }
@@ -195,6 +206,7 @@ impl LocalHalf {
                 out,
             ),
             ProxyNews::AbortFor(e) => self.aborted_for(c, e, out),
+            ProxyNews::SingleFor(e) => self.hand_over(e, out),
             ProxyNews::OutcomeIs(o) => self.learn(o, out),
             ProxyNews::Lost(_) | ProxyNews::AllLost | ProxyNews::Unfit => self.ended(c, out),
         }

@@ -16,7 +16,7 @@ ghost use Rattle.dtx_model.specs.Half.{is_gone, stands};
 ghost use Rattle.dtx_model.specs.Observed.{is_branch, track};
 ghost use Rattle.dtx_model.specs.Steps.{Calls, after as world_after, entered};
 ghost use Rattle.dtx_model.specs.Words.{has};
-ghost use Rattle.dtx_model.specs.World.{World, gone_decides, open_ones, reenlist_facts};
+ghost use Rattle.dtx_model.specs.World.{World, gone_decides, has_answered_there, open_ones, reenlist_facts};
 ghost use Rattle.half_parts.specs.Half.{Follows, HasRoom, IsRoom, after, is_done, is_free, is_its_own, is_made_by_waiting, loss};
 ghost use Rattle.half_parts.specs.Taken.{HasPlace, begin_sent, cause_for, is_place_awaited, place_sent, with_call, with_waiter};
 
@@ -218,14 +218,21 @@ impl LocalHalf {
         answer
     }
 
+    /// Whether the coordinator let the enlistment decide, and it answered.
+    fn has_answered_there(&self, e: EnlNo) -> bool
+        ensures { result ≡ has_answered_there self.now.half.seen e.value }
+    {
+        self.handover.is_over() && self.is_handed(e) && self.answered
+    }
+
     /// Writes what the loss of an enlistment decides that has no open connection: where it hasn't voted and nothing is decided,
-    /// it is in doubt where the commit was handed to it, else this is a veto.
+    /// it is in doubt where the commit was handed to it, else this is a veto. The loss of one that answered the coordinator decides nothing.
     fn gone_decides(&mut self, e: EnlNo, out: &mut Outbox)
         requires { IsRoom 35 1 out.old }
         ensures state { self.new ≡ after [] self.old (gone_decides self.old.half e) }
         ensures out { out.new ≡ written out.old (gone_decides self.old.half e) }
     {
-        if self.decided.is_some() || self.table.has_voted(e) {
+        if self.has_answered_there(e) || self.decided.is_some() || self.table.has_voted(e) {
             return;
         }
         match owner_lost(self.is_handed(e)) {
@@ -235,7 +242,8 @@ impl LocalHalf {
     }
 
     /// Loses an enlistment. Where none of its connections is open, it hasn't voted and nothing is decided, that
-    /// decides: in doubt where it was handed the commit, else aborted.
+    /// decides: in doubt where it was handed the commit, else aborted. The loss of one that the coordinator let decide
+    /// and that answered decides nothing.
     ///
     /// `linked` says whether one of its connections is open. The entry of the call isn't written here: `gone`
     /// writes what follows of it.

@@ -5,7 +5,7 @@ ghost use Rattle.dtx_values.specs.TxIds.{number_of};
 ghost use Rattle.dtx_values.specs.Table.{rises_above, was_asked};
 ghost use Rattle.dtx_values.specs.declared.entry.Entry.TheVariants.{Acked};
 ghost use Rattle.dtx_values.specs.declared.note.Reply.TheVariants.{Vote as VoteReply};
-ghost use Rattle.dtx_model.specs.Replies.{ack_on, all_due, conn_due, due_of, fits, is_volatile_row, may_still_vote, note_at, note_of_conn, owes_vote, owner_entries, promote_entries, reply_entries, request_message, request_of, row_note, vote_message, voted_by, with_note};
+ghost use Rattle.dtx_model.specs.Replies.{ack_on, all_due, answered_by, conn_due, due_of, fits, is_unsettled, is_volatile_row, may_still_answer, may_still_vote, note_at, note_of_conn, one_message, owes_outcome, owes_promotion, owes_request, owes_vote, owner_entries, promote_entries, reply_entries, request_message, request_of, row_note, vote_message, voted_by, with_note};
 ghost use Rattle.dtx_model.specs.Steps.{Replies, after as world_after};
 ghost use Rattle.dtx_model.specs.Words.{kth};
 ghost use Rattle.dtx_model.specs.World.{World};
@@ -48,6 +48,24 @@ fn request_message(o: Outcome) -> Message
         Outcome::Aborted => Message::BeginAbort,
         _ => Message::BeginCommit,
     }
+}
+
+/// What is said to the coordinator for an owner's answer.
+fn one_message(o: Outcome) -> Message
+    ensures { result ≡ one_message o }
+{
+    match o {
+        Outcome::Committed => Message::EnlistOneCommitted,
+        Outcome::Aborted => Message::EnlistOneAborted,
+        Outcome::InDoubt => Message::EnlistOneInDoubt,
+    }
+}
+
+/// Whether nothing is decided, or that it is in doubt.
+fn is_unsettled(decided: Option<Outcome>) -> bool
+    ensures { result ≡ is_unsettled decided }
+{
+    matches!(decided, None | Some(Outcome::InDoubt))
 }
 
 /// The one of the lower number; the second where the numbers are the same.
@@ -134,6 +152,45 @@ impl LocalHalf {
         x.is_marked() && !x.has_voted() && self.may_still_vote(x)
     }
 
+    /// Whether the promotable with this row was asked to promote, and its reply is due.
+    fn owes_promotion(&self, x: &Row) -> bool
+        ensures { result ≡ owes_promotion self.now.half.seen x.now }
+    {
+        self.promote_asked
+            && !self.promote_replied
+            && x.class == Class::Promotable
+            && self.decided.is_none()
+    }
+
+    /// Whether the promotable with this row was asked to commit in a single phase, and its answer is due.
+    fn owes_request(&self, x: &Row) -> bool
+        ensures { result ≡ owes_request self.now.half.seen x.now }
+    {
+        self.single_asked
+            && !self.requested
+            && x.class == Class::Promotable
+            && self.decided.is_none()
+    }
+
+    /// Whether the owner's answer may still come: until something is decided. Of an owner that the coordinator let decide it may come until
+    /// it came, also where the local side is in doubt.
+    fn may_still_answer(&self) -> bool
+        ensures { result ≡ may_still_answer self.now.half.seen }
+    {
+        if self.handover.is_over() {
+            !self.answered && is_unsettled(self.decided)
+        } else {
+            self.decided.is_none()
+        }
+    }
+
+    /// Whether the enlistment with this row was handed the commit, and its answer is due.
+    fn owes_outcome(&self, x: &Row) -> bool
+        ensures { result ≡ owes_outcome self.now.half.seen x.now }
+    {
+        self.is_handed(x.number) && self.may_still_answer()
+    }
+
     /// To what a reply of the enlistment with this row is due where it isn't lost, acknowledgements left out.
     fn row_note(&self, x: &Row) -> Option<Note>
         ensures { result ≡ row_note self.now.half.seen x.now }
@@ -141,17 +198,13 @@ impl LocalHalf {
         if self.owes_vote(x) {
             return Some(Note::Prepare);
         }
-        if self.decided.is_some() {
-            return None;
-        }
-        let is_promotable = x.class == Class::Promotable;
-        if is_promotable && self.promote_asked && !self.promote_replied {
+        if self.owes_promotion(x) {
             return Some(Note::Promote);
         }
-        if self.is_handed(x.number) {
+        if self.owes_outcome(x) {
             return Some(Note::Hand);
         }
-        if is_promotable && self.single_asked && !self.requested {
+        if self.owes_request(x) {
             return Some(Note::Single);
         }
         None
@@ -296,7 +349,20 @@ impl LocalHalf {
         }
     }
 
-    /// Takes the answer of an owner: one that was asked in a single phase requests it of the coordinator, any other decides.
+    /// Writes what follows of an owner's answer to the handing: where it is promoted the coordinator is told, and decides; else that decides.
+    fn after_answer(&mut self, e: EnlNo, o: Outcome, out: &mut Outbox)
+        requires { IsRoom 34 1 out.old }
+        ensures state { self.new ≡ after [] self.old (answered_by self.old.half e o) }
+        ensures out { out.new ≡ written out.old (answered_by self.old.half e o) }
+    {
+        if self.handover.is_over() {
+            self.send_up(Conn::Enl(e), one_message(o), out);
+        } else {
+            self.decide(o, out);
+        }
+    }
+
+    /// Takes the answer of an owner: one that was asked in a single phase requests it of the coordinator, any other was handed the commit.
     fn owner_reply(&mut self, e: EnlNo, o: Outcome, note: Note, out: &mut Outbox)
         requires { HasRoom out.old }
         ensures state { self.new ≡ after [] self.old (owner_entries self.old.half e o (Some note)) }
@@ -307,7 +373,7 @@ impl LocalHalf {
             self.send_up(Conn::Begin, request_message(o), out);
         } else {
             self.write(Entry::OwnerAnswered(e, o), out);
-            self.decide(o, out);
+            self.after_answer(e, o, out);
         }
     }
 

@@ -1,4 +1,4 @@
-use Rattle.std.proofs.Common.{◌∙◌, ◌++◌, List, [], ap, sym}
+use Rattle.std.proofs.Common.{◌∙◌, ◌++◌, List, [], ap, refl, sym}
 use Rattle.std.proofs.lemmas.Bool.{cond-true}
 use Rattle.dtx_values.specs.Outgoing.{Outgoing, written}
 use Rattle.dtx_values.specs.declared.entry.Entry.{Entry}
@@ -19,4 +19,4 @@ returns-then-is_active c =
     let each = to_each k EnlistPrepare k.desks in
     let active = sym (ap (λ (s : Kept). is_active s.state.stage) c.self.view_is) ∙ sym c.is_active.ensures ∙ c.if-is_active.true in
     c.send_each.ensures.out ∙ ap (λ (p : Outgoing). written p (told k EnlistPrepare k.desks)) c.send.ensures.out ∙ written-written o voter (told k EnlistPrepare k.desks)
-    ∙ ap (λ (es : List Entry). written o (voter ++ es)) (told_each k k.desks) ∙ ap (λ (es : List Entry). written o es) (sym (cond-true (is_active k.stage) (voter ++ each) [] active))
+    ∙ ap (λ (es : List Entry). written o (voter ++ es)) (told_each k EnlistPrepare (λ b. refl) k.desks) ∙ ap (λ (es : List Entry). written o es) (sym (cond-true (is_active k.stage) (voter ++ each) [] active))
