@@ -10,7 +10,8 @@ use dtx_values::{Note, Reply};
 /// | `Init` | a promotable is the first of its transaction | none |
 /// | `Prepare` | can it commit? | `Vote` |
 /// | `Promote` | hand the transaction to the coordinator | `Promote` |
-/// | `Hand`, `Single` | decide the outcome alone | `Owner` |
+/// | `Hand` | decide the outcome alone | `Owner` |
+/// | `Single` | a promoted promotable: is it to commit? | `Owner`: aborted is no |
 /// | `Commit` | make the work last | `Ack`, where it is durable |
 /// | `Rollback` | undo the work | none |
 /// | `InDoubt` | the outcome isn't known | none |
