@@ -1,1 +1,2 @@
 pub mod OnThreads
+pub mod SingleCommit
