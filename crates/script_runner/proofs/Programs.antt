@@ -19,8 +19,6 @@ use Rattle.dtx_model.specs.Words.{has, past_of}
 use Rattle.coordinator_log.specs.Crash.{AllHold}
 use Rattle.coordinator_log.specs.Slots.{open_records}
 use Rattle.coordinator_log.specs.State.{LogState}
-use Rattle.program_words.specs.declared.command.Command.TheVariants.{Replay, Make, Demo, Threads}
-use Rattle.program_words.specs.declared.command.Form.{Form}
 use Rattle.tx_world.specs.AtLog.{AreLogs}
 use Rattle.turn_parts.specs.Runs.{EachHolds}
 use Rattle.replay_runs.specs.Ending.{AreOfTransactions, AreOwnLogs, AreRecorded, EndsAs, HasNone, IsLog, IsLogOf, MayBeRecorded}
@@ -121,17 +119,3 @@ is_replay_if faults honest image k s end old new (Err e) same empty run lawful u
 -- bytes that are a script aren't bad, by the law of readings
 abbrev pub NeverBoth : Type 0
 NeverBoth = (b : List ℕ) (s : List Line) (n : ℕ) (c : BadCause) → Reads b s → Bad b n c → ⊥
-
--- Two commands that are one are of one form, or of one number.
-pub form_same : (f g : Form) → Replay f ≡ Replay g → f ≡ g
-form_same f g e = cc
-
-pub made_same : (n m : ℕ) → Make n ≡ Make m → n ≡ m
-made_same n m e = cc
-
-pub demo_same : (n m : ℕ) → Demo n ≡ Demo m → n ≡ m
-demo_same n m e = cc
-
--- two runs on threads that are one have the same number of helpers and the same form
-pub threads_same : (h j : ℕ) (f g : Form) → Threads h f ≡ Threads j g → f ≡ g
-threads_same h j f g e = cc

@@ -6,12 +6,7 @@ use Rattle.dtx_values.specs.declared.script.Line.{Line}
 use Rattle.dtx_model.specs.Faults.{Bad}
 use Rattle.dtx_model.specs.Grammar.{Reads}
 use Rattle.script_calls.specs.Threadable.{IsThreadable}
-use Rattle.program_words.specs.Commands.{Asks}
-use Rattle.program_words.specs.declared.command.Command.{Command}
-use Rattle.program_words.specs.declared.command.Command.TheVariants.{Log as AskLog, Replay as AskReplay, Threads as AskThreads}
-use Rattle.program_words.specs.declared.command.Form.{Form}
 use Rattle.program_io.specs.Judged.{HasDoAt, IsJudged, first_do}
-use Rattle.script_runner.specs.Program.{AsksReplay, AsksRun, AsksThreads, CanBeDone, IsInputFor}
 use Rattle.program_io.specs.Refusal.{IsGoodFor, IsOnThreads, IsRunnable, Refuses}
 use Rattle.program_io.specs.declared.exit.Exit.{Exit}
 use Rattle.program_io.specs.declared.exit.Exit.TheVariants.{BadScript, Fine, LogFault, Memory, NotALog, NotThreadable, ReadFault, Usage, WriteFault}
@@ -114,109 +109,59 @@ sure_done x (inr (inl e)) log write = absurd (log e)
 sure_done x (inr (inr (inl e))) log write = absurd (write e)
 sure_done x (inr (inr (inr e))) log write = inr e
 
-pub made_done : (x : Exit) → (x ≡ Fine) ⊎ ((x ≡ WriteFault) ⊎ (x ≡ Memory)) → (x ≡ WriteFault → ⊥) → (x ≡ Fine) ⊎ (x ≡ Memory)
+-- the answers of what only writes a text
+abbrev pub IsOfText : Exit → Type 0
+IsOfText x = (x ≡ Fine) ⊎ ((x ≡ WriteFault) ⊎ (x ≡ Memory))
+
+pub made_other : (x y : Exit) → IsOfText x → x ≡ y → (Fine ≡ y → ⊥) → (WriteFault ≡ y → ⊥) → (Memory ≡ y → ⊥) → ⊥
+made_other x y (inl a) e fine fault memory = fine (sym a ∙ e)
+made_other x y (inr (inl a)) e fine fault memory = fault (sym a ∙ e)
+made_other x y (inr (inr a)) e fine fault memory = memory (sym a ∙ e)
+
+pub made_done : (x : Exit) → IsOfText x → (x ≡ WriteFault → ⊥) → (x ≡ Fine) ⊎ (x ≡ Memory)
 made_done x (inl e) write = inl e
 made_done x (inr (inl e)) write = absurd (write e)
 made_done x (inr (inr e)) write = inr e
-
--- the input of a command is good for the way that it is run
-pub good_replay : (ws : List (List ℕ)) (f : Form) (given : Option (List ℕ)) → ((c : Command) → Asks ws c → c ≡ AskReplay f) → CanBeDone ws given → IsGoodFor Replay given
-good_replay ws f given one (c, asks, input) = of_input (subst (λ (d : Command). IsInputFor d given) (one c asks) input)
-  where
-    of_input : IsInputFor (AskReplay f) given → IsGoodFor Replay given
-    of_input (b, s, told, reads) = (b, s, told, reads, reads.script)
-
-pub good_threads : (ws : List (List ℕ)) (h : ℕ) (f : Form) (given : Option (List ℕ)) → ((c : Command) → Asks ws c → c ≡ AskThreads h f) → CanBeDone ws given → IsGoodFor (Threads h) given
-good_threads ws h f given one (c, asks, input) = of_input (subst (λ (d : Command). IsInputFor d given) (one c asks) input)
-  where
-    of_input : IsInputFor (AskThreads h f) given → IsGoodFor (Threads h) given
-    of_input (b, s, told, reads, k) = (b, s, told, reads, k)
-
--- words that ask for one command ask for no other
-pub no_replay : (ws : List (List ℕ)) (d : Command) → ((f : Form) → AskReplay f ≡ d → ⊥) → ((c : Command) → Asks ws c → c ≡ d) → AsksReplay ws → ⊥
-no_replay ws d apart one (f, asks) = apart f (one (AskReplay f) asks)
-
-pub no_threads : (ws : List (List ℕ)) (d : Command) → ((h : ℕ) (f : Form) → AskThreads h f ≡ d → ⊥) → ((c : Command) → Asks ws c → c ≡ d) → AsksThreads ws → ⊥
-no_threads ws d apart one (h, f, asks) = apart h f (one (AskThreads h f) asks)
-
-pub no_run : (ws : List (List ℕ)) → (AsksReplay ws → ⊥) → (AsksThreads ws → ⊥) → AsksRun ws → ⊥
-no_run ws replay threads (inl a) = replay a
-no_run ws replay threads (inr b) = threads b
 
 -- where a script is made, or its replay is shown, no line is judged
 pub not_judged : (x : Exit) → ((n : ℕ) (c : BadCause) → x ≡ BadScript n c → ⊥) → ((n : ℕ) → x ≡ NotThreadable n → ⊥) → IsJudged x → ⊥
 not_judged x bad undone (inl (n, c, e)) = bad n c e
 not_judged x bad undone (inr (n, e)) = undone n e
 
-pub made_bad : (x : Exit) → (x ≡ Fine) ⊎ ((x ≡ WriteFault) ⊎ (x ≡ Memory)) → (n : ℕ) (c : BadCause) → x ≡ BadScript n c → ⊥
+pub made_bad : (x : Exit) → IsOfText x → (n : ℕ) (c : BadCause) → x ≡ BadScript n c → ⊥
 made_bad x (inl a) n c e = cc
 made_bad x (inr (inl a)) n c e = cc
 made_bad x (inr (inr a)) n c e = cc
 
-pub made_do : (x : Exit) → (x ≡ Fine) ⊎ ((x ≡ WriteFault) ⊎ (x ≡ Memory)) → (n : ℕ) → x ≡ NotThreadable n → ⊥
+pub made_do : (x : Exit) → IsOfText x → (n : ℕ) → x ≡ NotThreadable n → ⊥
 made_do x (inl a) n e = cc
 made_do x (inr (inl a)) n e = cc
 made_do x (inr (inr a)) n e = cc
 
-pub sure_bad : (x : Exit) → (x ≡ Fine) ⊎ ((x ≡ LogFault) ⊎ ((x ≡ WriteFault) ⊎ (x ≡ Memory))) → (n : ℕ) (c : BadCause) → x ≡ BadScript n c → ⊥
-sure_bad x (inl a) n c e = cc
-sure_bad x (inr (inl a)) n c e = cc
-sure_bad x (inr (inr (inl a))) n c e = cc
-sure_bad x (inr (inr (inr a))) n c e = cc
+-- what lists a log isn't asked in vain, and reads nothing
+pub list_asked : (x : Exit) → (x ≡ Fine) ⊎ ((x ≡ LogFault) ⊎ ((x ≡ WriteFault) ⊎ ((x ≡ Memory) ⊎ ((p : ℕ) × (x ≡ NotALog p))))) → x ≡ Usage → ⊥
+list_asked x (inl a) e = cc
+list_asked x (inr (inl a)) e = cc
+list_asked x (inr (inr (inl a))) e = cc
+list_asked x (inr (inr (inr (inl a)))) e = cc
+list_asked x (inr (inr (inr (inr (p, a))))) e = cc
 
-pub sure_do : (x : Exit) → (x ≡ Fine) ⊎ ((x ≡ LogFault) ⊎ ((x ≡ WriteFault) ⊎ (x ≡ Memory))) → (n : ℕ) → x ≡ NotThreadable n → ⊥
-sure_do x (inl a) n e = cc
-sure_do x (inr (inl a)) n e = cc
-sure_do x (inr (inr (inl a))) n e = cc
-sure_do x (inr (inr (inr a))) n e = cc
+pub list_unread : (x : Exit) → (x ≡ Fine) ⊎ ((x ≡ LogFault) ⊎ ((x ≡ WriteFault) ⊎ ((x ≡ Memory) ⊎ ((p : ℕ) × (x ≡ NotALog p))))) → x ≡ ReadFault → ⊥
+list_unread x (inl a) e = cc
+list_unread x (inr (inl a)) e = cc
+list_unread x (inr (inr (inl a))) e = cc
+list_unread x (inr (inr (inr (inl a)))) e = cc
+list_unread x (inr (inr (inr (inr (p, a))))) e = cc
 
--- no answer of a refused script is that of a listing
-pub refuses_unlisted : (w : Way) (given : Option (List ℕ)) (x : Exit) → Refuses w given x → (p : ℕ) → x ≡ NotALog p → ⊥
-refuses_unlisted w given x h p e = subst (λ (y : Exit). Refuses w given y) e h
+-- nor is what replays the made script, which reads nothing either
+pub sure_asked : (x : Exit) → (x ≡ Fine) ⊎ ((x ≡ LogFault) ⊎ ((x ≡ WriteFault) ⊎ (x ≡ Memory))) → x ≡ Usage → ⊥
+sure_asked x (inl a) e = cc
+sure_asked x (inr (inl a)) e = cc
+sure_asked x (inr (inr (inl a))) e = cc
+sure_asked x (inr (inr (inr a))) e = cc
 
--- where the log is listed, no line is judged
-abbrev pub IsOfListing : Exit → Type 0
-IsOfListing x = (x ≡ Fine) ⊎ ((x ≡ LogFault) ⊎ ((x ≡ WriteFault) ⊎ ((x ≡ Memory) ⊎ ((p : ℕ) × (x ≡ NotALog p)))))
-
-pub list_bad : (x : Exit) → IsOfListing x → (n : ℕ) (c : BadCause) → x ≡ BadScript n c → ⊥
-list_bad x (inl a) n c e = cc
-list_bad x (inr (inl a)) n c e = cc
-list_bad x (inr (inr (inl a))) n c e = cc
-list_bad x (inr (inr (inr (inl a)))) n c e = cc
-list_bad x (inr (inr (inr (inr (p, a))))) n c e = cc
-
-pub list_do : (x : Exit) → IsOfListing x → (n : ℕ) → x ≡ NotThreadable n → ⊥
-list_do x (inl a) n e = cc
-list_do x (inr (inl a)) n e = cc
-list_do x (inr (inr (inl a))) n e = cc
-list_do x (inr (inr (inr (inl a)))) n e = cc
-list_do x (inr (inr (inr (inr (p, a))))) n e = cc
-
--- an answer that is y is neither of two others
-other : (x y : Exit) → x ≡ y → (x ≡ Usage) ⊎ (x ≡ ReadFault) → (y ≡ Usage → ⊥) → (y ≡ ReadFault → ⊥) → ⊥
-other x y same (inl e) usage read = usage (sym same ∙ e)
-other x y same (inr e) usage read = read (sym same ∙ e)
-
--- it is neither usage nor a fault of the source
-pub list_sure : (x : Exit) → IsOfListing x → (x ≡ Usage) ⊎ (x ≡ ReadFault) → ⊥
-list_sure x (inl a) e = other x Fine a e (λ k. cc) (λ k. cc)
-list_sure x (inr (inl a)) e = other x LogFault a e (λ k. cc) (λ k. cc)
-list_sure x (inr (inr (inl a))) e = other x WriteFault a e (λ k. cc) (λ k. cc)
-list_sure x (inr (inr (inr (inl a)))) e = other x Memory a e (λ k. cc) (λ k. cc)
-list_sure x (inr (inr (inr (inr (p, a))))) e = other x (NotALog p) a e (λ k. cc) (λ k. cc)
-
--- what `log` asks for isn't done by an input
-pub no_input : (ws : List (List ℕ)) (given : Option (List ℕ)) → ((c : Command) → Asks ws c → c ≡ AskLog) → CanBeDone ws given → ⊥
-no_input ws given one (c, asks, input) = subst (λ (d : Command). IsInputFor d given) (one c asks) input
-
--- where a script is made, or its replay is shown, no log is listed
-pub made_unlisted : (x : Exit) → (x ≡ Fine) ⊎ ((x ≡ WriteFault) ⊎ (x ≡ Memory)) → (p : ℕ) → x ≡ NotALog p → ⊥
-made_unlisted x (inl a) p e = cc
-made_unlisted x (inr (inl a)) p e = cc
-made_unlisted x (inr (inr a)) p e = cc
-
-pub sure_unlisted : (x : Exit) → (x ≡ Fine) ⊎ ((x ≡ LogFault) ⊎ ((x ≡ WriteFault) ⊎ (x ≡ Memory))) → (p : ℕ) → x ≡ NotALog p → ⊥
-sure_unlisted x (inl a) p e = cc
-sure_unlisted x (inr (inl a)) p e = cc
-sure_unlisted x (inr (inr (inl a))) p e = cc
-sure_unlisted x (inr (inr (inr a))) p e = cc
+pub sure_unread : (x : Exit) → (x ≡ Fine) ⊎ ((x ≡ LogFault) ⊎ ((x ≡ WriteFault) ⊎ (x ≡ Memory))) → x ≡ ReadFault → ⊥
+sure_unread x (inl a) e = cc
+sure_unread x (inr (inl a)) e = cc
+sure_unread x (inr (inr (inl a))) e = cc
+sure_unread x (inr (inr (inr a))) e = cc

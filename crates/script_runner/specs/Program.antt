@@ -1,17 +1,13 @@
 -- What the top call promises.
-use Rattle.std.specs.Prelude.{ℕ, ◌≡◌, ◌⊎◌, Bool, true, false, List, ◌++◌, Option, Some, IsTrue}
+use Rattle.std.specs.Prelude.{ℕ, ◌≡◌, Bool, true, false, List, ◌++◌, Option, Some, IsTrue}
 use Rattle.std.specs.Option.{ForSome}
 use Rattle.dtx_values.specs.declared.script.Line.{Line}
 use Rattle.dtx_model.specs.AtLog.{has_log_line}
 use Rattle.dtx_model.specs.Grammar.{IsScript, Reads}
 use Rattle.dtx_model.specs.Traces.{Placed}
 use Rattle.dtx_model.specs.Words.{each}
-use Rattle.program_words.specs.Commands.{Asks}
-use Rattle.program_words.specs.declared.command.Command.{Command}
-use Rattle.program_words.specs.declared.command.Command.TheVariants.{Log, Replay, Threads}
 use Rattle.program_words.specs.declared.command.Form.{Form}
 use Rattle.thread_runs.specs.Run.{EndsOnThreads, IsRunOnThreads}
-use Rattle.script_calls.specs.Threadable.{IsThreadable}
 use Rattle.replay_runs.specs.Ending.{IsLogOf}
 use Rattle.replay_runs.specs.Lawful.{IsLawful}
 use Rattle.replay_runs.specs.Run.{IsRunOf}
@@ -20,18 +16,6 @@ pub use Rattle.program_io.specs.FormText.{form_text}
 use Rattle.program_io.specs.Transfer.{IsPartWritten}
 use Rattle.program_io.specs.declared.way.Way.{Way}
 use Rattle.program_io.specs.declared.way.Way.TheVariants.{Replay as ReplayWay, Threads as ThreadsWay}
-
--- the words ask for a replay
-abbrev pub AsksReplay : List (List ℕ) → Type 0
-AsksReplay ws = (f : Form) × Asks ws (Replay f)
-
--- the words ask for a run on threads
-abbrev pub AsksThreads : List (List ℕ) → Type 0
-AsksThreads ws = (h : ℕ) × (f : Form) × Asks ws (Threads h f)
-
--- the words ask for a run of a script that is read
-abbrev pub AsksRun : List (List ℕ) → Type 0
-AsksRun ws = AsksReplay ws ⊎ AsksThreads ws
 
 -- T is a run of the script s in the order of a replay in which the first k managers have an object, over a disk that is honest or not, whose count of faults was `from` before and is `to` now: it is a settled history of the script, and keeps the
 -- laws of every run. Where the disk is honest, the log that each image holds has the records that the trace says.
@@ -67,39 +51,13 @@ pub record HasRun (P : List Line → List Placed → Type 0) (given : Option (Li
   pub gained : holds lines trace
 
 -- there is such a run, and the sink, where it tells what was written, gained exactly the text of its trace in this form
-abbrev pub IsTextWritten : (P : List Line → List Placed → Type 0) → Form → (given before after : Option (List ℕ)) → Type 0
-IsTextWritten P f given before after = HasRun P given (λ s T. ForSome before (λ w. after ≡ Some (w ++ form_text f s T)))
+abbrev pub IsWritten : (P : List Line → List Placed → Type 0) → Form → (given before after : Option (List ℕ)) → Type 0
+IsWritten P f given before after = HasRun P given (λ s T. ForSome before (λ w. after ≡ Some (w ++ form_text f s T)))
 
 -- the same, but the sink gained a part of the text and not all of it
-abbrev pub IsTextCutShort : (P : List Line → List Placed → Type 0) → Form → (given before after : Option (List ℕ)) → Type 0
-IsTextCutShort P f given before after = HasRun P given (λ s T. ForSome before (λ w. IsPartWritten w (form_text f s T) after))
-
--- the headline: the text of a replay was written; or a part of it
-abbrev pub IsWritten : Form → (k from to : ℕ) (honest : Bool) (image : List ℕ → Type 0) (given before after : Option (List ℕ)) → Type 0
-IsWritten f k from to honest image given before after = IsTextWritten (IsReplayOf k from to honest image) f given before after
-
-abbrev pub IsCutShort : Form → (k from to : ℕ) (honest : Bool) (image : List ℕ → Type 0) (given before after : Option (List ℕ)) → Type 0
-IsCutShort f k from to honest image given before after = IsTextCutShort (IsReplayOf k from to honest image) f given before after
-
--- the headline for threads: the text of a run on threads was written; or a part of it
-abbrev pub IsWrittenOnThreads : Form → (k from to : ℕ) (honest : Bool) (image : List ℕ → Type 0) (given before after : Option (List ℕ)) → Type 0
-IsWrittenOnThreads f k from to honest image given before after = IsTextWritten (IsThreadsOf k from to honest image) f given before after
-
-abbrev pub IsCutShortOnThreads : Form → (k from to : ℕ) (honest : Bool) (image : List ℕ → Type 0) (given before after : Option (List ℕ)) → Type 0
-IsCutShortOnThreads f k from to honest image given before after = IsTextCutShort (IsThreadsOf k from to honest image) f given before after
+abbrev pub IsCutShort : (P : List Line → List Placed → Type 0) → Form → (given before after : Option (List ℕ)) → Type 0
+IsCutShort P f given before after = HasRun P given (λ s T. ForSome before (λ w. IsPartWritten w (form_text f s T) after))
 
 -- each script that the input may be has no line that stops the log or opens it again
 abbrev pub HasNoLogLine : Option (List ℕ) → Type 0
 HasNoLogLine given = (s : List Line) → IsScript s → ForSome given (λ b. Reads b s) → has_log_line s ≡ false
-
--- what the command asks for can be done with this input: a replay and a run on threads need a script, and that on threads one without a `do`; nothing else is read. What `log` lists is
--- on the disk, and no input of the source's is for it.
-abbrev pub IsInputFor : Command → Option (List ℕ) → Type 0
-IsInputFor (Replay f) given = (b : List ℕ) × (s : List Line) × (given ≡ Some b) × Reads b s
-IsInputFor (Threads h f) given = (b : List ℕ) × (s : List Line) × (given ≡ Some b) × Reads b s × IsThreadable s
-IsInputFor Log given = ⊥
-IsInputFor _ given = Unit {0}
-
--- the words ask for something that can be done with this input
-abbrev pub CanBeDone : List (List ℕ) → Option (List ℕ) → Type 0
-CanBeDone ws given = (c : Command) × Asks ws c × IsInputFor c given

@@ -1,29 +1,19 @@
 //! The top call.
-ghost use Rattle.std.specs.Prelude.{◌≡◌, ◌≢◌, ◌⊎◌, ◌↔◌, ◌≤◌, ◌+◌, ◌++◌, ℕ, Err, List, [], Some, drop, map, true, vec_len, IsTrue};
+ghost use Rattle.std.specs.Prelude.{◌≡◌, ◌≢◌, ◌⊎◌, ◌↔◌, ◌≤◌, ◌++◌, Some, map, true, vec_len, IsTrue};
 ghost use Rattle.std.specs.Option.{ForSome};
 ghost use Rattle.std.specs.String.{string_bytes};
 ghost use Rattle.outside.specs.Faults.{Rose};
-ghost use Rattle.dtx_values.specs.declared.limits.TheConstants.{SCRIPT_BYTES};
-ghost use Rattle.dtx_values.specs.declared.script.BadCause.{BadCause};
-ghost use Rattle.dtx_model.specs.Faults.{Bad};
-ghost use Rattle.dtx_model.specs.Log.{log_has};
-ghost use Rattle.dtx_model.specs.Traces.{Placed};
-ghost use Rattle.dtx_model.specs.Words.{each};
-ghost use Rattle.dtx_values.specs.declared.message.Info.{Info};
-ghost use Rattle.trace_text.specs.OneTrace.{is_carried_at, is_typed_at, named_at, told_at};
 ghost use Rattle.coordinator_log.specs.declared.layout.TheConstants.{LOG_BYTES};
-ghost use Rattle.script_runner.specs.Program.{AsksReplay, AsksRun, AsksThreads, CanBeDone, HasNoLogLine, IsCutShort, IsCutShortOnThreads, IsRunBy, IsTextCutShort, IsTextWritten, IsWritten, IsWrittenOnThreads};
-ghost use Rattle.replay_runs.specs.Ending.{AreOwnLogs, IsLog};
-ghost use Rattle.script_runner.specs.Faults.{TellsFaults};
-ghost use Rattle.program_io.specs.Judged.{HasDoAt, IsJudged};
-ghost use Rattle.program_io.specs.Listed.{HoldsSame, IsListed, IsListedInPart};
-ghost use Rattle.replay_runs.specs.LogRun.{MetNoFault};
-ghost use Rattle.program_io.specs.Refusal.{IsGoodFor, IsOnThreads};
 ghost use Rattle.program_io.specs.Transfer.{IsPartWritten};
 ghost use Rattle.program_io.specs.declared.way.Way.{Way};
-ghost use Rattle.program_words.specs.Commands.{Asks, AsksNothing, is_count};
+ghost use Rattle.program_words.specs.Commands.{Asks, AsksNothing, is_command, is_count};
+ghost use Rattle.program_words.specs.declared.command.Command.{Command};
 ghost use Rattle.program_words.specs.declared.command.Form.{Form};
+ghost use Rattle.replay_runs.specs.Ending.{AreOwnLogs, IsLog};
+ghost use Rattle.replay_runs.specs.LogRun.{MetNoFault};
 ghost use Rattle.script_maker.specs.Gen.{gen};
+ghost use Rattle.script_runner.specs.Program.{IsRunBy};
+ghost use Rattle.script_runner.specs.Promises.{Does, RunsScript, TellsFaults, WritesRun, devices, telling};
 
 use crate::arrows::each_run_has_its_arrows;
 use crate::running::traced_anew;
@@ -49,34 +39,11 @@ fn run_in<S: Source, K: Sink, D: Disk + Send, G: Gate + Sync, R: Threads + Wait 
     setting: Setting<G, R>,
 ) -> (Exit, D)
     requires { LOG_BYTES ≤ D.size disk }
-
-    // The headline; the log at the end is in it, in each image that a crash can leave. A fault after the log was formatted stops the log, which the trace says, and
-    // is no answer of its own.
-    ensures headline { result.0 ≡ Exit.Fine → IsTextWritten (IsRunBy way (vec_len setting.entry.resources) (D.faults disk) (D.faults result.1) D.honest (D.image result.1)) form (S.left source.old) (K.written sink.old) (K.written sink.new) }
-    ensures read { result.0 ≡ Exit.Fine → ForSome (S.left source.old) (λ b. S.left source.new ≡ Some []) }
-
-    ensures accepted { result.0 ≢ Exit.Usage }
-    ensures unlisted { (p : ℕ) → result.0 ≢ Exit.NotALog p }
-
-    // BadScript(n, c) comes exactly where line n is the first bad one and c its first cause, and NotThreadable(n) exactly where threads were asked for and line n is the first `do` of the script; what else may come there is a fault of the source or want of memory.
-    ensures bad { (n : ℕ) (c : BadCause) → result.0 ≡ Exit.BadScript n c → ForSome (S.left source.old) (λ b. Bad b n c) }
-    ensures bad_refused { (n : ℕ) (c : BadCause) → ForSome (S.left source.old) (λ b. Bad b n c → (result.0 ≡ Exit.BadScript n c) ⊎ ((result.0 ≡ Exit.ReadFault) ⊎ (result.0 ≡ Exit.Memory))) }
-    ensures not_threadable { (n : ℕ) → result.0 ≡ Exit.NotThreadable n → IsOnThreads way × ForSome (S.left source.old) (λ b. HasDoAt b n) }
-    ensures do_refused { (n : ℕ) → IsOnThreads way → ForSome (S.left source.old) (λ b. HasDoAt b n → (result.0 ≡ Exit.NotThreadable n) ⊎ ((result.0 ≡ Exit.ReadFault) ⊎ (result.0 ≡ Exit.Memory))) }
-    ensures judged { IsJudged result.0 → ForSome (S.left source.old) (λ b. S.left source.new ≡ Some (drop (SCRIPT_BYTES + 1) b)) }
-
-    // Faults are those of the source, of the disk while the log was formatted, and of the sink in this call; and each is answered as that fault. Where none came, all was done that can be.
-    ensures faults { TellsFaults result.0 (S.faults source.old) (S.faults source.new) (D.faults disk) (D.faults result.1) (K.faults sink.old) (K.faults sink.new) }
-    ensures done { IsGoodFor way (S.left source.old) → (Rose (S.faults source.old) (S.faults source.new) → ⊥) → (Rose (D.faults disk) (D.faults result.1) → ⊥) → (Rose (K.faults sink.old) (K.faults sink.new) → ⊥) → (result.0 ≡ Exit.Fine) ⊎ (result.0 ≡ Exit.Memory) }
-
-    // What was written: the whole text with Fine, above; else a part of it, or nothing. The disk is touched only where the script is run.
-    ensures cut_short { result.0 ≡ Exit.WriteFault → IsTextCutShort (IsRunBy way (vec_len setting.entry.resources) (D.faults disk) (D.faults result.1) D.honest (D.image result.1)) form (S.left source.old) (K.written sink.old) (K.written sink.new) }
-    ensures memory { result.0 ≡ Exit.Memory → (sink.new ≡ sink.old) ⊎ IsTextCutShort (IsRunBy way (vec_len setting.entry.resources) (D.faults disk) (D.faults result.1) D.honest (D.image result.1)) form (S.left source.old) (K.written sink.old) (K.written sink.new) }
-    ensures unwritten { (result.0 ≡ Exit.ReadFault) ⊎ ((result.0 ≡ Exit.LogFault) ⊎ IsJudged result.0) → sink.new ≡ sink.old }
+    ensures runs { RunsScript
+        (telling S.left S.faults K.written K.faults D.honest D.seen D.image D.size D.faults)
+        way form (vec_len setting.entry.resources)
+        (devices source.old sink.old disk) result.0 (devices source.new sink.new result.1) }
     ensures room { LOG_BYTES ≤ D.size result.1 }
-    ensures logs { IsTrue D.honest → result.0 ≢ Exit.LogFault → (result.1 ≡ disk) ⊎ AreOwnLogs (D.image result.1) }
-    ensures given_up_whole { way ≡ Way.Replay → IsTrue D.honest → result.0 ≡ Exit.Memory → MetNoFault D.faults disk result.1 → HasNoLogLine (S.left source.old) → (result.1 ≡ disk) ⊎ IsLog (D.image result.1) }
-    ensures untouched { (result.0 ≡ Exit.ReadFault) ⊎ IsJudged result.0 → result.1 ≡ disk }
 {
     // This does nothing when it runs. It brings in that bytes are one script or have one first bad line, and never both, so that the answer which
     // is given is the only one that fits.
@@ -101,8 +68,7 @@ fn run_in<S: Source, K: Sink, D: Disk + Send, G: Gate + Sync, R: Threads + Wait 
 fn make_in<K: Sink>(alloc: Global, n: u16, sink: &mut K) -> Exit
     requires { is_count n ≡ true }
     ensures made { result ≡ Exit.Fine → ForSome (K.written sink.old) (λ w. K.written sink.new ≡ Some (w ++ gen n)) }
-    ensures cut_short { result ≡ Exit.WriteFault → ForSome (K.written sink.old) (λ w. IsPartWritten w (gen n) (K.written sink.new)) }
-    ensures memory { result ≡ Exit.Memory → (sink.new ≡ sink.old) ⊎ ForSome (K.written sink.old) (λ w. IsPartWritten w (gen n) (K.written sink.new)) }
+    ensures short { (result ≡ Exit.WriteFault) ⊎ (result ≡ Exit.Memory) → (sink.new ≡ sink.old) ⊎ ForSome (K.written sink.old) (λ w. IsPartWritten w (gen n) (K.written sink.new)) }
     ensures write_fault { result ≡ Exit.WriteFault → Rose (K.faults sink.old) (K.faults sink.new) }
     ensures write_smooth { result ≢ Exit.WriteFault → K.faults sink.new ≡ K.faults sink.old }
     ensures answers { (result ≡ Exit.Fine) ⊎ ((result ≡ Exit.WriteFault) ⊎ (result ≡ Exit.Memory)) }
@@ -122,15 +88,14 @@ fn demo_in<K: Sink, D: Disk + Send, G: Gate + Sync, R: Threads + Wait + Sync>(
 ) -> (Exit, D)
     requires room { LOG_BYTES ≤ D.size disk }
     requires count { is_count n ≡ true }
-    ensures headline { result.0 ≡ Exit.Fine → IsWritten Form.Summary (vec_len setting.entry.resources) (D.faults disk) (D.faults result.1) D.honest (D.image result.1) (Some (gen n)) (K.written sink.old) (K.written sink.new) }
+    ensures writes { WritesRun K.written
+        (IsRunBy Way.Replay (vec_len setting.entry.resources) (D.faults disk) (D.faults result.1) D.honest (D.image result.1))
+        Form.Summary (Some (gen n)) sink.old result.0 sink.new }
     ensures answers { (result.0 ≡ Exit.Fine) ⊎ ((result.0 ≡ Exit.LogFault) ⊎ ((result.0 ≡ Exit.WriteFault) ⊎ (result.0 ≡ Exit.Memory))) }
     ensures log_fault { result.0 ≡ Exit.LogFault → Rose (D.faults disk) (D.faults result.1) }
     ensures write_fault { result.0 ≡ Exit.WriteFault → Rose (K.faults sink.old) (K.faults sink.new) }
     ensures log_grows { result.0 ≢ Exit.LogFault → D.faults disk ≤ D.faults result.1 }
     ensures write_smooth { result.0 ≢ Exit.WriteFault → K.faults sink.new ≡ K.faults sink.old }
-    ensures cut_short { result.0 ≡ Exit.WriteFault → IsCutShort Form.Summary (vec_len setting.entry.resources) (D.faults disk) (D.faults result.1) D.honest (D.image result.1) (Some (gen n)) (K.written sink.old) (K.written sink.new) }
-    ensures memory { result.0 ≡ Exit.Memory → (sink.new ≡ sink.old) ⊎ IsCutShort Form.Summary (vec_len setting.entry.resources) (D.faults disk) (D.faults result.1) D.honest (D.image result.1) (Some (gen n)) (K.written sink.old) (K.written sink.new) }
-    ensures unwritten { result.0 ≡ Exit.LogFault → sink.new ≡ sink.old }
     ensures room { LOG_BYTES ≤ D.size result.1 }
     ensures logs { IsTrue D.honest → result.0 ≢ Exit.LogFault → (result.1 ≡ disk) ⊎ AreOwnLogs (D.image result.1) }
     ensures given_up_whole { IsTrue D.honest → result.0 ≡ Exit.Memory → MetNoFault D.faults disk result.1 → (result.1 ≡ disk) ⊎ IsLog (D.image result.1) }
@@ -143,6 +108,34 @@ fn demo_in<K: Sink, D: Disk + Send, G: Gate + Sync, R: Threads + Wait + Sync>(
     let mut source = SureSource::new(bytes);
     let way = Way::Replay;
     run_in(way, Form::Summary, &mut source, sink, disk, setting)
+}
+
+/// Does what a command says.
+fn run_command<S: Source, K: Sink, D: Disk + Send, G: Gate + Sync, R: Threads + Wait + Sync>(
+    command: Command,
+    source: &mut S,
+    sink: &mut K,
+    disk: D,
+    setting: Setting<G, R>,
+) -> (Exit, D)
+    requires command { is_command command ≡ true }
+    requires room { LOG_BYTES ≤ D.size disk }
+    ensures does { Does
+        (telling S.left S.faults K.written K.faults D.honest D.seen D.image D.size D.faults)
+        command (vec_len setting.entry.resources)
+        (devices source.old sink.old disk) result.0 (devices source.new sink.new result.1) }
+    ensures asked { result.0 ≢ Exit.Usage }
+    ensures room { LOG_BYTES ≤ D.size result.1 }
+{
+    match command {
+        Command::Replay(form) => run_in(Way::Replay, form, source, sink, disk, setting),
+        Command::Threads(helpers, form) => {
+            run_in(Way::Threads(helpers), form, source, sink, disk, setting)
+        }
+        Command::Make(n) => (make_in(setting.alloc, n, sink), disk),
+        Command::Demo(n) => demo_in(n, sink, disk, setting),
+        Command::Log => list_in(setting.alloc, sink, disk),
+    }
 }
 
 /// Runs the program on its words: a script in the order of a replay or on threads, from the source to the text of its trace at the sink, over a log on the disk.
@@ -175,64 +168,23 @@ pub fn run_program<S: Source, K: Sink, D: Disk + Send, G: Gate + Sync, R: Thread
 ) -> (Exit, D)
     requires { LOG_BYTES ≤ D.size disk }
 
-    // The headline; the log at the end is in it, in each image that a crash can leave. A fault after the log was formatted stops the log, which the trace says, and
-    // is no answer of its own.
-    ensures headline { (f : Form) → Asks (map string_bytes words.now) (Command.Replay f) → result.0 ≡ Exit.Fine → IsWritten f (vec_len resources) (D.faults disk) (D.faults result.1) D.honest (D.image result.1) (S.left source.old) (K.written sink.old) (K.written sink.new) }
-    ensures threads { (h : ℕ) (f : Form) → Asks (map string_bytes words.now) (Command.Threads h f) → result.0 ≡ Exit.Fine → IsWrittenOnThreads f (vec_len resources) (D.faults disk) (D.faults result.1) D.honest (D.image result.1) (S.left source.old) (K.written sink.old) (K.written sink.new) }
-    ensures read { AsksRun (map string_bytes words.now) → result.0 ≡ Exit.Fine → ForSome (S.left source.old) (λ b. S.left source.new ≡ Some []) }
-
-    // The made script, and the summary of its replay: nothing is read for these, and the disk isn't touched where a script is only made.
-    ensures made { (n : ℕ) → Asks (map string_bytes words.now) (Command.Make n) → result.0 ≡ Exit.Fine → ForSome (K.written sink.old) (λ w. K.written sink.new ≡ Some (w ++ gen n)) }
-    ensures demo { (n : ℕ) → Asks (map string_bytes words.now) (Command.Demo n) → result.0 ≡ Exit.Fine → IsWritten Form.Summary (vec_len resources) (D.faults disk) (D.faults result.1) D.honest (D.image result.1) (Some (gen n)) (K.written sink.old) (K.written sink.new) }
-    ensures aside { (n : ℕ) → Asks (map string_bytes words.now) (Command.Make n) → result.1 ≡ disk }
-
-    ensures made_answers { (n : ℕ) → Asks (map string_bytes words.now) (Command.Make n) → (result.0 ≡ Exit.Fine) ⊎ ((result.0 ≡ Exit.WriteFault) ⊎ (result.0 ≡ Exit.Memory)) }
-    ensures demo_answers { (n : ℕ) → Asks (map string_bytes words.now) (Command.Demo n) → (result.0 ≡ Exit.Fine) ⊎ ((result.0 ≡ Exit.LogFault) ⊎ ((result.0 ≡ Exit.WriteFault) ⊎ (result.0 ≡ Exit.Memory))) }
-
-    // The listing of the log that is on the disk. Whatever comes, the disk holds what it held, and nothing is read of the source.
-    ensures listed { Asks (map string_bytes words.now) Command.Log → result.0 ≡ Exit.Fine → IsListed D.honest (D.seen disk) (K.written sink.old) (K.written sink.new) }
-    ensures list_answers { Asks (map string_bytes words.now) Command.Log → (result.0 ≡ Exit.Fine) ⊎ ((result.0 ≡ Exit.LogFault) ⊎ ((result.0 ≡ Exit.WriteFault) ⊎ ((result.0 ≡ Exit.Memory) ⊎ ((p : ℕ) × (result.0 ≡ Exit.NotALog p))))) }
-    ensures log_kept { Asks (map string_bytes words.now) Command.Log → IsTrue D.honest → HoldsSame D.seen D.image disk result.1 }
-    ensures log_size { Asks (map string_bytes words.now) Command.Log → D.size result.1 ≡ D.size disk }
-
-    // NotALog(p) comes exactly where a log is to be listed and p is the first place at which what the disk holds is none; what else may come there is a fault of the disk or want of memory.
-    ensures no_log { (p : ℕ) → result.0 ≡ Exit.NotALog p → Asks (map string_bytes words.now) Command.Log × (IsTrue D.honest → log_has (D.seen disk) ≡ Err p) }
-    ensures no_log_refused { Asks (map string_bytes words.now) Command.Log → IsTrue D.honest → (p : ℕ) → log_has (D.seen disk) ≡ Err p → (result.0 ≡ Exit.NotALog p) ⊎ ((result.0 ≡ Exit.LogFault) ⊎ (result.0 ≡ Exit.Memory)) }
-    ensures list_short { Asks (map string_bytes words.now) Command.Log → result.0 ≡ Exit.WriteFault → IsListedInPart D.honest (D.seen disk) (K.written sink.old) (K.written sink.new) }
-    ensures list_memory { Asks (map string_bytes words.now) Command.Log → result.0 ≡ Exit.Memory → (sink.new ≡ sink.old) ⊎ IsListedInPart D.honest (D.seen disk) (K.written sink.old) (K.written sink.new) }
-    ensures unlisted { (p : ℕ) → result.0 ≡ Exit.NotALog p → sink.new ≡ sink.old }
-
-    // Usage comes exactly by the words. The source is read for a replay and for threads alone.
+    // The words ask for one command, or for none. Usage comes exactly by the words, and then nothing is read, written or touched.
+    ensures asked { ((c : Command) × Asks (map string_bytes words.now) c)
+        ⊎ AsksNothing (map string_bytes words.now) }
     ensures usage { (result.0 ≡ Exit.Usage) ↔ AsksNothing (map string_bytes words.now) }
-    ensures unread { (AsksRun (map string_bytes words.now) → ⊥) → source.new ≡ source.old }
+    ensures idle { AsksNothing (map string_bytes words.now)
+        → devices source.new sink.new result.1 ≡ devices source.old sink.old disk }
 
-    // BadScript(n, c) comes exactly where line n is the first bad one and c its first cause, and NotThreadable(n) exactly where threads were asked for and line n is the first `do` of the script; what else may come there is a
-    // fault of the source or want of memory.
-    ensures bad { (n : ℕ) (c : BadCause) → result.0 ≡ Exit.BadScript n c → ForSome (S.left source.old) (λ b. Bad b n c) }
-    ensures bad_refused { (n : ℕ) (c : BadCause) → AsksRun (map string_bytes words.now) → ForSome (S.left source.old) (λ b. Bad b n c → (result.0 ≡ Exit.BadScript n c) ⊎ ((result.0 ≡ Exit.ReadFault) ⊎ (result.0 ≡ Exit.Memory))) }
-    ensures not_threadable { (n : ℕ) → result.0 ≡ Exit.NotThreadable n → AsksThreads (map string_bytes words.now) × ForSome (S.left source.old) (λ b. HasDoAt b n) }
-    ensures do_refused { (n : ℕ) → AsksThreads (map string_bytes words.now) → ForSome (S.left source.old) (λ b. HasDoAt b n → (result.0 ≡ Exit.NotThreadable n) ⊎ ((result.0 ≡ Exit.ReadFault) ⊎ (result.0 ≡ Exit.Memory))) }
-    ensures judged { IsJudged result.0 → ForSome (S.left source.old) (λ b. S.left source.new ≡ Some (drop (SCRIPT_BYTES + 1) b)) }
-
-    // Faults are those of the source, of the disk while the log was formatted or read for its listing, and of the sink in this call; and each is answered as that fault.
-    ensures faults { TellsFaults result.0 (S.faults source.old) (S.faults source.new) (D.faults disk) (D.faults result.1) (K.faults sink.old) (K.faults sink.new) }
-
-    // Where the words ask for what can be done with the input, and no call of the source, the disk and the sink met a fault, it is done, unless memory runs out.
-    ensures done { CanBeDone (map string_bytes words.now) (S.left source.old) → (Rose (S.faults source.old) (S.faults source.new) → ⊥) → (Rose (D.faults disk) (D.faults result.1) → ⊥) → (Rose (K.faults sink.old) (K.faults sink.new) → ⊥) → (result.0 ≡ Exit.Fine) ⊎ (result.0 ≡ Exit.Memory) }
-
-    // What was written: the whole text with Fine, above; else a part of it, or nothing. The disk is touched only where the script is run, or the log is listed.
-    ensures cut_short { (f : Form) → Asks (map string_bytes words.now) (Command.Replay f) → result.0 ≡ Exit.WriteFault → IsCutShort f (vec_len resources) (D.faults disk) (D.faults result.1) D.honest (D.image result.1) (S.left source.old) (K.written sink.old) (K.written sink.new) }
-    ensures threads_cut_short { (h : ℕ) (f : Form) → Asks (map string_bytes words.now) (Command.Threads h f) → result.0 ≡ Exit.WriteFault → IsCutShortOnThreads f (vec_len resources) (D.faults disk) (D.faults result.1) D.honest (D.image result.1) (S.left source.old) (K.written sink.old) (K.written sink.new) }
-    ensures memory { (f : Form) → Asks (map string_bytes words.now) (Command.Replay f) → result.0 ≡ Exit.Memory → (sink.new ≡ sink.old) ⊎ IsCutShort f (vec_len resources) (D.faults disk) (D.faults result.1) D.honest (D.image result.1) (S.left source.old) (K.written sink.old) (K.written sink.new) }
-    ensures threads_memory { (h : ℕ) (f : Form) → Asks (map string_bytes words.now) (Command.Threads h f) → result.0 ≡ Exit.Memory → (sink.new ≡ sink.old) ⊎ IsCutShortOnThreads f (vec_len resources) (D.faults disk) (D.faults result.1) D.honest (D.image result.1) (S.left source.old) (K.written sink.old) (K.written sink.new) }
-    ensures made_short { (n : ℕ) → Asks (map string_bytes words.now) (Command.Make n) → (result.0 ≡ Exit.WriteFault) ⊎ (result.0 ≡ Exit.Memory) → (sink.new ≡ sink.old) ⊎ ForSome (K.written sink.old) (λ w. IsPartWritten w (gen n) (K.written sink.new)) }
-    ensures demo_short { (n : ℕ) → Asks (map string_bytes words.now) (Command.Demo n) → (result.0 ≡ Exit.WriteFault) ⊎ (result.0 ≡ Exit.Memory) → (sink.new ≡ sink.old) ⊎ IsCutShort Form.Summary (vec_len resources) (D.faults disk) (D.faults result.1) D.honest (D.image result.1) (Some (gen n)) (K.written sink.old) (K.written sink.new) }
-    ensures unwritten { (result.0 ≡ Exit.Usage) ⊎ ((result.0 ≡ Exit.ReadFault) ⊎ ((result.0 ≡ Exit.LogFault) ⊎ IsJudged result.0)) → sink.new ≡ sink.old }
+    // What each command does, with the cause of each answer: for a script that is run, the headline. A fault of the disk after the log was formatted stops the log, which
+    // the trace says, and is no answer of its own.
+    ensures headline { (c : Command) → Asks (map string_bytes words.now) c → Does
+        (telling S.left S.faults K.written K.faults D.honest D.seen D.image D.size D.faults)
+        c (vec_len resources)
+        (devices source.old sink.old disk) result.0 (devices source.new sink.new result.1) }
+    ensures faults { TellsFaults
+        (telling S.left S.faults K.written K.faults D.honest D.seen D.image D.size D.faults)
+        (devices source.old sink.old disk) result.0 (devices source.new sink.new result.1) }
     ensures room { LOG_BYTES ≤ D.size result.1 }
-    ensures logs { (Asks (map string_bytes words.now) Command.Log → ⊥) → IsTrue D.honest → result.0 ≢ Exit.LogFault → (result.1 ≡ disk) ⊎ AreOwnLogs (D.image result.1) }
-    ensures given_up_whole { AsksReplay (map string_bytes words.now) → IsTrue D.honest → result.0 ≡ Exit.Memory → MetNoFault D.faults disk result.1 → HasNoLogLine (S.left source.old) → (result.1 ≡ disk) ⊎ IsLog (D.image result.1) }
-    ensures demo_whole { (n : ℕ) → Asks (map string_bytes words.now) (Command.Demo n) → IsTrue D.honest → result.0 ≡ Exit.Memory → MetNoFault D.faults disk result.1 → (result.1 ≡ disk) ⊎ IsLog (D.image result.1) }
-    ensures untouched { (result.0 ≡ Exit.Usage) ⊎ ((result.0 ≡ Exit.ReadFault) ⊎ IsJudged result.0) → result.1 ≡ disk }
 {
     let setting = Setting {
         rt,
@@ -241,13 +193,7 @@ pub fn run_program<S: Source, K: Sink, D: Disk + Send, G: Gate + Sync, R: Thread
         resources,
     };
     match command_of(words) {
-        Some(Command::Replay(form)) => run_in(Way::Replay, form, source, sink, disk, setting),
-        Some(Command::Threads(helpers, form)) => {
-            run_in(Way::Threads(helpers), form, source, sink, disk, setting)
-        }
-        Some(Command::Make(n)) => (make_in(alloc, n, sink), disk),
-        Some(Command::Demo(n)) => demo_in(n, sink, disk, setting),
-        Some(Command::Log) => list_in(alloc, sink, disk),
+        Some(command) => run_command(command, source, sink, disk, setting),
         None => (Exit::Usage, disk),
     }
 }

@@ -1,0 +1,162 @@
+-- What the top call promises of each command. `tell` is what the source, the sink and the disk tell of themselves; `old` is how the call found the three, and `new` how it left them.
+use Rattle.std.specs.Prelude.{ℕ, ◌+◌, ◌≡◌, ◌≢◌, ◌≤◌, ◌⊎◌, ◌++◌, Bool, List, [], drop, Err, Option, Some, IsTrue}
+use Rattle.std.specs.Option.{ForSome}
+use Rattle.outside.specs.Faults.{Rose}
+use Rattle.dtx_values.specs.declared.limits.TheConstants.{SCRIPT_BYTES}
+use Rattle.dtx_values.specs.declared.script.BadCause.{BadCause}
+use Rattle.dtx_values.specs.declared.script.Line.{Line}
+use Rattle.dtx_model.specs.Faults.{Bad}
+use Rattle.dtx_model.specs.Log.{log_has}
+use Rattle.dtx_model.specs.Traces.{Placed}
+use Rattle.program_io.specs.Judged.{HasDoAt, IsJudged}
+use Rattle.program_io.specs.Listed.{HoldsSame, IsListed, IsListedInPart}
+use Rattle.program_io.specs.Refusal.{IsGoodFor, IsOnThreads}
+use Rattle.program_io.specs.Transfer.{IsPartWritten}
+use Rattle.program_io.specs.declared.exit.Exit.{Exit}
+use Rattle.program_io.specs.declared.exit.Exit.TheVariants.{BadScript, Fine, LogFault, Memory, NotALog, NotThreadable, ReadFault, Usage, WriteFault}
+use Rattle.program_io.specs.declared.way.Way.{Way}
+use Rattle.program_io.specs.declared.way.Way.TheVariants.{Replay as ReplayWay, Threads as ThreadsWay}
+use Rattle.program_words.specs.declared.command.Command.{Command}
+use Rattle.program_words.specs.declared.command.Command.TheVariants.{Demo, Log, Make, Replay, Threads}
+use Rattle.program_words.specs.declared.command.Form.{Form}
+use Rattle.program_words.specs.declared.command.Form.TheVariants.{Summary}
+use Rattle.replay_runs.specs.Ending.{AreOwnLogs, IsLog}
+use Rattle.replay_runs.specs.LogRun.{MetNoFault}
+use Rattle.script_maker.specs.Gen.{gen}
+use Rattle.script_runner.specs.Program.{HasNoLogLine, IsCutShort, IsRunBy, IsWritten}
+
+-- a source, a sink and a disk
+pub record Devices (S K D : Type 0) : Type 0 where
+  pub source : S
+  pub sink : K
+  pub disk : D
+
+abbrev pub devices : {S K D : Type 0} → S → K → D → Devices S K D
+devices s k d = record { source = s; sink = k; disk = d }
+
+-- What they tell: the bytes that are left to read, and those that were written, where they are told; whether the disk is honest, what a read of it gives, what a crash may leave, its length; and the count of faults of each.
+pub record Telling (S K D : Type 0) : Type 1 where
+  pub left : S → Option (List ℕ)
+  pub source_faults : S → ℕ
+  pub written : K → Option (List ℕ)
+  pub sink_faults : K → ℕ
+  pub honest : Bool
+  pub seen : D → List ℕ
+  pub image : D → List ℕ → Type 0
+  pub size : D → ℕ
+  pub disk_faults : D → ℕ
+
+abbrev pub telling : {S K D : Type 0} → (S → Option (List ℕ)) → (S → ℕ) → (K → Option (List ℕ)) → (K → ℕ)
+    → Bool → (D → List ℕ) → (D → List ℕ → Type 0) → (D → ℕ) → (D → ℕ) → Telling S K D
+telling left source_faults written sink_faults honest seen image size disk_faults = record {
+  left = left;
+  source_faults = source_faults;
+  written = written;
+  sink_faults = sink_faults;
+  honest = honest;
+  seen = seen;
+  image = image;
+  size = size;
+  disk_faults = disk_faults;
+}
+
+-- no count of faults rose
+pub record MetNoFaults {S K D : Type 0} (tell : Telling S K D) (old new : Devices S K D) : Type 0 where
+  pub source : MetNoFault tell.source_faults old.source new.source
+  pub disk : MetNoFault tell.disk_faults old.disk new.disk
+  pub sink : MetNoFault tell.sink_faults old.sink new.sink
+
+-- Which faults an answer tells of. The disk's are those while the log was formatted or read for its listing. The answer that names a fault came where that count rose. Where it names none of the source's or the sink's, that count is as it was; where it names
+-- none of the disk's, that count didn't fall.
+pub record TellsFaults {S K D : Type 0} (tell : Telling S K D) (old : Devices S K D) (exit : Exit) (new : Devices S K D) : Type 0 where
+  pub read_fault : exit ≡ ReadFault → Rose (tell.source_faults old.source) (tell.source_faults new.source)
+  pub log_fault : exit ≡ LogFault → Rose (tell.disk_faults old.disk) (tell.disk_faults new.disk)
+  pub write_fault : exit ≡ WriteFault → Rose (tell.sink_faults old.sink) (tell.sink_faults new.sink)
+  pub read_smooth : exit ≢ ReadFault → tell.source_faults new.source ≡ tell.source_faults old.source
+  pub log_grows : exit ≢ LogFault → tell.disk_faults old.disk ≤ tell.disk_faults new.disk
+  pub write_smooth : exit ≢ WriteFault → tell.sink_faults new.sink ≡ tell.sink_faults old.sink
+
+-- The runs that the call may have done, this way, with this many managers that have an object: over the disk as it was, to the disk as it is.
+abbrev pub IsRunOver : {S K D : Type 0} → Telling S K D → Way → ℕ → Devices S K D → Devices S K D → List Line → List Placed → Type 0
+IsRunOver tell w k old new = IsRunBy w k (tell.disk_faults old.disk) (tell.disk_faults new.disk) tell.honest (tell.image new.disk)
+
+-- What is written of a run. With Fine the text of the trace of a run of the input, whole: the headline. With a fault of the sink a part of it; where memory ran out a part of it, or nothing; and nothing where no script was run.
+pub record WritesRun {K : Type 0} (written : K → Option (List ℕ)) (P : List Line → List Placed → Type 0) (f : Form) (given : Option (List ℕ)) (old : K) (exit : Exit) (new : K) : Type 0 where
+  pub whole : exit ≡ Fine → IsWritten P f given (written old) (written new)
+  pub cut_short : exit ≡ WriteFault → IsCutShort P f given (written old) (written new)
+  pub memory : exit ≡ Memory → (new ≡ old) ⊎ IsCutShort P f given (written old) (written new)
+  pub unwritten : (exit ≡ ReadFault) ⊎ ((exit ≡ LogFault) ⊎ IsJudged exit) → new ≡ old
+
+-- the answer is this one, but where the source met a fault or memory ran out
+abbrev pub ComesUnlessUnread : Exit → Exit → Type 0
+ComesUnlessUnread wanted exit = (exit ≡ wanted) ⊎ ((exit ≡ ReadFault) ⊎ (exit ≡ Memory))
+
+-- How the input is judged. BadScript(n, c) comes exactly where line n is the first bad one and c its first cause, NotThreadable(n) exactly where threads were asked for and line n is the first `do` of the script; both after the input was read to its end, or one
+-- byte past the longest script.
+pub record JudgesInput {S K D : Type 0} (tell : Telling S K D) (w : Way) (old : Devices S K D) (exit : Exit) (new : Devices S K D) : Type 0 where
+  pub read : exit ≡ Fine → ForSome (tell.left old.source) (λ b. tell.left new.source ≡ Some [])
+  pub judged : IsJudged exit → ForSome (tell.left old.source) (λ b. tell.left new.source ≡ Some (drop (SCRIPT_BYTES + 1) b))
+  pub bad : (n : ℕ) (c : BadCause) → exit ≡ BadScript n c → ForSome (tell.left old.source) (λ b. Bad b n c)
+  pub bad_refused : (n : ℕ) (c : BadCause) → ForSome (tell.left old.source) (λ b. Bad b n c → ComesUnlessUnread (BadScript n c) exit)
+  pub not_threadable : (n : ℕ) → exit ≡ NotThreadable n → IsOnThreads w × ForSome (tell.left old.source) (λ b. HasDoAt b n)
+  pub do_refused : (n : ℕ) → IsOnThreads w → ForSome (tell.left old.source) (λ b. HasDoAt b n → ComesUnlessUnread (NotThreadable n) exit)
+
+-- What is on the disk afterwards. An honest disk is as it was, or each image is a log whose records are all of a script's transactions; where memory ran out under a replay that met no fault of the disk and whose script has no line for the log, all images have the same
+-- ones. It is as it was where nothing was run.
+pub record KeepsLogs {S K D : Type 0} (tell : Telling S K D) (w : Way) (old : Devices S K D) (exit : Exit) (new : Devices S K D) : Type 0 where
+  pub logs : IsTrue tell.honest → exit ≢ LogFault → (new.disk ≡ old.disk) ⊎ AreOwnLogs (tell.image new.disk)
+  pub given_up_whole : w ≡ ReplayWay → IsTrue tell.honest → exit ≡ Memory → MetNoFault tell.disk_faults old.disk new.disk → HasNoLogLine (tell.left old.source) → (new.disk ≡ old.disk) ⊎ IsLog (tell.image new.disk)
+  pub untouched : (exit ≡ ReadFault) ⊎ IsJudged exit → new.disk ≡ old.disk
+
+-- `replay` and `threads`: the script is read from the source, and run this way over the disk, which is made an empty log first; the text of its trace in this form goes to the sink. Where the input is a script that can be run so and nothing met a fault, it is done,
+-- unless memory runs out.
+pub record RunsScript {S K D : Type 0} (tell : Telling S K D) (w : Way) (f : Form) (k : ℕ) (old : Devices S K D) (exit : Exit) (new : Devices S K D) : Type 0 where
+  pub writes : WritesRun tell.written (IsRunOver tell w k old new) f (tell.left old.source) old.sink exit new.sink
+  pub input : JudgesInput tell w old exit new
+  pub disk : KeepsLogs tell w old exit new
+  pub faults : TellsFaults tell old exit new
+  pub done : IsGoodFor w (tell.left old.source) → MetNoFaults tell old new → (exit ≡ Fine) ⊎ (exit ≡ Memory)
+  pub asked : exit ≢ Usage
+  pub unlisted : (p : ℕ) → exit ≢ NotALog p
+
+-- `make N`: the made script goes to the sink, or a part of it, or nothing. Nothing is read, and the disk isn't touched.
+pub record MakesScript {S K D : Type 0} (tell : Telling S K D) (n : ℕ) (old : Devices S K D) (exit : Exit) (new : Devices S K D) : Type 0 where
+  pub made : exit ≡ Fine → ForSome (tell.written old.sink) (λ w. tell.written new.sink ≡ Some (w ++ gen n))
+  pub short : (exit ≡ WriteFault) ⊎ (exit ≡ Memory) → (new.sink ≡ old.sink) ⊎ ForSome (tell.written old.sink) (λ w. IsPartWritten w (gen n) (tell.written new.sink))
+  pub answers : (exit ≡ Fine) ⊎ ((exit ≡ WriteFault) ⊎ (exit ≡ Memory))
+  pub unread : new.source ≡ old.source
+  pub untouched : new.disk ≡ old.disk
+  pub faults : TellsFaults tell old exit new
+  pub done : MetNoFaults tell old new → (exit ≡ Fine) ⊎ (exit ≡ Memory)
+
+-- `demo N`: the summary of a replay of the made script goes to the sink. Nothing is read.
+pub record ShowsDemo {S K D : Type 0} (tell : Telling S K D) (n k : ℕ) (old : Devices S K D) (exit : Exit) (new : Devices S K D) : Type 0 where
+  pub writes : WritesRun tell.written (IsRunOver tell ReplayWay k old new) Summary (Some (gen n)) old.sink exit new.sink
+  pub answers : (exit ≡ Fine) ⊎ ((exit ≡ LogFault) ⊎ ((exit ≡ WriteFault) ⊎ (exit ≡ Memory)))
+  pub unread : new.source ≡ old.source
+  pub logs : IsTrue tell.honest → exit ≢ LogFault → (new.disk ≡ old.disk) ⊎ AreOwnLogs (tell.image new.disk)
+  pub given_up_whole : IsTrue tell.honest → exit ≡ Memory → MetNoFault tell.disk_faults old.disk new.disk → (new.disk ≡ old.disk) ⊎ IsLog (tell.image new.disk)
+  pub faults : TellsFaults tell old exit new
+  pub done : MetNoFaults tell old new → (exit ≡ Fine) ⊎ (exit ≡ Memory)
+
+-- `log`: the listing of the log that is on the disk goes to the sink. NotALog(p) comes exactly where p is the first place at which what the disk holds is none. Whatever comes, the disk holds what it held, and nothing is read of the source.
+pub record ListsLog {S K D : Type 0} (tell : Telling S K D) (old : Devices S K D) (exit : Exit) (new : Devices S K D) : Type 0 where
+  pub listed : exit ≡ Fine → IsListed tell.honest (tell.seen old.disk) (tell.written old.sink) (tell.written new.sink)
+  pub short : exit ≡ WriteFault → IsListedInPart tell.honest (tell.seen old.disk) (tell.written old.sink) (tell.written new.sink)
+  pub memory : exit ≡ Memory → (new.sink ≡ old.sink) ⊎ IsListedInPart tell.honest (tell.seen old.disk) (tell.written old.sink) (tell.written new.sink)
+  pub unwritten : (exit ≡ LogFault) ⊎ ((p : ℕ) × (exit ≡ NotALog p)) → new.sink ≡ old.sink
+  pub answers : (exit ≡ Fine) ⊎ ((exit ≡ LogFault) ⊎ ((exit ≡ WriteFault) ⊎ ((exit ≡ Memory) ⊎ ((p : ℕ) × (exit ≡ NotALog p)))))
+  pub no_log : IsTrue tell.honest → (p : ℕ) → exit ≡ NotALog p → log_has (tell.seen old.disk) ≡ Err p
+  pub no_log_refused : IsTrue tell.honest → (p : ℕ) → log_has (tell.seen old.disk) ≡ Err p → (exit ≡ NotALog p) ⊎ ((exit ≡ LogFault) ⊎ (exit ≡ Memory))
+  pub unread : new.source ≡ old.source
+  pub kept : IsTrue tell.honest → HoldsSame tell.seen tell.image old.disk new.disk
+  pub size : tell.size new.disk ≡ tell.size old.disk
+  pub faults : TellsFaults tell old exit new
+
+-- what the call does at a command, where the first k managers have an object
+abbrev pub Does : {S K D : Type 0} → Telling S K D → Command → ℕ → Devices S K D → Exit → Devices S K D → Type 0
+Does tell (Replay f) k = RunsScript tell ReplayWay f k
+Does tell (Threads h f) k = RunsScript tell (ThreadsWay h) f k
+Does tell (Make n) k = MakesScript tell n
+Does tell (Demo n) k = ShowsDemo tell n k
+Does tell Log k = ListsLog tell
