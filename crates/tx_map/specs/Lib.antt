@@ -1,0 +1,7 @@
+pub mod Order
+pub mod Live
+pub mod Puts
+pub mod Notes
+pub mod Room
+pub mod Kept
+pub mod Laws
