@@ -1,5 +1,5 @@
 -- What was written of a record is read again.
-use Rattle.std.proofs.Common.{◌≡◌, ℕ, zero, suc, ◌-◌, ◌+◌, ◌*◌, ◌≤◌, true, leb, get_or, List, [], ◌∷◌, ◌++◌, length, take, drop, Ok, refl, ap, ◌∙◌, append_assoc, arith}
+use Rattle.std.proofs.Common.{◌≡◌, ℕ, ◌-◌, ◌+◌, ◌*◌, ◌≤◌, true, leb, get_or, List, [], ◌∷◌, ◌++◌, length, take, drop, Ok, refl, ap, append_assoc, arith}
 use Rattle.std.specs.Prelude.{replicate, map}
 use Rattle.std.specs.List.{flat_map}
 use Rattle.std.proofs.lemmas.Bool.Decides.{nat_tests}
@@ -10,7 +10,8 @@ use Rattle.dtx_values.specs.declared.number.RmNo.{RmNo}
 use Rattle.dtx_values.specs.declared.record.LogRecord.{LogRecord}
 use Rattle.dtx_values.specs.RecoveryInfo.{identifier_in, is_id, pair_bytes, pair_of}
 use Rattle.dtx_values.proofs.Infos.{after_pair, id_again, pair_again, pair_long}
-use Rattle.dtx_model.specs.Log.{CommitRecord, count_at, from_place, pair_at, pairs_at, record_at, record_of, zeros_at}
+use Rattle.dtx_model.specs.Log.{CommitRecord, count_at, from_place, pair_at, pairs_at, record_at, record_of}
+use Rattle.slotted.proofs.Heads.{zeros_again}
 use Rattle.coordinator_log.specs.Spelling.{front_bytes, record_bytes}
 
 -- an enlistment's bytes are read as this enlistment
@@ -26,12 +27,6 @@ pairs_again place (p ∷ ps) z =
     let b = flat_map pair_bytes (map pair_of ps) in
     let split : (pair_bytes (pair_of p) ++ b) ++ z ≡ pair_bytes (pair_of p) ++ (b ++ z) = append_assoc (pair_bytes (pair_of p)) b z in
     rw (split, pair_at_again place p (b ++ z), after_pair (pair_of p) (b ++ z), pairs_again (place + 20) ps z) refl
-
--- zeros are read as zeros
-zeros_again : (place n : ℕ) → zeros_at place (replicate n 0) ≡ Ok (place + n)
-unfolding zeros_at
-zeros_again place zero = ap (λ (k : ℕ). Ok k) (omega arith)
-zeros_again place (suc n) = zeros_again (place + 1) n ∙ ap (λ (k : ℕ). Ok k) (omega arith)
 
 -- a record's bytes begin with the format
 format_again : (r : CommitRecord) → get_or (record_bytes r) 0 0 ≡ 1

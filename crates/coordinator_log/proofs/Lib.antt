@@ -1,12 +1,10 @@
+mod Files
 mod OpenRecords
 mod Marks
 mod SlotWrites
-mod Heads
-mod SlotReads
 mod Agreement
 mod Blanks
 mod Loops
 mod Again
 mod Stops
-mod Results
 mod Wishes

@@ -1,13 +1,13 @@
 -- The slots of a log, in memory and on a disk.
-use Rattle.std.specs.Prelude.{◌≡◌, ◌⊎◌, ◌-◌, ◌==◌, ◌++◌, ℕ, suc, Bool, false, List, [], ◌∷◌, length, replicate, slice_index_or, take, map, set, Option, Some, None, Ok, Err}
-use Rattle.std.specs.List.{filter_map}
-use Rattle.outside.specs.Disk.{IsOnly}
+use Rattle.std.specs.Prelude.{◌-◌, ◌==◌, ◌++◌, ℕ, suc, Bool, false, List, [], ◌∷◌, length, replicate, Option, Some, None, Ok}
 use Rattle.dtx_values.specs.declared.record.LogRecord.{LogRecord}
 use Rattle.dtx_model.specs.Log.{CommitRecord, Slot, head, slots_of}
+use Rattle.slotted.specs.Slotted.{AgreesBy, HasSlotsBy, IsEitherBy, IsSlotBy, held_in}
+pub use Rattle.slotted.specs.Slotted.{formed}
 
 -- the records of the slots whose gates are open, in order of slots
 abbrev pub open_records : List (Option CommitRecord) → List CommitRecord
-open_records ss = filter_map (λ s. s) ss
+open_records ss = held_in ss
 
 -- the number of the lowest slot whose gate is closed, or how many slots there are where none is
 abbrev pub lowest_closed : List (Option CommitRecord) → ℕ
@@ -24,29 +24,22 @@ has_record_of id (Some r) = r.id == id
 abbrev pub with_closed : ℕ → List (Option LogRecord) → List (Option LogRecord)
 with_closed n ss = ss ++ replicate (n - length ss) None
 
--- a slot of the form that the log has
-abbrev pub formed : Option CommitRecord → Slot
-formed s = Ok s
-
 -- the disk's bytes are a log with these slots, and a crash leaves nothing else
-pub record Agrees (seen : List ℕ) (image : List ℕ → Type 0) (slots : List (Option CommitRecord)) : Type 0 where
-  pub at_head : take 512 seen ≡ head
-  pub on_disk : slots_of seen ≡ map formed slots
-  pub durable : IsOnly seen image
+abbrev pub Agrees : List ℕ → (List ℕ → Type 0) → List (Option CommitRecord) → Type 0
+Agrees seen image slots = AgreesBy head slots_of seen image slots
 
 -- the same head, and the slots are these
-pub record HasSlots (was : List ℕ) (held : List Slot) (now : List ℕ) : Type 0 where
-  pub same_head : take 512 now ≡ take 512 was
-  pub slots : slots_of now ≡ held
+abbrev pub HasSlots : List ℕ → List Slot → List ℕ → Type 0
+HasSlots was held now = HasSlotsBy slots_of was held now
 
 -- slot k is as before, or holds this; all else is as before
 abbrev pub IsEither : List ℕ → ℕ → Slot → List ℕ → Type 0
-IsEither was k s c = HasSlots was (slots_of was) c ⊎ HasSlots was (set (slots_of was) k s) c
+IsEither was k s c = IsEitherBy slots_of was k s c
 
 -- the gate of slot k is closed
 abbrev pub IsClosed : ℕ → List ℕ → Type 0
-IsClosed k b = slice_index_or (slots_of b) k (Err 0) ≡ Ok None
+IsClosed k b = IsSlotBy slots_of k (Ok None) b
 
 -- the gate of slot k is open, and a record comes after it
 abbrev pub IsOpen : ℕ → List ℕ → Type 0
-IsOpen k b = (r : CommitRecord) × (slice_index_or (slots_of b) k (Err 0) ≡ Ok (Some r))
+IsOpen k b = (r : CommitRecord) × IsSlotBy slots_of k (Ok (Some r)) b

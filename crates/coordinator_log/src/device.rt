@@ -11,11 +11,12 @@ ghost use Rattle.coordinator_log.specs.Stop.{BreaksOff, Counts, after_calls, at_
 ghost use Rattle.coordinator_log.specs.declared.stop.ArmedStop.{ArmedStop};
 
 use crate::law::records_are_read_again;
-use crate::layout::{CLOSED, LOG_BYTES, OPEN, RECORD_BYTES, SLOTS, slot_at};
+use crate::layout::{LOG_BYTES, SLOTS};
 use crate::stop::{ArmedStop, reached};
 use crate::writing::write_record;
 use dtx_values::LogRecord;
 use outside::{Disk, Failed, Image};
+use slotted::{CLOSED, OPEN, RECORD_BYTES, slot_at};
 
 /// A call that a fault of the disk or the armed stop broke off.
 #[derive(Clone, Copy, PartialEq, Eq, Debug)]

@@ -9,8 +9,8 @@ ghost use Rattle.coordinator_log.specs.Spelling.{record_bytes};
 ghost use Rattle.coordinator_log.specs.State.{LogState};
 ghost use Rattle.coordinator_log.specs.declared.refusal.LogRefusal.{LogRefusal};
 
-use crate::layout::RECORD_BYTES;
 use outside::Disk;
+use slotted::RECORD_BYTES;
 
 /// The law of the log: a crash leaves whole records, whatever breaks an append or a free off.
 ///

@@ -4,14 +4,7 @@
 //! leaves each image as before, or as after it: [`crashes_leave_whole_records`]. The layout and the order of the device calls are a definition of this project; the rule
 //! that no record means abort is presumed abort's.
 //!
-//! A log on a disk, 524,800 bytes:
-//!
-//!     0        512      1024     1536                524288    524800
-//!     +--------+--------+--------+--- .. ---+--------+
-//!     | head   | slot 0 | slot 1 |          | 1023   |
-//!     +--------+--------+--------+--- .. ---+--------+
-//!
-//! The head is `DTXLOG1`, LF and zeros. A slot, 512 bytes:
+//! A log on a disk is a slotted file of 524,800 bytes (see `slotted`): a head, and 1,024 slots. The head is `DTXLOG1`, LF and zeros. A slot, 512 bytes:
 //!
 //!     0      1        2       4            20            40            60 ..          511
 //!     +------+--------+-------+------------+-------------+-------------+--- .. ------+
@@ -25,7 +18,6 @@
 #![tactic(auto)]
 
 mod device;
-mod empty;
 mod law;
 mod layout;
 mod log;

@@ -13,14 +13,14 @@ ghost use Rattle.coordinator_log.specs.Stop.{BreaksOff, after_calls, is_done, is
 ghost use Rattle.coordinator_log.specs.declared.stop.ArmedStop.{ArmedStop};
 
 use crate::device::{clear, store};
-use crate::empty::{blank, zeros};
 use crate::layout::{LOG_BYTES, SLOTS};
-use crate::opening::read_all;
+use crate::opening::{log_head, read_all};
 use crate::refusal::LogRefusal;
 use crate::slots::Slots;
 use crate::stop::ArmedStop;
 use dtx_values::LogRecord;
 use outside::{Disk, Image, Relay};
+use slotted::{blank, zeros};
 use std::alloc::Global;
 use std::marker::Model;
 
@@ -77,7 +77,7 @@ impl<D: Disk> Log<D> {
             Ok(blanks) => blanks,
             Err(_) => return Err((LogRefusal::Memory, disk)),
         };
-        match blank(&mut disk, &blanks) {
+        match blank(&mut disk, &log_head(), &blanks) {
             Ok(()) => Ok(Log::over(disk, slots)),
             Err(_) => Err((LogRefusal::Fault, disk)),
         }

@@ -3,23 +3,23 @@ ghost use Rattle.std.specs.Prelude.{◌≡◌, ◌⊎◌, ◌≤◌, ◌<◌, �
 ghost use Rattle.std.specs.Option.{option_map};
 ghost use Rattle.outside.specs.Disk.{AreWithin};
 ghost use Rattle.outside.specs.Faults.{Rose};
-ghost use Rattle.dtx_model.specs.Log.{head, log_has, record_of, same_at, slot_at, slots_of};
+ghost use Rattle.dtx_model.specs.Log.{head, log_has, record_at, record_of, slots_of};
+ghost use Rattle.slotted.specs.Reading.{IsReadAs};
+ghost use Rattle.slotted.specs.Slotted.{gated};
 ghost use Rattle.coordinator_log.specs.Slots.{formed};
-ghost use Rattle.coordinator_log.specs.Spelling.{IsReadAs};
 
-use crate::empty::written_head;
-use crate::layout::{HEAD_BYTES, LOG_BYTES, OPEN, SLOT_BYTES, SLOTS, slot_at};
+use crate::layout::{LETTERS, LOG_BYTES, SLOTS};
 use crate::reading::read_record;
 use crate::refusal::LogRefusal;
 use crate::slots::Slots;
 use dtx_values::LogRecord;
 use outside::Disk;
+use slotted::{HEAD_BYTES, OPEN, SLOT_BYTES, same, slot_at, written_head};
 
 // The record of a slot, or none where its gate is closed; or the first place in it of another form.
-#[tactic(auto, unfolding(dtx_model::specs::Log::slot_at))]
 fn read_slot(b: &[u8]) -> Result<Option<LogRecord>, usize>
     requires { length b.now ≡ SLOT_BYTES }
-    ensures slot { IsReadAs (option_map record_of) result (slot_at b.now) }
+    ensures slot { IsReadAs (option_map record_of) result (gated record_at b.now) }
     ensures place { IfErr result (λ p. p < SLOT_BYTES) }
 {
     if b[0] != OPEN {
@@ -32,18 +32,12 @@ fn read_slot(b: &[u8]) -> Result<Option<LogRecord>, usize>
     }
 }
 
-// Their number where the bytes are those that are wanted, or the first place where they differ.
-fn same(want: &[u8], b: &[u8]) -> Result<usize, usize>
-    requires { length want.now ≡ length b.now }
-    ensures place { IfErr result (λ p. p < length b.now) }
-    ensures same { IsReadAs (λ n. n) result (same_at 0 want.now b.now) }
+/// The bytes that a log begins with.
+#[tactic(auto, unfolding(dtx_model::specs::Log::head))]
+pub fn log_head() -> [u8; HEAD_BYTES]
+    ensures { result ≡ head }
 {
-    for (i, x) in b.iter().enumerate() {
-        if want[i] != *x {
-            return Err(i);
-        }
-    }
-    Ok(b.len())
+    written_head(LETTERS)
 }
 
 /// Reads the head and each slot of a log.
@@ -67,7 +61,7 @@ pub fn read_all<D: Disk>(disk: &mut D, slots: &mut Slots) -> Result<(), LogRefus
     ensures grows { D.faults disk.old ≤ D.faults disk.new }
 {
     let mut block = [0; SLOT_BYTES];
-    let wanted = written_head();
+    let wanted = log_head();
     disk.read(0, &mut block)?;
     match same(&wanted, &block) {
         Ok(_) => (),

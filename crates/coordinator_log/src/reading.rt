@@ -1,13 +1,12 @@
 //! Reads records.
 ghost use Rattle.std.specs.Prelude.{◌≡◌, ◌≤◌, ◌<◌, ◌+◌, ◌*◌, length, map, take, IfErr, IfOk};
 ghost use Rattle.dtx_values.specs.RecoveryInfo.{pair_of};
-ghost use Rattle.dtx_model.specs.Log.{count_at, pair_at, pairs_at, record_at, record_of, zeros_at};
-ghost use Rattle.coordinator_log.specs.Spelling.{IsReadAs};
+ghost use Rattle.dtx_model.specs.Log.{count_at, pair_at, pairs_at, record_at, record_of};
+ghost use Rattle.slotted.specs.Reading.{IsReadAs};
 
-use crate::layout::{
-    COUNT, FIRST_PAIR, FORMAT, IDENTIFIER, PAIR_BYTES, PAIRS, RECORD_BYTES, SLOT_BYTES,
-};
+use crate::layout::{COUNT, FIRST_PAIR, FORMAT, IDENTIFIER, PAIR_BYTES, PAIRS};
 use dtx_values::{EnlNo, LogRecord, RmNo, read_identifier, read_pair};
+use slotted::{RECORD_BYTES, SLOT_BYTES, read_zeros};
 
 /// The record whose bytes come after an open gate, or the first place in the slot, from 1, of another form.
 #[tactic(auto, unfolding(dtx_model::specs::Log::record_at))]
@@ -30,7 +29,7 @@ pub fn read_record(b: &[u8]) -> Result<LogRecord, usize>
     };
     let (_, pairs) = b.split_at(FIRST_PAIR);
     let (r, rest) = read_pairs(id, n, pairs)?;
-    zeros(rest, 1 + FIRST_PAIR + PAIR_BYTES * n)?;
+    read_zeros(rest, 1 + FIRST_PAIR + PAIR_BYTES * n)?;
     Ok(r)
 }
 
@@ -66,22 +65,6 @@ fn pair_in_slot(b: &[u8], place: usize) -> Result<(RmNo, EnlNo), usize>
         Ok(pair) => Ok(pair),
         Err(p) => Err(place + usize::from(p)),
     }
-}
-
-/// The end of zeros that begin at this place, or the place of the first other byte.
-fn zeros(b: &[u8], at: usize) -> Result<usize, usize>
-    requires { at + length b.now ≤ 1000 }
-    ensures zeros { IsReadAs (λ x. x) result (zeros_at at b.now) }
-    ensures place { IfErr result (λ p. p < at + length b.now) }
-{
-    let mut place = at;
-    for x in b {
-        if *x != 0 {
-            return Err(place);
-        }
-        place += 1;
-    }
-    Ok(place)
 }
 
 /// The number in the 2 bytes from this place on, the lowest first.

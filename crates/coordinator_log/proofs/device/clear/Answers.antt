@@ -1,27 +1,29 @@
 use Rattle.std.proofs.Common.{inl, inr, ℕ, ◌+◌, length, refl, arith, ◌≤◌, subst, ◌∙◌, Some, ap}
 use Rattle.outside.specs.Faults.{Rose}
 use Rattle.outside.specs.Images.{wished}
-use Rattle.coordinator_log.proofs.Results.{on_err}
+use Rattle.slotted.proofs.Results.{on_err}
+use Rattle.slotted.proofs.SlotWrites.{along, clear_stage, cleared_stage, same_bytes}
+use Rattle.coordinator_log.proofs.Files.{log_reads}
 use Rattle.coordinator_log.proofs.Stops.{breaks_at, done_at, done_first, none_passed, passed_more, reached_next, still_armed}
-use Rattle.coordinator_log.proofs.SlotWrites.{along, by_test, clear_stage, cleared_stage, gate_stopped, same_bytes, unless_fault}
+use Rattle.coordinator_log.proofs.SlotWrites.{by_test, gate_stopped, unless_fault}
 use Rattle.coordinator_log.proofs.Wishes.{clear_wished, synced_same, unless_rose}
 use Rattle.coordinator_log.proofs.device.clear.Goals as goal
 
 pub returns-in_err-write-clause-images : goal.returns-in_err-write-clause-images
-returns-in_err-write-clause-images g c h only is_open f left = clear_stage c.args.k _ _ _ _ c.requires.slot c.slot_at-gate.ensures is_open only (c.write.ensures.images h) f left
+returns-in_err-write-clause-images g c h only is_open f left = clear_stage log_reads c.args.k _ _ _ _ c.requires.slot c.slot_at-gate.ensures is_open only (c.write.ensures.images h) f left
 
 pub returns-in_err-sync-clause-images : goal.returns-in_err-sync-clause-images
-returns-in_err-sync-clause-images g c h only is_open f left = clear_stage c.args.k _ _ _ _ c.requires.slot c.slot_at-gate.ensures is_open only (c.write.ensures.images h) f (c.sync.ensures.images h f left)
+returns-in_err-sync-clause-images g c h only is_open f left = clear_stage log_reads c.args.k _ _ _ _ c.requires.slot c.slot_at-gate.ensures is_open only (c.write.ensures.images h) f (c.sync.ensures.images h f left)
 
 pub returns-clause-images : goal.returns-clause-images
-returns-clause-images g c h only is_open f left = clear_stage c.args.k _ _ _ _ c.requires.slot c.slot_at-gate.ensures is_open only (c.write.ensures.images h) f (c.sync.ensures.images h f left)
+returns-clause-images g c h only is_open f left = clear_stage log_reads c.args.k _ _ _ _ c.requires.slot c.slot_at-gate.ensures is_open only (c.write.ensures.images h) f (c.sync.ensures.images h f left)
 
 pub returns-clause-done : goal.returns-clause-done
 returns-clause-done g c h only is_open =
     let b = g.D.Disk.seen c.args.disk.now in
     let gate = c.slot_at-gate.result in
     let room : gate + 1 ≤ length b = omega (arith, g.met.D.Disk.long c.args.disk.now b h (g.met.D.Disk.sees c.args.disk.now h), c.requires.size, c.requires.slot, c.slot_at-gate.ensures) in
-    along b _ _ _ (c.in_ok-sync.ensures.seen h) (cleared_stage c.args.k gate b _ c.requires.slot c.slot_at-gate.ensures (c.in_ok-write.ensures.done h) room)
+    along b _ _ _ (c.in_ok-sync.ensures.seen h) (cleared_stage log_reads c.args.k gate b _ c.requires.slot c.slot_at-gate.ensures (c.in_ok-write.ensures.done h) room)
 
 pub returns-in_err-sync-clause-broken : goal.returns-in_err-sync-clause-broken
 returns-in_err-sync-clause-broken g c =
@@ -36,7 +38,7 @@ returns-in_err-write-clause-crashed g c h only is_open s is none =
     let at = reached_next 0 s _ _ _ (none_passed _) c.write.ensures.counts.counted is none in
     let left = c.write.ensures.crashed h s.image at.0 in
     let room : gate + 1 ≤ length b = omega (arith, g.met.D.Disk.long c.args.disk.now b h (g.met.D.Disk.sees c.args.disk.now h), c.requires.size, c.requires.slot, c.slot_at-gate.ensures) in
-    let cleared = cleared_stage c.args.k gate b _ c.requires.slot c.slot_at-gate.ensures refl room in
+    let cleared = cleared_stage log_reads c.args.k gate b _ c.requires.slot c.slot_at-gate.ensures refl room in
     (left.0, left.1, unless_fault (λ e. by_test _ _ b _ _ _ (done_at 1 0 s at.1) (gate_stopped s.image 0 b b _ gate _ _ _ e (same_bytes b b refl) cleared)) left.2)
 
 pub returns-in_err-sync-clause-crashed : goal.returns-in_err-sync-clause-crashed
@@ -46,7 +48,7 @@ returns-in_err-sync-clause-crashed g c h only is_open s is none =
     let at = reached_next 1 s _ _ _ (passed_more 0 _ _ _ (none_passed _) c.in_ok-write.ensures.counts.passed c.write.ensures.counts.counted) c.sync.ensures.counts.counted is none in
     let left = c.sync.ensures.crashed h s.image at.0 in
     let room : gate + 1 ≤ length b = omega (arith, g.met.D.Disk.long c.args.disk.now b h (g.met.D.Disk.sees c.args.disk.now h), c.requires.size, c.requires.slot, c.slot_at-gate.ensures) in
-    let cleared = cleared_stage c.args.k gate b _ c.requires.slot c.slot_at-gate.ensures (c.in_ok-write.ensures.done h) room in
+    let cleared = cleared_stage log_reads c.args.k gate b _ c.requires.slot c.slot_at-gate.ensures (c.in_ok-write.ensures.done h) room in
     (left.0, left.1, inr (by_test _ _ b _ _ _ (done_first 1 s (omega (arith, at.1))) (along b _ _ _ left.2 cleared)))
 
 pub returns-clause-crashed : goal.returns-clause-crashed
@@ -62,7 +64,7 @@ returns-in_err-sync-clause-kept g c h only is_open s is none second keep =
     let gate = c.slot_at-gate.result in
     let at = reached_next 1 s _ _ _ (passed_more 0 _ _ _ (none_passed _) c.in_ok-write.ensures.counts.passed c.write.ensures.counts.counted) c.sync.ensures.counts.counted is none in
     let room : gate + 1 ≤ length b = omega (arith, g.met.D.Disk.long c.args.disk.now b h (g.met.D.Disk.sees c.args.disk.now h), c.requires.size, c.requires.slot, c.slot_at-gate.ensures) in
-    let cleared = cleared_stage c.args.k gate b _ c.requires.slot c.slot_at-gate.ensures (c.in_ok-write.ensures.done h) room in
+    let cleared = cleared_stage log_reads c.args.k gate b _ c.requires.slot c.slot_at-gate.ensures (c.in_ok-write.ensures.done h) room in
     elim (c.sync.ensures.kept h (at.0 ∙ ap Some keep)) [
       | inl rose ↦ inl (subst (λ (n : ℕ). Rose n (g.D.Disk.faults c.sync.new.disk)) c.in_ok-write.ensures.counts.smooth rose)
       | inr alone ↦ inr (λ f on. along b _ f _ (alone f on) cleared)

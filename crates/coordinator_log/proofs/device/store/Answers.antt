@@ -3,13 +3,15 @@ use Rattle.std.specs.Prelude.{IsTrue}
 use Rattle.outside.specs.Disk.{IsOnly}
 use Rattle.outside.specs.Faults.{Rose}
 use Rattle.outside.specs.Images.{AreSame, after_write, wished}
-use Rattle.dtx_model.specs.Log.{record_of, slots_of}
+use Rattle.dtx_model.specs.Log.{record_at, record_of, slots_of}
+use Rattle.slotted.proofs.Results.{on_err}
+use Rattle.slotted.proofs.SlotWrites.{IsBehindBy, along, body_stage, done_stage, gate_stage, written_behind}
 use Rattle.coordinator_log.specs.Slots.{HasSlots, IsClosed, IsEither}
 use Rattle.coordinator_log.specs.Stop.{is_found_after_append}
 use Rattle.coordinator_log.specs.declared.stop.ArmedStop.{ArmedStop}
-use Rattle.coordinator_log.proofs.Results.{on_err}
+use Rattle.coordinator_log.proofs.Files.{log_reads}
 use Rattle.coordinator_log.proofs.Stops.{HasPassed, breaks_at, done_at, done_first, none_passed, passed_more, reached_next, still_armed, undone}
-use Rattle.coordinator_log.proofs.SlotWrites.{IsBehind, along, body_stage, body_stopped, by_test, done_stage, gate_stage, gate_stopped, unless_fault, written_behind}
+use Rattle.coordinator_log.proofs.SlotWrites.{body_stopped, by_test, gate_stopped, unless_fault}
 use Rattle.coordinator_log.proofs.Wishes.{body_wished, gate_wished, not_yet, synced_same, unless_rose}
 use Rattle.coordinator_log.proofs.device.store.Given.{Over}
 use Rattle.coordinator_log.proofs.device.store.Goals.{After-write, After-sync, After-write-2, After-sync-2}
@@ -31,22 +33,22 @@ room g c h = let b = g.D.Disk.seen c.args.disk.now in omega (arith, g.met.D.Disk
 unwritten : (g : Over) (c : After-write g) → IsTrue g.D.Disk.honest → IsOnly (g.D.Disk.seen c.args.disk.now) (g.D.Disk.image c.args.disk.now) → IsClosed c.args.k (g.D.Disk.seen c.args.disk.now) → (f : List ℕ)
     → g.D.Disk.image c.write.new.disk f → HasSlots (g.D.Disk.seen c.args.disk.now) (slots_of (g.D.Disk.seen c.args.disk.now)) f
 unwritten g c h only closed f left =
-    body_stage c.args.k (c.slot_at-gate.result + 1) (length c.write_record.new.into) (g.D.Disk.seen c.args.disk.now) _ _ c.requires.slot (place g c) (long g c) closed only (c.write.ensures.images h) f left
+    body_stage log_reads c.args.k (c.slot_at-gate.result + 1) (length c.write_record.new.into) (g.D.Disk.seen c.args.disk.now) _ _ c.requires.slot (place g c) (long g c) closed only (c.write.ensures.images h) f left
 
 -- then it is safe behind the closed gate
 behind : (g : Over) (c : After-write-2 g) → c.slot_at-gate.result + 1 ≡ 513 + 512 * c.args.k → length c.write_record.new.into ≡ 511 → 524800 ≤ length (g.D.Disk.seen c.args.disk.now) → IsTrue g.D.Disk.honest
-    → IsClosed c.args.k (g.D.Disk.seen c.args.disk.now) → IsBehind c.args.k (record_of c.args.r.now) (g.D.Disk.seen c.args.disk.now) (g.D.Disk.seen c.sync.new.disk)
+    → IsClosed c.args.k (g.D.Disk.seen c.args.disk.now) → IsBehindBy record_at slots_of c.args.k (record_of c.args.r.now) (g.D.Disk.seen c.args.disk.now) (g.D.Disk.seen c.sync.new.disk)
 behind g c at many space h closed =
-    written_behind c.args.k (c.slot_at-gate.result + 1) (g.D.Disk.seen c.args.disk.now) (g.D.Disk.seen c.sync.new.disk) c.write_record.new.into (record_of c.args.r.now) c.requires.slot at closed space
-    (c.in_ok-sync.ensures.seen h ∙ c.in_ok-write.ensures.done h) c.write_record.ensures many (c.records_are_read_again.ensures.again c.args.r.now c.requires.valid)
+    written_behind log_reads c.args.k (c.slot_at-gate.result + 1) (g.D.Disk.seen c.args.disk.now) (g.D.Disk.seen c.sync.new.disk) c.write_record.new.into (record_of c.args.r.now) c.requires.slot at closed space
+    (c.in_ok-sync.ensures.seen h ∙ c.in_ok-write.ensures.done h) many (ap record_at c.write_record.ensures ∙ c.records_are_read_again.ensures.again c.args.r.now c.requires.valid)
 
 -- while the gate is written the slot is as before, or holds the record
-halfway : (g : Over) (c : After-write-2 g) → IsBehind c.args.k (record_of c.args.r.now) (g.D.Disk.seen c.args.disk.now) (g.D.Disk.seen c.sync.new.disk) → IsTrue g.D.Disk.honest
+halfway : (g : Over) (c : After-write-2 g) → IsBehindBy record_at slots_of c.args.k (record_of c.args.r.now) (g.D.Disk.seen c.args.disk.now) (g.D.Disk.seen c.sync.new.disk) → IsTrue g.D.Disk.honest
     → IsClosed c.args.k (g.D.Disk.seen c.args.disk.now) → (f : List ℕ) → g.D.Disk.image c.write-2.new.disk f → IsEither (g.D.Disk.seen c.args.disk.now) c.args.k (Ok (Some (record_of c.args.r.now))) f
 halfway g c safe h closed f left =
     let b1 = g.D.Disk.seen c.sync.new.disk in
     let only : IsOnly b1 (g.D.Disk.image c.sync.new.disk) = λ e on. c.in_ok-sync.ensures.done h e on ∙ sym (c.in_ok-sync.ensures.seen h) in
-    gate_stage c.args.k c.requires.slot (g.D.Disk.seen c.args.disk.now) b1 (record_of c.args.r.now) closed safe c.slot_at-gate.result _ _ c.slot_at-gate.ensures only (c.write-2.ensures.images h) f left
+    gate_stage log_reads c.args.k c.requires.slot (g.D.Disk.seen c.args.disk.now) b1 (record_of c.args.r.now) closed safe c.slot_at-gate.result _ _ c.slot_at-gate.ensures only (c.write-2.ensures.images h) f left
 
 -- the gate is on the disk
 within : (g : Over) (c : After-write-2 g) → IsTrue g.D.Disk.honest → c.slot_at-gate.result + 1 ≤ length (g.D.Disk.seen c.sync.new.disk)
@@ -55,11 +57,11 @@ within g c h =
     omega (arith, g.met.D.Disk.long c.sync.new.disk b1 h (g.met.D.Disk.sees c.sync.new.disk h), c.requires.size, c.sync.ensures.counts.size, c.write.ensures.counts.size, c.requires.slot, c.slot_at-gate.ensures)
 
 -- once it is written the slot holds the record
-stored : (g : Over) (c : After-sync-2 g) → IsBehind c.args.k (record_of c.args.r.now) (g.D.Disk.seen c.args.disk.now) (g.D.Disk.seen c.sync.new.disk) → c.slot_at-gate.result + 1 ≤ length (g.D.Disk.seen c.sync.new.disk)
+stored : (g : Over) (c : After-sync-2 g) → IsBehindBy record_at slots_of c.args.k (record_of c.args.r.now) (g.D.Disk.seen c.args.disk.now) (g.D.Disk.seen c.sync.new.disk) → c.slot_at-gate.result + 1 ≤ length (g.D.Disk.seen c.sync.new.disk)
     → IsTrue g.D.Disk.honest → IsClosed c.args.k (g.D.Disk.seen c.args.disk.now)
     → HasSlots (g.D.Disk.seen c.args.disk.now) (set (slots_of (g.D.Disk.seen c.args.disk.now)) c.args.k (Ok (Some (record_of c.args.r.now)))) (g.D.Disk.seen c.write-2.new.disk)
 stored g c safe ready h closed =
-    done_stage c.args.k c.requires.slot (g.D.Disk.seen c.args.disk.now) (g.D.Disk.seen c.sync.new.disk) (record_of c.args.r.now) closed safe c.slot_at-gate.result _ c.slot_at-gate.ensures (c.in_ok-write-2.ensures.done h) ready
+    done_stage log_reads c.args.k c.requires.slot (g.D.Disk.seen c.args.disk.now) (g.D.Disk.seen c.sync.new.disk) (record_of c.args.r.now) closed safe c.slot_at-gate.result _ c.slot_at-gate.ensures (c.in_ok-write-2.ensures.done h) ready
 
 -- so many calls passed
 one : (g : Over) (c : After-sync g) → HasPassed 1 c.args.armed.now c.write.new.armed
@@ -141,8 +143,8 @@ returns-in_err-sync-clause-crashed g c h only closed s is none =
     let at = reached_next 1 s _ _ _ (one g to.After-sync) c.sync.ensures.counts.counted is none in
     let left = c.sync.ensures.crashed h s.image at.0 in
     let safe =
-    written_behind c.args.k (c.slot_at-gate.result + 1) was _ c.write_record.new.into (record_of c.args.r.now) c.requires.slot (place g to.After-write) closed (room g to.After-write h)
-    (left.2 ∙ c.in_ok-write.ensures.done h) c.write_record.ensures (long g to.After-write) (c.records_are_read_again.ensures.again c.args.r.now c.requires.valid) in
+    written_behind log_reads c.args.k (c.slot_at-gate.result + 1) was _ c.write_record.new.into (record_of c.args.r.now) c.requires.slot (place g to.After-write) closed (room g to.After-write h)
+    (left.2 ∙ c.in_ok-write.ensures.done h) (long g to.After-write) (ap record_at c.write_record.ensures ∙ c.records_are_read_again.ensures.again c.args.r.now c.requires.valid) in
     (left.0, left.1, inr (by_test _ false was _ _ _ (undone 3 s (omega (arith, at.1))) safe.same))
 
 pub returns-in_err-write-2-clause-crashed : goal.returns-in_err-write-2-clause-crashed
@@ -153,7 +155,7 @@ returns-in_err-write-2-clause-crashed g c h only closed s is none =
     let safe = behind g to.After-write-2 (place g to.After-write) (long g to.After-write) (room g to.After-write h) h closed in
     let at = reached_next 2 s _ _ _ (two g to.After-write-2 (one g to.After-sync)) c.write-2.ensures.counts.counted is none in
     let left = c.write-2.ensures.crashed h s.image at.0 in
-    let done = done_stage c.args.k c.requires.slot was b1 (record_of c.args.r.now) closed safe c.slot_at-gate.result _ c.slot_at-gate.ensures refl (within g to.After-write-2 h) in (
+    let done = done_stage log_reads c.args.k c.requires.slot was b1 (record_of c.args.r.now) closed safe c.slot_at-gate.result _ c.slot_at-gate.ensures refl (within g to.After-write-2 h) in (
       left.0,
       left.1,
       elim left.2 [
@@ -217,7 +219,7 @@ body_left g c o same closed s few =
     (room g c (g.met.D.Disk.tells o)) (long g c) (g.met.D.Disk.kept c.args.disk.now o) same)
 
 -- whatever is wished after the write of the gate, the record is found where the stop says so
-gate_left : (g : Over) (c : After-write-2 g) → IsBehind c.args.k (record_of c.args.r.now) (g.D.Disk.seen c.args.disk.now) (g.D.Disk.seen c.sync.new.disk) → IsTrue g.D.Disk.obeys
+gate_left : (g : Over) (c : After-write-2 g) → IsBehindBy record_at slots_of c.args.k (record_of c.args.r.now) (g.D.Disk.seen c.args.disk.now) (g.D.Disk.seen c.sync.new.disk) → IsTrue g.D.Disk.obeys
     → IsClosed c.args.k (g.D.Disk.seen c.args.disk.now) → (s : ArmedStop) → 2 ≤ s.passes
     → HasSlots (g.D.Disk.seen c.args.disk.now) (cond (is_found_after_append s.image s.passes) (set (slots_of (g.D.Disk.seen c.args.disk.now)) c.args.k (Ok (Some (record_of c.args.r.now)))) (slots_of (g.D.Disk.seen c.args.disk.now)))
     (wished s.image (after_write c.slot_at-gate.result (1 ∷ []) (g.D.Disk.images c.sync.new.disk)))

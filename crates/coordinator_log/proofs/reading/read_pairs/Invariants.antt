@@ -1,7 +1,7 @@
 use Rattle.std.proofs.Common.{◌≡◌, ◌+◌, ◌-◌, ◌*◌, length, take, map}
 use Rattle.dtx_values.specs.RecoveryInfo.{pair_of}
 use Rattle.dtx_model.specs.Log.{pairs_at}
-use Rattle.coordinator_log.proofs.Loops.{with_front}
+use Rattle.slotted.proofs.Fronts.{with_front}
 use Rattle.coordinator_log.proofs.reading.read_pairs.Given as goal
 
 abbrev pub invariant-loop-i : goal.invariant-loop-i

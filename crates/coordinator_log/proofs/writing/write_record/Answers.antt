@@ -6,8 +6,10 @@ use Rattle.dtx_values.specs.declared.number.EnlNo.{EnlNo}
 use Rattle.dtx_values.specs.declared.number.RmNo.{RmNo}
 use Rattle.dtx_values.specs.RecoveryInfo.{pair_bytes, pair_of}
 use Rattle.dtx_model.specs.Log.{record_of}
+use Rattle.slotted.proofs.Heads.{whole_of}
+use Rattle.slotted.proofs.SlotWrites.{drop_less}
 use Rattle.coordinator_log.specs.Spelling.{front_bytes, record_bytes}
-use Rattle.coordinator_log.proofs.Loops.{join_three, rest_more, pair_more, whole_of}
+use Rattle.coordinator_log.proofs.Loops.{join_three, pair_more}
 use Rattle.coordinator_log.proofs.writing.write_record.Goals as goal
 
 pub loop-i-init : goal.loop-i-init
@@ -35,7 +37,7 @@ loop-i-preserved c =
       front = c.put-in-loop-i.ensures.front n (omega arith) ∙ ap (λ (l : List ℕ). take (19 + 20 * i) c.loop-i.into ++ l) c.write_pair-bytes.ensures
           ∙ ap (λ (l : List ℕ). l ++ pair_bytes (pair_of c.index-pairs-i.result)) c.loop-i.invariant.front ∙ pair
           ∙ pair_more f ps i c.index-pairs-i.result c.loop-i-test.true;
-      rest = c.put-in-loop-i.ensures.rest n (omega arith) ∙ rest_more c.loop-i.into _ (19 + 20 * i) n (omega arith) c.loop-i.invariant.rest;
+      rest = c.put-in-loop-i.ensures.rest n (omega arith) ∙ drop_less (19 + 20 * i) n c.loop-i.into _ (omega arith) c.loop-i.invariant.rest;
       long = omega arith;
     }
 

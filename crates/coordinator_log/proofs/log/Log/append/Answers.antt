@@ -2,9 +2,11 @@ use Rattle.std.proofs.Common.{◌≡◌, ◌<◌, refl, arith, inl, true, sym, a
 use Rattle.std.specs.Prelude.{IsTrue, is_ok}
 use Rattle.std.specs.List.{insert}
 use Rattle.dtx_model.specs.Log.{CommitRecord, log_has, record_of}
+use Rattle.slotted.proofs.Results.{after_err}
+use Rattle.slotted.proofs.SlotReads.{agrees_with, either_whole, file_agrees, file_either, file_with, slot_formed}
 use Rattle.coordinator_log.specs.Slots.{Agrees, IsClosed, open_records}
-use Rattle.coordinator_log.proofs.Agreement.{insert_lowest, slot_formed, log_either, log_by_test, log_with, all_appended, either_appended, agrees_with, log_agrees, either_whole}
-use Rattle.coordinator_log.proofs.Results.{after_err}
+use Rattle.coordinator_log.proofs.Agreement.{insert_lowest, log_by_test, all_appended, either_appended}
+use Rattle.coordinator_log.proofs.Files.{log_file}
 use Rattle.coordinator_log.proofs.SlotWrites.{unless_fault}
 use Rattle.coordinator_log.proofs.Stops.{image_kept, used_up}
 use Rattle.coordinator_log.proofs.log.Log.append.Given.{Over}
@@ -17,19 +19,19 @@ inside g c = let s = c.in-Some.ensures.some in omega (arith, s.0, c.in-Some.ensu
 
 -- it is closed on a disk that tells what it holds
 closed : (g : Over) (c : After-store g) → IsTrue g.D.Disk.honest → IsClosed c.in-Some.k (g.D.Disk.seen c.self.inside.disk)
-closed g c h = slot_formed _ _ c.self.inside.slots (c.self.invariant.agrees h c.if-not-self.false) c.in-Some.k (inside g c) None c.in-Some.ensures.some.1
+closed g c h = slot_formed log_file _ _ c.self.inside.slots (c.self.invariant.agrees h c.if-not-self.false) c.in-Some.k (inside g c) None c.in-Some.ensures.some.1
 
 -- whatever is left there is a log
 whole : (g : Over) (c : After-store g) → IsTrue g.D.Disk.honest → (f : List ℕ) → g.D.Disk.image c.store.new.disk f → is_ok (log_has f) ≡ true
 whole g c h f left =
     let a = c.self.invariant.agrees h c.if-not-self.false in
-    either_whole _ _ _ (log_either _ _ c.self.inside.slots a c.in-Some.k (inside g c) (Some (record_of c.args.r.now)) _ f refl (c.store.ensures.images h a.durable (closed g c h) f left))
+    either_whole _ _ _ (file_either log_file _ _ c.self.inside.slots a c.in-Some.k (inside g c) (Some (record_of c.args.r.now)) _ f refl (c.store.ensures.images h a.durable (closed g c h) f left))
 
 pub returns-then-not-self-clause-images : goal.returns-then-not-self-clause-images
-returns-then-not-self-clause-images g c = rw (← c.self.view_is) (λ h up. record { images = λ f left. inl (log_agrees _ _ _ (c.self.invariant.agrees h up) f left); durable = tt })
+returns-then-not-self-clause-images g c = rw (← c.self.view_is) (λ h up. record { images = λ f left. inl (file_agrees log_file _ _ _ (c.self.invariant.agrees h up) f left); durable = tt })
 
 pub returns-in_default-clause-images : goal.returns-in_default-clause-images
-returns-in_default-clause-images g c = rw (← c.self.view_is) (λ h up. record { images = λ f left. inl (log_agrees _ _ _ (c.self.invariant.agrees h up) f left); durable = tt })
+returns-in_default-clause-images g c = rw (← c.self.view_is) (λ h up. record { images = λ f left. inl (file_agrees log_file _ _ _ (c.self.invariant.agrees h up) f left); durable = tt })
 
 pub returns-in_err-store-clause-images : goal.returns-in_err-store-clause-images
 returns-in_err-store-clause-images g c =
@@ -67,7 +69,7 @@ invariant_of-self-2 g c = record {
       let b = (goal.at.invariant_of-self-2 g c).After-store in
       let a = c.self.invariant.agrees h c.if-not-self.false in
       subst (λ (l : List (Option CommitRecord)). Agrees (g.D.Disk.seen c.store.new.disk) (g.D.Disk.image c.store.new.disk) l) (sym c.set.ensures.slots)
-      (agrees_with _ _ c.self.inside.slots a c.in-Some.k (inside g b) (Some (record_of c.args.r.now)) _ _ (c.in_ok-store.ensures.done h a.durable (closed g b h)) (c.in_ok-store.ensures.durable h));
+      (agrees_with log_file _ _ c.self.inside.slots a c.in-Some.k (inside g b) (Some (record_of c.args.r.now)) _ _ (c.in_ok-store.ensures.done h a.durable (closed g b h)) (c.in_ok-store.ensures.durable h));
   synced = λ o up. c.in_ok-store.ensures.synced o;
   whole = whole g (goal.at.invariant_of-self-2 g c).After-store;
   room = let kept = c.self.invariant.room in omega (arith, kept, c.store.ensures.size);
@@ -82,8 +84,8 @@ pub returns-clause-durable : goal.returns-clause-durable
 returns-clause-durable g c h f left =
     let b = (goal.at.returns-clause-durable g c).After-store in
     let a = c.self.invariant.agrees h c.if-not-self.false in
-    log_agrees _ _ _
-    (agrees_with _ _ c.self.inside.slots a c.in-Some.k (inside g b) (Some (record_of c.args.r.now)) _ _ (c.in_ok-store.ensures.done h a.durable (closed g b h)) (c.in_ok-store.ensures.durable h)) f left
+    file_agrees log_file _ _ _
+    (agrees_with log_file _ _ c.self.inside.slots a c.in-Some.k (inside g b) (Some (record_of c.args.r.now)) _ _ (c.in_ok-store.ensures.done h a.durable (closed g b h)) (c.in_ok-store.ensures.durable h)) f left
     ∙ ap (λ (l : List (Option CommitRecord)). Ok (open_records l)) (sym c.set.ensures.slots)
 
 pub returns-clause-images : goal.returns-clause-images
@@ -117,7 +119,7 @@ returns-in_err-store-clause-kept g c =
     rw (← c.self.view_is)
     (λ h up stop is none third keep. let a = c.self.invariant.agrees h up in
     let new = insert_lowest ss k r c.in-Some.ensures.some.2 (inside g b) ∙ ap (λ (j : ℕ). insert (open_records ss) j r) (sym c.in-Some.ensures.some.2) in
-    unless_fault (λ has f on. log_with _ _ ss a k (inside g b) (Some r) f (has f on) ∙ ap (λ (l : List CommitRecord). Ok l) new)
+    unless_fault (λ has f on. file_with log_file _ _ ss a k (inside g b) (Some r) f (has f on) ∙ ap (λ (l : List CommitRecord). Ok l) new)
     (c.store.ensures.kept h a.durable (closed g b h) stop is none third keep))
 
 pub returns-in_err-store-clause-found : goal.returns-in_err-store-clause-found

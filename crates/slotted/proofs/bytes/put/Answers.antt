@@ -1,6 +1,6 @@
 use Rattle.std.proofs.Common.{arith, ◌+◌, ◌-◌, length}
 use Rattle.std.proofs.lemmas.Slice.{drop-put_mid}
-use Rattle.coordinator_log.proofs.writing.put.Goals as goal
+use Rattle.slotted.proofs.bytes.put.Goals as goal
 
 pub returns-clause-rest : goal.returns-clause-rest
 returns-clause-rest c n e =

@@ -1,6 +1,6 @@
 use Rattle.std.proofs.Common.{arith}
-use Rattle.coordinator_log.proofs.Loops.{zero_found, zero_passed, zeros_done}
-use Rattle.coordinator_log.proofs.reading.zeros.Goals as goal
+use Rattle.slotted.proofs.Heads.{zero_found, zero_passed, zeros_done}
+use Rattle.slotted.proofs.bytes.read_zeros.Goals as goal
 
 pub returns-then-x-ne0-clause-zeros : goal.returns-then-x-ne0-clause-zeros
 returns-then-x-ne0-clause-zeros c = zero_found _ _ _ _ c.loop-x-test.true c.if-x-ne0.true c.loop-x.invariant.rest

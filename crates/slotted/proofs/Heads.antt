@@ -1,10 +1,10 @@
--- The head of a log, and bytes that are compared with it.
+-- The head of a slotted file, and bytes that are compared with it.
 use Rattle.std.specs.Prelude.{replicate}
-use Rattle.std.proofs.Common.{◌≡◌, ℕ, ◌+◌, ◌≤◌, ◌<◌, Bool, true, false, cond, eqb, List, [], ◌∷◌, ◌++◌, length, get_or, take, drop, Result, Ok, Err, refl, sym, ap, ◌∙◌, inl, inr, arith}
+use Rattle.std.proofs.Common.{◌≡◌, ℕ, zero, suc, ◌-◌, ◌+◌, ◌≤◌, ◌<◌, Bool, true, false, cond, eqb, List, [], ◌∷◌, ◌++◌, length, get_or, take, drop, Result, Ok, Err, refl, sym, ap, ◌∙◌, inl, inr, arith}
 use Rattle.std.proofs.lemmas.Bool.{cases_eq}
 use Rattle.std.proofs.lemmas.Bool.Decides.{nat_tests}
 use Rattle.std.proofs.lemmas.List.{drop_more, drop_all, drop-replicate, take-append-drop}
-use Rattle.dtx_model.specs.Log.{same_at, log_has, head}
+use Rattle.dtx_model.specs.Log.{same_at, zeros_at}
 
 -- the first place that differs ends the comparison
 pub differs : (w b : List ℕ) (i : ℕ) → i < length w → i < length b → (get_or w i 0 ≡ get_or b i 0 → ⊥) → same_at i (drop i w) (drop i b) ≡ same_at 0 w b → same_at 0 w b ≡ Err i
@@ -54,14 +54,42 @@ unfolding same_at
 same_self place [] = (place, refl)
 same_self place (x ∷ w) = let h = same_self (place + 1) w in let test : eqb x x ≡ true = grind (arith, nat_tests) in (h.0, rw test h.1)
 
--- bytes whose head has another form are no log, from the same place on
-pub bad_head : (b : List ℕ) (p : ℕ) → same_at 0 head (take 512 b) ≡ Err p → log_has b ≡ Err p
-unfolding log_has
-bad_head b p e = rw e refl
+-- a front, and zeros behind it
+pub whole_of : (all f : List ℕ) (k n l : ℕ) → take k all ≡ f → drop k all ≡ drop k (replicate l 0) → l - k ≡ n → all ≡ f ++ replicate n 0
+whole_of all f k n l first rest is =
+    sym (take-append-drop k all) ∙ ap (λ (x : List ℕ). x ++ drop k all) first ∙ ap (λ (x : List ℕ). f ++ x) (rest ∙ drop-replicate k l 0 ∙ ap (λ (m : ℕ). replicate m 0) is)
 
--- the eight letters over zeros are the head
-pub head_made : (all : List ℕ) → take 8 all ≡ 68 ∷ 84 ∷ 88 ∷ 76 ∷ 79 ∷ 71 ∷ 49 ∷ 10 ∷ [] → drop 8 all ≡ drop 8 (replicate 512 0) → all ≡ head
-unfolding head
-head_made all first rest =
-    sym (take-append-drop 8 all) ∙ ap (λ (l : List ℕ). l ++ drop 8 all) first
-    ∙ ap (λ (l : List ℕ). 68 ∷ 84 ∷ 88 ∷ 76 ∷ 79 ∷ 71 ∷ 49 ∷ 10 ∷ l) (rest ∙ drop-replicate 8 512 0)
+-- eight letters over zeros are a head
+pub head_made : (letters all : List ℕ) → take 8 all ≡ letters → drop 8 all ≡ drop 8 (replicate 512 0) → all ≡ letters ++ replicate 504 0
+head_made letters all first rest = whole_of all letters 8 504 512 first rest refl
+
+-- ---- zeros
+
+-- a byte that isn't zero ends the zeros
+pub zero_found : (xs : List ℕ) (i place at : ℕ) → i < length xs → (get_or xs i 0 ≡ 0 → ⊥) → zeros_at place (drop i xs) ≡ zeros_at at xs → zeros_at at xs ≡ Err place
+unfolding zeros_at
+zero_found xs i place at lt other so_far =
+    let test : eqb (get_or xs i 0) 0 ≡ false = grind (arith, nat_tests) in
+    let one : zeros_at place (drop i xs) ≡ Err place = rw (drop_more xs i 0 lt, test) refl in
+    sym so_far ∙ one
+
+-- a zero leaves the rest to be zeros
+pub zero_passed : (xs : List ℕ) (i place at : ℕ) → i < length xs → get_or xs i 0 ≡ 0 → zeros_at place (drop i xs) ≡ zeros_at at xs
+    → zeros_at (place + 1) (drop (i + 1) xs) ≡ zeros_at at xs
+unfolding zeros_at
+zero_passed xs i place at lt is so_far =
+    let one : zeros_at place (drop i xs) ≡ zeros_at (place + 1) (drop (i + 1) xs) = rw (drop_more xs i 0 lt, is) refl in
+    sym one ∙ so_far
+
+-- behind the last zero stands the end
+pub zeros_done : (xs : List ℕ) (i place at : ℕ) → length xs ≤ i → zeros_at place (drop i xs) ≡ zeros_at at xs → zeros_at at xs ≡ Ok place
+unfolding zeros_at
+zeros_done xs i place at le so_far =
+    let one : zeros_at place (drop i xs) ≡ Ok place = rw (drop_all i xs le) refl in
+    sym so_far ∙ one
+
+-- zeros are read as zeros
+pub zeros_again : (place n : ℕ) → zeros_at place (replicate n 0) ≡ Ok (place + n)
+unfolding zeros_at
+zeros_again place zero = ap (λ (k : ℕ). Ok k) (omega arith)
+zeros_again place (suc n) = zeros_again (place + 1) n ∙ ap (λ (k : ℕ). Ok k) (omega arith)

@@ -1,6 +1,6 @@
 use Rattle.std.proofs.Common.{arith, ap, Ok, ℕ, ◌∙◌}
-use Rattle.coordinator_log.proofs.Heads.{differs, goes_same, all_same}
-use Rattle.coordinator_log.proofs.opening.same.Goals as goal
+use Rattle.slotted.proofs.Heads.{differs, goes_same, all_same}
+use Rattle.slotted.proofs.bytes.same.Goals as goal
 
 pub returns-then-want-i-clause-same : goal.returns-then-want-i-clause-same
 returns-then-want-i-clause-same c = differs _ _ _ (omega arith) c.loop-i-test.true c.if-want-i.true c.loop-i.invariant
