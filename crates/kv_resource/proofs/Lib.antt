@@ -1,0 +1,10 @@
+mod Tables
+mod Finding
+mod Files
+mod Loops
+mod Again
+mod Marked
+mod Turning
+mod Refusing
+mod Giving
+mod Noting

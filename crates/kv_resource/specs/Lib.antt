@@ -1,0 +1,5 @@
+pub mod Bytes
+pub mod Store
+pub mod Refusals
+pub mod Notes
+pub mod Images

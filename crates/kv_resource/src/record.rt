@@ -1,0 +1,90 @@
+//! A record: a draft that is on the disk.
+ghost use Rattle.std.specs.Prelude.{◌≡◌, ◌&&◌, not, ℕ, List, true, ◌∷◌, []};
+ghost use Rattle.kv_resource.specs.Bytes.{with_mark};
+ghost use Rattle.kv_resource.specs.Notes.{record_with};
+ghost use Rattle.kv_resource.specs.Store.{get_in, is_busy_record, is_record_of, is_unmarked_of, table_onto};
+
+use crate::draft::Draft;
+use dtx_values::{EnlNo, TxNo};
+use std::marker::Model;
+
+/// A record of the disk: what an enlistment wrote, and whether it is marked as committed.
+///
+/// A clause sees it as a `KvRecord`.
+#[derive(Drop)]
+pub struct Record {
+    draft: Draft,
+    marked: bool,
+}
+
+impl Model for Record {
+    ghost use Rattle.kv_resource.specs.Bytes.{KvRecord};
+    ghost use Rattle.kv_resource.specs.Notes.{record_with};
+
+    ghost Value = { KvRecord };
+
+    ghost view = { λ r. record_with r.marked r.draft };
+}
+
+impl Record {
+    /// The record of a draft.
+    pub fn new(draft: Draft, marked: bool) -> Record
+        ensures { result ≡ record_with marked draft }
+    {
+        Record { draft, marked }
+    }
+
+    /// Marks it as committed.
+    pub fn mark(&mut self)
+        ensures { self.new ≡ with_mark true self.old }
+    {
+        self.marked = true;
+    }
+
+    /// Whether it is marked as committed.
+    pub fn is_marked(&self) -> bool
+        ensures { result ≡ self.now.marked }
+    {
+        self.marked
+    }
+
+    /// Its transaction and enlistment.
+    pub fn pair(&self) -> (TxNo, EnlNo)
+        ensures transaction { result.0.value ≡ self.now.transaction }
+        ensures enlistment { result.1.value ≡ self.now.enlistment }
+    {
+        (self.draft.transaction(), self.draft.enlistment())
+    }
+
+    /// Whether it is of this enlistment.
+    pub fn is_of(&self, t: TxNo, e: EnlNo) -> bool
+        ensures { result ≡ is_record_of (t.value, e.value) self.now }
+    {
+        self.draft.is_of(t, e)
+    }
+
+    /// Whether it is of this enlistment, and isn't marked.
+    pub fn is_unmarked_of(&self, t: TxNo, e: EnlNo) -> bool
+        ensures { result ≡ is_unmarked_of (t.value, e.value) self.now }
+    {
+        self.draft.is_of(t, e) && !self.marked
+    }
+
+    /// Whether it is another enlistment's, which wrote the key and hasn't committed.
+    pub fn is_busy(&self, t: TxNo, e: EnlNo, key: u32) -> bool
+        ensures { result ≡ is_busy_record (t.value, e.value) key self.now }
+    {
+        !self.marked && !self.draft.is_of(t, e) && self.draft.has(key)
+    }
+
+    /// What the key has after this record, where it had this before.
+    pub fn value_after(&self, key: u32, before: Option<u64>) -> Option<u64>
+        ensures { (t : List (ℕ × ℕ)) → get_in key t ≡ before → result ≡ get_in key (table_onto t (self.now ∷ [])) }
+    {
+        if self.marked {
+            self.draft.value_after(key, before)
+        } else {
+            before
+        }
+    }
+}

@@ -1,0 +1,105 @@
+//! The slots of a store in memory.
+ghost use Rattle.std.specs.Prelude.{◌≡◌, ◌≤◌, length, find, position, set, ◌<◌, slice_index_or, None, Some, true};
+ghost use Rattle.std.specs.Option.{option_map};
+ghost use Rattle.kv_resource.specs.Bytes.{KvRecord, with_mark};
+ghost use Rattle.kv_resource.specs.Store.{get_in, is_busy_record, is_record_of, is_unmarked_of, next_slot, numbers_of, on_open, open_records, pair_of_record, table_of};
+
+use crate::record::Record;
+use dtx_values::{EnlNo, TxNo};
+use slotted::SLOTS;
+
+/// The slot after the highest open one, where there is one.
+pub fn next_slot(slots: &[Option<Record>]) -> Option<usize>
+    requires { length slots.now ≤ SLOTS }
+    ensures { result ≡ next_slot slots.now }
+{
+    let mut next = 0;
+    for (k, slot) in slots.iter().enumerate() {
+        if slot.is_some() {
+            next = k + 1;
+        }
+    }
+    if next < SLOTS { Some(next) } else { None }
+}
+
+/// The lowest open slot of this enlistment.
+pub fn slot_of(slots: &[Option<Record>], t: TxNo, e: EnlNo) -> Option<usize>
+    ensures { result ≡ position (on_open (is_record_of (t.value, e.value))) slots.now }
+{
+    slots.iter().position(|s| is_of(s, t, e))
+}
+
+/// The lowest open slot of this enlistment that isn't marked.
+pub fn unmarked_slot_of(slots: &[Option<Record>], t: TxNo, e: EnlNo) -> Option<usize>
+    ensures { result ≡ position (on_open (is_unmarked_of (t.value, e.value))) slots.now }
+{
+    slots.iter().position(|s| is_unmarked_of(s, t, e))
+}
+
+/// Whether slot k is open and marked.
+pub fn is_marked(slots: &[Option<Record>], k: usize) -> bool
+    requires { k < length slots.now }
+    ensures { result ≡ on_open (λ r. r.marked) (slice_index_or slots.now k None) }
+{
+    match &slots[k] {
+        Some(r) => r.is_marked(),
+        None => false,
+    }
+}
+
+/// Marks the record of slot k.
+pub fn mark_slot(slots: &mut [Option<Record>], k: usize)
+    requires { k < length slots.old }
+    ensures { (r : KvRecord) → slice_index_or slots.old k None ≡ Some r → slots.new ≡ set slots.old k (Some (with_mark true r)) }
+{
+    if let Some(r) = &mut slots[k] {
+        r.mark();
+    }
+}
+
+/// The first other enlistment that is in doubt and wrote the key.
+pub fn busy_slot(slots: &[Option<Record>], t: TxNo, e: EnlNo, key: u32) -> Option<(TxNo, EnlNo)>
+    ensures { option_map numbers_of result ≡ option_map pair_of_record (find (is_busy_record (t.value, e.value) key) (open_records slots.now)) }
+{
+    for slot in slots {
+        if let Some(r) = slot {
+            if r.is_busy(t, e, key) {
+                return Some(r.pair());
+            }
+        }
+    }
+    None
+}
+
+/// What the key has in the table.
+pub fn value_of(slots: &[Option<Record>], key: u32) -> Option<u64>
+    ensures { result ≡ get_in key (table_of (open_records slots.now)) }
+{
+    let mut value = None;
+    for slot in slots {
+        if let Some(r) = slot {
+            value = r.value_after(key, value);
+        }
+    }
+    value
+}
+
+// Whether a slot is open, with a record of this enlistment.
+fn is_of(slot: &Option<Record>, t: TxNo, e: EnlNo) -> bool
+    ensures { result ≡ on_open (is_record_of (t.value, e.value)) slot.now }
+{
+    match slot {
+        Some(r) => r.is_of(t, e),
+        None => false,
+    }
+}
+
+// Whether a slot is open, with a record of this enlistment that isn't marked.
+fn is_unmarked_of(slot: &Option<Record>, t: TxNo, e: EnlNo) -> bool
+    ensures { result ≡ on_open (is_unmarked_of (t.value, e.value)) slot.now }
+{
+    match slot {
+        Some(r) => r.is_unmarked_of(t, e),
+        None => false,
+    }
+}
