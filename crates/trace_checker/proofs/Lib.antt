@@ -1,0 +1,14 @@
+pub mod Keys
+pub mod Lefts
+pub mod Marking
+pub mod Owning
+pub mod Membering
+pub mod Doubting
+pub mod Owned
+pub mod Messages
+pub mod Connections
+pub mod Losing
+pub mod Wiring
+pub mod Sending
+pub mod Tracing
+pub mod Stepping

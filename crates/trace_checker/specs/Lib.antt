@@ -1,0 +1,14 @@
+pub mod Keeps
+pub mod Names
+pub mod Left
+pub mod Voters
+pub mod Marks
+pub mod Heard
+pub mod Owner
+pub mod Members
+pub mod Doubts
+pub mod Ways
+pub mod Wires
+pub mod Kept
+pub mod Loss
+pub mod Checking

@@ -1,0 +1,102 @@
+//! The checker of a trace.
+ghost use Rattle.std.specs.Prelude.{◌≡◌, List, [], ◌∷◌, vec_len, IfOk};
+ghost use Rattle.dtx_model.specs.Traces.{Placed};
+ghost use Rattle.trace_checker.specs.Keeps.{IsChecked};
+
+use crate::book::Book;
+use crate::checked::{Checked, Why};
+use dtx_values::{Entry, Place, TxNo};
+use std::alloc::{AllocError, Global};
+
+/// What is known of each transaction by the entries so far.
+#[derive(Drop)]
+pub struct Checker {
+    /// One for each transaction, by number.
+    books: Vec<Book>,
+    ghost many: { vec_len books ≡ 256 },
+}
+
+impl Checker {
+    ghost use Rattle.trace_checker.specs.Checking.{IsCheckedWith, IsCheckerOf};
+
+    /// The checker of no entries.
+    pub fn new(alloc: Global) -> Result<Checker, AllocError>
+        ensures { IfOk result (IsCheckerOf []) }
+    {
+        let mut books = Vec::new(alloc);
+        while books.len() < TxNo::MAX as usize {
+            books.push(Book::new(alloc))?;
+        }
+        Ok(Checker { books })
+    }
+
+    /// Notes an entry. What it loses of what was kept so far comes back, the first of the three; at a context and at the log nothing
+    /// is lost.
+    pub fn follow(&mut self, at: Place, x: &Entry) -> Result<Option<Why>, AllocError>
+        ensures { IfOk result (λ loss. (T : List Placed) → IsCheckerOf T self.old → IsCheckedWith T (at, x.now) loss self.new) }
+    {
+        match at {
+            Place::Transaction(t) => {
+                let book = &mut self.books[t.index()];
+                match book.loss(x) {
+                    Some(why) => Ok(Some(why)),
+                    None => {
+                        book.follow(x)?;
+                        Ok(None)
+                    }
+                }
+            }
+            Place::Context(_) => Ok(None),
+            Place::Log => Ok(None),
+        }
+    }
+}
+
+/// Checks a trace, oldest entry first: whether each transaction's history keeps what is promised of it, and else the first entry at
+/// which one doesn't.
+pub fn check_trace(alloc: Global, trace: &[(Place, Entry)]) -> Result<Checked, AllocError>
+    ensures { IfOk result (IsChecked trace.now) }
+{
+    let mut checker = Checker::new(alloc)?;
+    for (i, placed) in trace.iter().enumerate() {
+        let (at, x) = *placed;
+        let loss = checker.follow(at, &x)?;
+        match loss {
+            Some(why) => return Ok(Checked::Bad(i as u64 + 1, why)),
+            None => {}
+        }
+    }
+    Ok(Checked::Fine)
+}
+
+#[cfg(test)]
+mod tests {
+    use super::*;
+    use dtx_values::{Conn, Dir, EnlNo, Message, Outcome, Party};
+    use std::test::Fail;
+
+    #[test]
+    fn the_first_bad_entry_is_found(rt: HostRuntime) -> Result<(), Fail> {
+        let t = Place::Transaction(TxNo::new(1).ok_or("no t1")?);
+        let e = EnlNo::new(1).ok_or("no e1")?;
+        let unjust = [(t, Entry::Told(Party::Client, Outcome::Committed))];
+        let unsent = [(t, Entry::Got(Conn::Begin, Dir::Up, Message::BeginBegin))];
+        let torn = [
+            (t, Entry::RollbackAsked),
+            (t, Entry::Told(Party::Client, Outcome::Aborted)),
+            (t, Entry::OwnerAnswered(e, Outcome::Committed)),
+        ];
+        let cases = [
+            (unjust.as_slice(), Checked::Bad(1, Why::Justified)),
+            (unsent.as_slice(), Checked::Bad(1, Why::Wire)),
+            (torn.as_slice(), Checked::Bad(3, Why::Agree)),
+            (&torn[..2], Checked::Fine),
+            (&torn[..0], Checked::Fine),
+        ];
+        for (trace, want) in cases {
+            let found = check_trace(rt.alloc(), trace)?;
+            assert!(rt; found == want, "found {found:?}");
+        }
+        Ok(())
+    }
+}
