@@ -13,7 +13,7 @@ use Rattle.dtx_model.specs.Words.{has, each, onto, past_of, put, all_of}
 use Rattle.dtx_values.specs.Class.{is_volatile}
 use Rattle.dtx_values.specs.Table.{how_many}
 use Rattle.dtx_model.specs.Entries.{is_hand, is_owner, enlisted_of, clone_of, handed_of}
-use Rattle.dtx_model.specs.Outcome.{volatiles, durables, all_vote, voters, can_own, owner_committed}
+use Rattle.dtx_model.specs.Outcome.{volatiles, durables, all_vote, voters, can_own, may_decide, owner_committed}
 
 or_none : (a : Bool) → (a || false) ≡ a
 or_none true = refl
@@ -130,12 +130,12 @@ each-voter p h = elim (all_vote h) as (λ b. each p (cond b (volatiles h ++ dura
 
 -- who the owner is, where it is known which durable was enlisted last
 owner_of : (h : List Entry) (x z : EnlNo × Class) (zs : List (EnlNo × Class)) → z ≡ x
-    → owner_committed h (z ∷ zs) ≡ (each (λ y. x.0.value == y.0.value) (z ∷ zs) && has (λ y. can_own y.1) (z ∷ zs) && has (is_hand x.0.value) h && has (is_owner x.0.value Committed) h)
-owner_of h x z zs e = subst (λ (w : EnlNo × Class). owner_committed h (z ∷ zs) ≡ (each (λ y. w.0.value == y.0.value) (z ∷ zs) && has (λ y. can_own y.1) (z ∷ zs) && has (is_hand w.0.value) h && has (is_owner w.0.value Committed) h)) e (rw (eq-eqb z.0.value z.0.value refl) refl)
+    → owner_committed h (z ∷ zs) ≡ (each (λ y. x.0.value == y.0.value) (z ∷ zs) && has (λ y. can_own y.1) (z ∷ zs) && may_decide h x.0.value && has (is_hand x.0.value) h && has (is_owner x.0.value Committed) h)
+owner_of h x z zs e = subst (λ (w : EnlNo × Class). owner_committed h (z ∷ zs) ≡ (each (λ y. w.0.value == y.0.value) (z ∷ zs) && has (λ y. can_own y.1) (z ∷ zs) && may_decide h w.0.value && has (is_hand w.0.value) h && has (is_owner w.0.value Committed) h)) e (rw (eq-eqb z.0.value z.0.value refl) refl)
 
 -- the one durable that is in question, by the one that was enlisted last
 pub owner-first : (h : List Entry) (ds : List (EnlNo × Class)) (x : EnlNo × Class) → slice_get ds 0 ≡ Some x
-    → owner_committed h ds ≡ (each (λ y. x.0.value == y.0.value) ds && has (λ y. can_own y.1) ds && has (is_hand x.0.value) h && has (is_owner x.0.value Committed) h)
+    → owner_committed h ds ≡ (each (λ y. x.0.value == y.0.value) ds && has (λ y. can_own y.1) ds && may_decide h x.0.value && has (is_hand x.0.value) h && has (is_owner x.0.value Committed) h)
 owner-first h [] x e = absurd cc
 owner-first h (z ∷ zs) x e = owner_of h x z zs cc
 

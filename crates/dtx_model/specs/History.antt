@@ -23,7 +23,7 @@ use Rattle.dtx_model.specs.Promotes.{promotes}
 use Rattle.dtx_model.specs.Wires.{WireRun}
 use Rattle.dtx_model.specs.Learned.{Learned, are_answered, is_decided_there}
 use Rattle.dtx_model.specs.Traces.{Placed, at_context, calls, history}
-use Rattle.dtx_model.specs.Caused.{Caused, Settled, is_as_planned, plans_of}
+use Rattle.dtx_model.specs.Caused.{CausedBy, Of, Managers, Settled, answers, is_as_planned, plans_of}
 use Rattle.dtx_model.specs.AtLog.{at_log, faults, follow_log, open_right, stop_right}
 use Rattle.dtx_model.specs.Replay.{IsReplayed, due_calls}
 
@@ -37,11 +37,11 @@ same_place _ _ = false
 abbrev pub is_call_at : Place → ℕ → ℕ → Place × ℕ × ActorNo → Bool
 is_call_at p n a c = same_place p c.0 && (n == c.1) && (a == c.2.value)
 
--- IsHistory, with k objects, over a disk whose count of faults rose by so many: each transaction's history is caused by the script, promoted in order, runs over its
+-- HistoryBy, over a disk whose count of faults rose by so many: each transaction's history is caused by the script, where those that `o` names have an object; it is promoted in order, runs over its
 -- connections and is settled; each context has the entries that its actor's lines make there; each line has its call at each of its places exactly
 -- once; and stops and restarts come from the log, and are followed.
-pub record IsHistory (s : List Line) (k rise : ℕ) (T : List Placed) : Type 0 where
-  pub caused : (t : TxNo) → Caused s k t.value (history t.value (past_of T))
+pub record HistoryBy (s : List Line) (o : Of) (rise : ℕ) (T : List Placed) : Type 0 where
+  pub caused : (t : TxNo) → CausedBy s (answers s o) t.value (history t.value (past_of T))
   pub promotes : (t : TxNo) → promotes s t.value (history t.value (past_of T)) ≡ true
   pub wires : (t : TxNo) → WireRun (history t.value (past_of T))
   pub settled : (t : TxNo) → Settled s (history t.value (past_of T))
@@ -49,6 +49,10 @@ pub record IsHistory (s : List Line) (k rise : ℕ) (T : List Placed) : Type 0 w
   pub called : (p : Place) (n a : ℕ) → how_many (is_call_at p n a) (calls (past_of T)) ≡ how_many (is_call_at p n a) (due_calls s (past_of s))
   pub faulted : faults (at_log (past_of T)) ≤ rise
   pub followed : follow_log (past_of T) ≡ true
+
+-- IsHistory: the first k managers have an object each
+abbrev pub IsHistory : List Line → ℕ → ℕ → List Placed → Type 0
+IsHistory s k rise T = HistoryBy s (Managers k) rise T
 
 -- the order of a replay: the calls in order of lines, the steps as the lines and the rounds give them; where no fault came, each stop exactly where its device
 -- call is reached; and over an honest disk, and a log that was empty at the start, each opening finds as many records as its step says

@@ -1,6 +1,6 @@
 -- Who votes, what is evidence, a veto or doubt, what may be told, and who agrees. These definitions read one history and know of
 -- no phase, queue, slot or place of the commit right.
-use Rattle.std.specs.Prelude.{Bool, true, false, Option, Some, None, ◌&&◌, ◌||◌, ◌==◌, not, List, [], ◌∷◌, ◌++◌, filter, if◌then◌else◌}
+use Rattle.std.specs.Prelude.{Bool, true, false, Option, Some, None, ◌&&◌, ◌||◌, ◌==◌, not, List, [], ◌∷◌, ◌++◌, filter, if◌then◌else◌, ℕ}
 use Rattle.dtx_values.specs.declared.number.CloneNo.{CloneNo}
 use Rattle.dtx_values.specs.declared.number.EnlNo.{EnlNo}
 use Rattle.dtx_values.specs.declared.entry.Entry.{Entry}
@@ -68,14 +68,19 @@ can_own DurableSingle = true
 can_own Promotable = true
 can_own _ = false
 
--- the durables and promotables are this one enlistment, which can own the commit by some class that it was enlisted in; it was handed the commit, and answered committed
+-- this one may decide: nothing was promoted, or the coordinator let it decide in a single phase
+abbrev pub may_decide : List Entry → ℕ → Bool
+may_decide h e = not (has is_promoted h) || has (is_single_sent e) h
+
+-- the durables and promotables are this one enlistment, which can own the commit by some class that it was enlisted in; it may decide, was handed the commit, and answered committed
 abbrev pub owner_committed : List Entry → List (EnlNo × Class) → Bool
 owner_committed h [] = false
-owner_committed h (x ∷ xs) = each (λ y. x.0.value == y.0.value) xs && has (λ y. can_own y.1) (x ∷ xs) && has (is_hand x.0.value) h && has (is_owner x.0.value Committed) h
+owner_committed h (x ∷ xs) =
+    each (λ y. x.0.value == y.0.value) xs && has (λ y. can_own y.1) (x ∷ xs) && may_decide h x.0.value && has (is_hand x.0.value) h && has (is_owner x.0.value Committed) h
 
--- evidence by the owner: nothing was promoted, or the coordinator let it decide
+-- evidence by the owner: the one durable or promotable decided
 unfoldable pub by_owner : List Entry → Bool
-by_owner h = not (all_vote h) && owner_committed h (durables h)
+by_owner h = owner_committed h (durables h)
 
 -- evidence by the log, where it was promoted
 unfoldable pub by_log : List Entry → Bool

@@ -5,12 +5,12 @@ ghost use Rattle.std.specs.Prelude.{◌≡◌, ◌==◌, ◌&&◌, [], ◌∷◌
 ghost use Rattle.dtx_values.specs.declared.words.Outcome.TheVariants.{Committed};
 ghost use Rattle.dtx_model.specs.Words.{has, each, past_of, all_of, or_else};
 ghost use Rattle.dtx_model.specs.Entries.{clone_of, is_good_vote, is_hand, is_owner};
-ghost use Rattle.dtx_model.specs.Outcome.{is_complete, volatiles, durables, all_vote, voters, ready, can_own, by_seal, owner_committed, by_owner, by_log, evidence};
+ghost use Rattle.dtx_model.specs.Outcome.{is_complete, volatiles, durables, all_vote, voters, ready, can_own, by_seal, may_decide, by_owner, by_log, evidence};
 
 use crate::entries::is_volatile;
 use crate::scans::{
     has_any_single_sent, has_commit, has_completed, has_good_vote, has_hand, has_owner,
-    has_promotion, has_record, has_seal,
+    has_promotion, has_record, has_seal, has_single_sent,
 };
 use dtx_values::{Class, EnlNo, Entry, Outcome};
 
@@ -152,26 +152,24 @@ fn has_owner_class(h: &[Entry]) -> bool
     h.iter().any(is_owner_class_given)
 }
 
-/// Whether e is the only durable or promotable, can own the commit by one of its classes, was handed it and answered committed.
+/// Whether e may decide: nothing was promoted, or the coordinator let it decide in a single phase.
+#[tactic(auto, using(dtx_model::proofs::Reading::reading))]
+fn may_decide(h: &[Entry], e: EnlNo) -> bool
+    ensures { result ≡ may_decide (past_of h.now) e.value }
+{
+    !has_promotion(h) || has_single_sent(h, e)
+}
+
+/// Whether e is the only durable or promotable, can own the commit by one of its classes, may decide, was handed the commit and answered committed.
 #[tactic(auto, using(dtx_model::proofs::Reading::reading))]
 fn is_owner_committed(h: &[Entry], e: EnlNo) -> bool
-    ensures { result ≡ (each (λ y. e.value == y.0.value) (durables (past_of h.now)) && has (λ y. can_own y.1) (durables (past_of h.now)) && has (is_hand e.value) (past_of h.now) && has (is_owner e.value Committed) (past_of h.now)) }
+    ensures { result ≡ (each (λ y. e.value == y.0.value) (durables (past_of h.now)) && has (λ y. can_own y.1) (durables (past_of h.now)) && may_decide (past_of h.now) e.value && has (is_hand e.value) (past_of h.now) && has (is_owner e.value Committed) (past_of h.now)) }
 {
     is_only_durable(h, e)
         && has_owner_class(h)
+        && may_decide(h, e)
         && has_hand(h, e)
         && has_owner(h, e, Outcome::Committed)
-}
-
-/// Whether the one durable or promotable can own the commit, was handed it and answered committed.
-#[tactic(auto, using(dtx_model::proofs::Reading::no_owner))]
-fn has_owner_committed(h: &[Entry]) -> bool
-    ensures { result ≡ owner_committed (past_of h.now) (durables (past_of h.now)) }
-{
-    match newest_durable(h) {
-        None => false,
-        Some((e, _)) => is_owner_committed(h, e),
-    }
 }
 
 /// Whether the seal is evidence: sealed, not promoted, and nobody could own the commit.
@@ -182,12 +180,15 @@ fn is_by_seal(h: &[Entry]) -> bool
     has_seal(h) && !has_promotion(h) && newest_durable(h).is_none()
 }
 
-/// Whether the owner's answer is evidence: nothing was promoted, or the coordinator let it decide.
-#[tactic(auto, using(dtx_model::proofs::Reading::reading), unfolding(dtx_model::specs::Outcome::by_owner))]
+/// Whether the owner's answer is evidence: the one durable or promotable decided, and answered committed.
+#[tactic(auto, using(dtx_model::proofs::Reading::no_owner), unfolding(dtx_model::specs::Outcome::by_owner))]
 fn is_by_owner(h: &[Entry]) -> bool
     ensures { result ≡ by_owner (past_of h.now) }
 {
-    !all_vote(h) && has_owner_committed(h)
+    match newest_durable(h) {
+        None => false,
+        Some((e, _)) => is_owner_committed(h, e),
+    }
 }
 
 /// Whether the log is evidence, where it was promoted.

@@ -15,7 +15,7 @@ use Rattle.dtx_values.specs.declared.message.Message.{Message}
 use Rattle.dtx_values.specs.declared.message.Message.TheVariants.{BeginCommitted, VoterCommit}
 use Rattle.dtx_model.specs.Words.{has, ever, each, latest}
 use Rattle.dtx_model.specs.Entries.{is_lost, is_vote, is_yes, is_good_vote, is_record, is_asked, is_decision, is_promoted, is_sealed, is_any_hand, is_any_single_sent, is_hand, is_owner, is_commit, is_two_phase_got, decision_of}
-use Rattle.dtx_model.specs.Outcome.{all_vote, evidence, can_own, owner_committed, by_log, by_owner, by_seal, durables, is_empty, is_veto, ready, voters, is_first_veto}
+use Rattle.dtx_model.specs.Outcome.{evidence, can_own, may_decide, owner_committed, by_log, by_owner, by_seal, durables, is_empty, is_veto, ready, voters, is_first_veto}
 use Rattle.dtx_model.specs.Learned.{coordinator_aborted}
 use Rattle.dtx_model.specs.Promotes.{ends_told, is_enlisted_got, is_promoting, is_refusal}
 use Rattle.dtx_model.specs.Wires.{is_ended}
@@ -175,19 +175,17 @@ drop_no false b k = k
 owner_back : (e : EnlNo) (h : List Entry) (ds : List (EnlNo × Class)) → owner_committed (OwnerAnswered e Aborted ∷ h) ds ≡ true → owner_committed h ds ≡ true
 owner_back e h [] t = t
 owner_back e h (x ∷ xs) t =
-    and_both (each (λ y. x.0.value == y.0.value) xs && has (λ y. can_own y.1) (x ∷ xs) && has (is_hand x.0.value) h) (has (is_owner x.0.value Committed) h)
-    (and_left (each (λ y. x.0.value == y.0.value) xs && has (λ y. can_own y.1) (x ∷ xs) && has (is_hand x.0.value) h) (((x.0.value == e.value) && false) || has (is_owner x.0.value Committed) h) t)
+    and_both (each (λ y. x.0.value == y.0.value) xs && has (λ y. can_own y.1) (x ∷ xs) && may_decide h x.0.value && has (is_hand x.0.value) h) (has (is_owner x.0.value Committed) h)
+    (and_left (each (λ y. x.0.value == y.0.value) xs && has (λ y. can_own y.1) (x ∷ xs) && may_decide h x.0.value && has (is_hand x.0.value) h) (((x.0.value == e.value) && false) || has (is_owner x.0.value Committed) h) t)
     (drop_no (x.0.value == e.value) (has (is_owner x.0.value Committed) h)
-    (and_right (each (λ y. x.0.value == y.0.value) xs && has (λ y. can_own y.1) (x ∷ xs) && has (is_hand x.0.value) h) (((x.0.value == e.value) && false) || has (is_owner x.0.value Committed) h) t))
+    (and_right (each (λ y. x.0.value == y.0.value) xs && has (λ y. can_own y.1) (x ∷ xs) && may_decide h x.0.value && has (is_hand x.0.value) h) (((x.0.value == e.value) && false) || has (is_owner x.0.value Committed) h) t))
 
-owner_swap : (a s v o q l : Bool) → (o ≡ true → q ≡ true) → (a && (s || (not v && o) || l)) ≡ true → (a && (s || (not v && q) || l)) ≡ true
-owner_swap a s v true q l f t = let same : q ≡ true = f refl in rw same t
-owner_swap false s v false q l f t = absurd cc
-owner_swap true true v false q l f t = refl
-owner_swap true false true false q true f t = refl
-owner_swap true false false false q true f t = or_right (not false && q) true refl
-owner_swap true false true false q false f t = absurd cc
-owner_swap true false false false q false f t = absurd cc
+owner_swap : (a s o q l : Bool) → (o ≡ true → q ≡ true) → (a && (s || o || l)) ≡ true → (a && (s || q || l)) ≡ true
+owner_swap a s true q l f t = let same : q ≡ true = f refl in rw same t
+owner_swap false s false q l f t = absurd cc
+owner_swap true true false q l f t = refl
+owner_swap true false false q true f t = or_right q true refl
+owner_swap true false false q false f t = absurd cc
 
 veto_back : (x : Entry) (h : List Entry) → Keeps (x ∷ h) → is_veto h x ≡ true → evidence (x ∷ h) ≡ true → evidence h ≡ true
 unfolding evidence ready by_seal by_owner by_log
@@ -202,7 +200,7 @@ veto_back (Voted e No) h k v t =
 veto_back (Voted e Yes) h k v t = absurd cc
 veto_back (Voted e Done) h k v t = absurd cc
 veto_back (OwnerAnswered e Aborted) h k v t =
-    owner_swap (ready h) (has is_sealed h && not (has is_promoted h) && is_empty (durables h)) (all_vote h) (owner_committed (OwnerAnswered e Aborted ∷ h) (durables h)) (owner_committed h (durables h)) (has is_promoted h && has is_record h)
+    owner_swap (ready h) (has is_sealed h && not (has is_promoted h) && is_empty (durables h)) (owner_committed (OwnerAnswered e Aborted ∷ h) (durables h)) (owner_committed h (durables h)) (has is_promoted h && has is_record h)
     (owner_back e h (durables h)) t
 veto_back (OwnerAnswered e Committed) h k v t = absurd cc
 veto_back (OwnerAnswered e InDoubt) h k v t = absurd cc

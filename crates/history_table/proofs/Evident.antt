@@ -18,16 +18,16 @@ use Rattle.dtx_values.specs.Class.{is_volatile}
 use Rattle.dtx_values.specs.Vote.{is_good}
 use Rattle.dtx_model.specs.Words.{has, each, latest}
 use Rattle.dtx_model.specs.Entries.{decision_of, is_any_hand, is_any_single_sent, is_single_sent, is_decision, is_sealed, is_hand, is_owner, is_promoted, is_record, is_good_vote, is_yes, is_commit, is_asked, is_lost, is_vote, same_outcome}
-use Rattle.dtx_model.specs.Outcome.{all_vote, durables, ready, can_own, owner_committed, by_log, by_owner, by_seal, evidence, is_empty, volatiles, voters, enlisted}
+use Rattle.dtx_model.specs.Outcome.{all_vote, durables, ready, can_own, may_decide, owner_committed, by_log, by_owner, by_seal, evidence, is_empty, volatiles, voters, enlisted}
 use Rattle.dtx_model.specs.Promotes.{is_promoting, is_under_way, is_begun_got, is_created_got}
 use Rattle.dtx_model.proofs.Bools.{and_right, or_case, not_both, or_first, or_second, and_left, not_true, and_both, or_right, three_hold}
-use Rattle.history_table.proofs.Tests.{second_of_five, third_of_four, first_of_three, eq_swap, first_of_five, second_of_three, third_of_five, fourth_of_five}
+use Rattle.history_table.proofs.Tests.{second_of_five, first_of_three, eq_swap, first_of_five, second_of_three, third_of_five, fourth_of_five}
 use Rattle.history_table.proofs.EntryTests.{is_decided, is_only, is_volatile_of, all_complete, is_answer, is_cloned, is_enlisted, zeros_cast}
 use Rattle.history_table.proofs.Table.{ends_with, is_abort_decided, is_single_got, may_answer, may_hand, rule, stands_volatile, class_row, have_come}
 use Rattle.history_table.proofs.Keeping.{Keeps, fifth_of_five, keeps_before, newest}
 use Rattle.history_table.proofs.Scans.{has_more, each_more}
 pub use Rattle.history_table.proofs.LetDecide.{sealed_if_handed}
-use Rattle.history_table.proofs.LetDecide.{any_single_if_handed, durables_more, got_single, promoted_if_single, single_any, single_unrecorded, unyes_unhanded}
+use Rattle.history_table.proofs.LetDecide.{any_single_if_handed, durables_more, got_single, promoted_if_single, single_any, single_if_handed, single_unrecorded, unyes_unhanded}
 use Rattle.history_table.proofs.Handed.{hand_any, is_answered, only_name, hand_name, owner_alone}
 use Rattle.history_table.proofs.Recording.{sealed_if_yes, yes_if_record, promoted_if_sealed, promoting_if_promoted, complete_if_sealed, complete_more, commit_if_sealed, enlisted_unsealed}
 
@@ -36,16 +36,16 @@ pub owner_handed : (h : List Entry) (ds : List (EnlNo × Class)) → owner_commi
 owner_handed h [] t = absurd cc
 owner_handed h (x ∷ xs) t =
     has_more (is_hand x.0.value) is_any_hand (hand_any x.0.value) h
-    (third_of_four (each (λ y. x.0.value == y.0.value) xs) (has (λ y. can_own y.1) (x ∷ xs)) (has (is_hand x.0.value) h) (has (is_owner x.0.value Committed) h) t)
+    (fourth_of_five (each (λ y. x.0.value == y.0.value) xs) (has (λ y. can_own y.1) (x ∷ xs)) (may_decide h x.0.value) (has (is_hand x.0.value) h) (has (is_owner x.0.value Committed) h) t)
 
 -- evidence stands only where it is sealed
 pub sealed_if_evident : (h : List Entry) → Keeps h → evidence h ≡ true → has is_sealed h ≡ true
 unfolding evidence by_seal by_owner by_log
 sealed_if_evident h k e =
-    or_case ((has is_sealed h && not (has is_promoted h) && is_empty (durables h)) || (not (all_vote h) && owner_committed h (durables h))) (has is_promoted h && has is_record h)
-    (λ t. or_case (has is_sealed h && not (has is_promoted h) && is_empty (durables h)) (not (all_vote h) && owner_committed h (durables h))
+    or_case ((has is_sealed h && not (has is_promoted h) && is_empty (durables h)) || owner_committed h (durables h)) (has is_promoted h && has is_record h)
+    (λ t. or_case (has is_sealed h && not (has is_promoted h) && is_empty (durables h)) (owner_committed h (durables h))
     (λ s. first_of_three (has is_sealed h) (not (has is_promoted h)) (is_empty (durables h)) s)
-    (λ o. sealed_if_handed h k (owner_handed h (durables h) (and_right (not (all_vote h)) (owner_committed h (durables h)) o))) t)
+    (λ o. sealed_if_handed h k (owner_handed h (durables h) o)) t)
     (λ l. sealed_if_yes h k (yes_if_record h k (and_right (has is_promoted h) (has is_record h) l)))
     (and_right (ready h) _ e)
 
@@ -53,22 +53,17 @@ pub unsealed_open : (h : List Entry) → Keeps h → has is_sealed h ≡ false �
 unsealed_open h k s = false_from_ne_true (evidence h) (λ e. not_both (has is_sealed h) (sealed_if_evident h k e) s)
 
 -- where it is promoted, and the commit isn't handed over, evidence stands by the record
-promoted_alone : (a s p v m o l : Bool) → p ≡ true → o ≡ false → (a && ((s && not p && m) || (not v && o) || (p && l))) ≡ true → l ≡ true
-promoted_alone true s true v m false l q r t = by s v t
-  where
-    by : (s v : Bool) → ((s && false && m) || (not v && false) || l) ≡ true → l ≡ true
-    by true true t = t
-    by true false t = t
-    by false true t = t
-    by false false t = t
-promoted_alone a s p v m true l q r t = absurd cc
-promoted_alone false s true v m false l q r t = absurd cc
-promoted_alone a s false v m o l q r t = absurd cc
+promoted_alone : (a s p m o l : Bool) → p ≡ true → o ≡ false → (a && ((s && not p && m) || o || (p && l))) ≡ true → l ≡ true
+promoted_alone true true true m false l q r t = t
+promoted_alone true false true m false l q r t = t
+promoted_alone a s p m true l q r t = absurd cc
+promoted_alone false s true m false l q r t = absurd cc
+promoted_alone a s false m o l q r t = absurd cc
 
 pub evident_record : (h : List Entry) → has is_promoted h ≡ true → has is_any_hand h ≡ false → evidence h ≡ true → has is_record h ≡ true
 unfolding evidence by_seal by_owner by_log
 evident_record h p n e =
-    promoted_alone (ready h) (has is_sealed h) (has is_promoted h) (all_vote h) (is_empty (durables h)) (owner_committed h (durables h)) (has is_record h) p
+    promoted_alone (ready h) (has is_sealed h) (has is_promoted h) (is_empty (durables h)) (owner_committed h (durables h)) (has is_record h) p
     (false_from_ne_true (owner_committed h (durables h)) (λ o. not_both (has is_any_hand h) (owner_handed h (durables h) o) n)) e
 
 -- where a promotion began, there is no record, and the commit isn't handed over, there is no evidence
@@ -127,15 +122,26 @@ vote_same e v h p n =
     ∙ ap (λ b. (has is_commit h && all_complete h && b) && (by_seal h || by_owner h || by_log h)) (vote_apart e.value (is_good v) h (enlisted h) n)
     ∙ ap (λ xs. (has is_commit h && all_complete h && each (λ x. has (is_good_vote x.0.value) h) xs) && (by_seal h || by_owner h || by_log h)) (sym (local_voters h p))
 
+-- any may decide what isn't promoted
+pub may_decide_local : (h : List Entry) (e : ℕ) → has is_promoted h ≡ false → may_decide h e ≡ true
+may_decide_local h e p = ap (λ b. not b || has (is_single_sent e) h) p
+
 -- nor does what is sent
-evidence_by : (h : List Entry) → Bool → Bool
-evidence_by h a =
-    (has is_commit h && all_complete h && each (λ x. has (is_good_vote x.0.value) h) (if a then volatiles h ++ durables h else volatiles h))
-    && (by_seal h || (not a && owner_committed h (durables h)) || by_log h)
+owner_sent : (c : Conn) (d : Dir) (m : Message) (h : List Entry) (ds : List (EnlNo × Class)) → has is_promoted h ≡ false → owner_committed (Sent c d m ∷ h) ds ≡ owner_committed h ds
+owner_sent c d m h [] p = refl
+owner_sent c d m h (x ∷ xs) p =
+    ap (λ b. each (λ y. x.0.value == y.0.value) xs && has (λ y. can_own y.1) (x ∷ xs) && b && has (is_hand x.0.value) h && has (is_owner x.0.value Committed) h)
+    (may_decide_local (Sent c d m ∷ h) x.0.value p ∙ sym (may_decide_local h x.0.value p))
+
+evidence_by : (h : List Entry) → Bool → Bool → Bool
+evidence_by h a o =
+    (has is_commit h && all_complete h && each (λ x. has (is_good_vote x.0.value) h) (if a then volatiles h ++ durables h else volatiles h)) && (by_seal h || o || by_log h)
 
 sent_same : (c : Conn) (d : Dir) (m : Message) (h : List Entry) → has is_promoted h ≡ false → evidence (Sent c d m ∷ h) ≡ evidence h
 unfolding evidence ready by_seal by_owner by_log evidence_by
-sent_same c d m h p = ap (evidence_by h) (not_all (Sent c d m ∷ h) p ∙ sym (not_all h p))
+sent_same c d m h p =
+    ap (λ a. evidence_by h a (owner_committed (Sent c d m ∷ h) (durables h))) (not_all (Sent c d m ∷ h) p ∙ sym (not_all h p))
+    ∙ ap (evidence_by h (all_vote h)) (owner_sent c d m h (durables h) p)
 
 -- the entries that come only where nothing was decided
 abbrev is_undecided_yet : Entry → Bool
@@ -283,10 +289,10 @@ answers_alone e o (OwnerAnswered f y ∷ h) k one =
     ∙ ap (λ b. same_outcome o y || b) (answers_alone e o h (keeps_before (OwnerAnswered f y) h k) one)
 answers_alone e o (x ∷ h) k one = answers_alone e o h (keeps_before x h k) one
 
--- whoever was handed the commit of a promotion was let decide
-pub handed_apart : (e : ℕ) (h : List Entry) → Keeps h → has (is_hand e) h ≡ true → (b : Bool) → has is_promoted h ≡ b → (b && not (has is_any_single_sent h)) ≡ false
-handed_apart e h k t true p = ap not (any_single_if_handed e h k (promoting_if_promoted h k p) t)
-handed_apart e h k t false p = refl
+-- whoever was handed the commit may decide
+handed_may_decide : (e : ℕ) (h : List Entry) → Keeps h → has (is_hand e) h ≡ true → (b : Bool) → has is_promoted h ≡ b → (not b || has (is_single_sent e) h) ≡ true
+handed_may_decide e h k t true p = single_if_handed e h k (promoting_if_promoted h k p) t
+handed_may_decide e h k t false p = refl
 
 pub handed_unlogged : (e : ℕ) (h : List Entry) → Keeps h → has (is_hand e) h ≡ true → (b : Bool) → has is_promoted h ≡ b → (b && has is_record h) ≡ false
 handed_unlogged e h k t true p = single_unrecorded h k (any_single_if_handed e h k (promoting_if_promoted h k p) t)
@@ -298,8 +304,8 @@ unfolding evidence by_seal by_owner by_log
 evidence-handed h k s =
     let name = hand_name h s in
     let w = hand_stands name.0 h k name.1 in
-    owner_alone (ready h) (has is_sealed h) (has is_promoted h) (all_vote h) (has is_record h) h name.0 (durables h) w.all_ready
-    (handed_apart name.0 h k name.1 (has is_promoted h) refl) (handed_unlogged name.0 h k name.1 (has is_promoted h) refl) w.alone name.1
+    owner_alone (ready h) (has is_sealed h) (has is_promoted h) (has is_record h) h name.0 (durables h) w.all_ready
+    (handed_may_decide name.0 h k name.1 (has is_promoted h) refl) (handed_unlogged name.0 h k name.1 (has is_promoted h) refl) w.alone name.1
     ∙ answers_alone name.0 Committed h k (λ f g. only_name f name.0 (durables h) (hand_stands f h k g).alone w.alone)
 
 pub volatile_more : (n : ℕ) (x : Entry) (h : List Entry) → stands_volatile n h ≡ true → stands_volatile n (x ∷ h) ≡ true

@@ -10,7 +10,7 @@ use Rattle.dtx_values.specs.declared.words.Outcome.{Outcome}
 use Rattle.dtx_values.specs.declared.words.Outcome.TheVariants.{Committed}
 use Rattle.dtx_model.specs.Words.{has, all_of}
 use Rattle.dtx_model.specs.Entries.{same_outcome, is_hand, is_any_hand, is_owner, is_any_owner, handed_of}
-use Rattle.dtx_model.specs.Outcome.{can_own, is_empty, owner_committed}
+use Rattle.dtx_model.specs.Outcome.{can_own, is_empty, may_decide, owner_committed}
 use Rattle.dtx_model.proofs.Bools.{and_left, and_right, or_case, or_right}
 use Rattle.history_table.proofs.Tests.{eq_self, eq_swap}
 use Rattle.history_table.proofs.EntryTests.{is_only, is_answer}
@@ -40,27 +40,23 @@ hand_name [] k = absurd cc
 hand_name (Handed f ∷ h) k = (f.value, rw (eq_self f.value) refl)
 hand_name (x ∷ h) k = hand_name h k
 
--- what is ready, in which not each votes, and which shows no record, and whose one durable or promotable was handed the commit, is evidence where that one answered committed
-pub owner_alone : (a s p v l : Bool) (h : List Entry) (e : ℕ) (ds : List (EnlNo × Class)) → a ≡ true → v ≡ false → (p && l) ≡ false → is_only e ds ≡ true → has (is_hand e) h ≡ true
-    → (a && ((s && not p && is_empty ds) || (not v && owner_committed h ds) || (p && l))) ≡ has (is_owner e Committed) h
-owner_alone a s p v l h e [] b q r o k = absurd cc
-owner_alone a s p v l h e (x ∷ []) b q r o k =
+-- what is ready, and shows no record, and whose one durable or promotable may decide and was handed the commit, is evidence where that one answered committed
+pub owner_alone : (a s p l : Bool) (h : List Entry) (e : ℕ) (ds : List (EnlNo × Class)) → a ≡ true → may_decide h e ≡ true → (p && l) ≡ false → is_only e ds ≡ true → has (is_hand e) h ≡ true
+    → (a && ((s && not p && is_empty ds) || owner_committed h ds || (p && l))) ≡ has (is_owner e Committed) h
+owner_alone a s p l h e [] b q r o k = absurd cc
+owner_alone a s p l h e (x ∷ []) b q r o k =
     let same : e ≡ x.0.value = eqb-true e x.0.value (and_left (e == x.0.value) (can_own x.1) o) in
     let hand : has (is_hand x.0.value) h ≡ true = subst (λ n. has (is_hand n) h ≡ true) same k in
-    step a (s && not p) v (p && l) (can_own x.1 || false) (has (is_hand x.0.value) h) (has (is_owner x.0.value Committed) h) b q r (or_left (can_own x.1) false (and_right (e == x.0.value) (can_own x.1) o)) hand
+    let may : may_decide h x.0.value ≡ true = subst (λ n. may_decide h n ≡ true) same q in
+    step a (s && not p) (p && l) (can_own x.1 || false) (may_decide h x.0.value) (has (is_hand x.0.value) h) (has (is_owner x.0.value Committed) h) b r (or_left (can_own x.1) false (and_right (e == x.0.value) (can_own x.1) o)) may hand
     ∙ ap (λ n. has (is_owner n Committed) h) (sym same)
   where
-    step : (a s v l c k o : Bool) → a ≡ true → v ≡ false → l ≡ false → c ≡ true → k ≡ true → (a && ((s && false) || (not v && (true && c && k && o)) || l)) ≡ o
-    step false s v l c k o d q r f g = absurd cc
-    step true s true l c k o d q r f g = absurd cc
-    step true s false true c k o d q r f g = absurd cc
-    step true s false false false k o d q r f g = absurd cc
-    step true s false false true false o d q r f g = absurd cc
-    step true true false false true true true d q r f g = refl
-    step true true false false true true false d q r f g = refl
-    step true false false false true true true d q r f g = refl
-    step true false false false true true false d q r f g = refl
-owner_alone a s p v l h e (x ∷ y ∷ ds) b q r o k = absurd cc
+    step : (a s l c m k o : Bool) → a ≡ true → l ≡ false → c ≡ true → m ≡ true → k ≡ true → (a && ((s && false) || (true && c && m && k && o) || l)) ≡ o
+    step a true l c m k true d r f g i = rw (d, r, f, g, i) refl
+    step a true l c m k false d r f g i = rw (d, r, f, g, i) refl
+    step a false l c m k true d r f g i = rw (d, r, f, g, i) refl
+    step a false l c m k false d r f g i = rw (d, r, f, g, i) refl
+owner_alone a s p l h e (x ∷ y ∷ ds) b q r o k = absurd cc
 
 -- an answer is an owner's
 pub answered_any : (x : Outcome) (y : Entry) → is_answered x y ≡ true → is_answer y ≡ true

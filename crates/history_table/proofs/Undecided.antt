@@ -12,7 +12,7 @@ use Rattle.dtx_values.specs.Class.{is_volatile}
 use Rattle.dtx_values.specs.Owners.{is_evident}
 use Rattle.dtx_model.specs.Words.{each, has, latest}
 use Rattle.dtx_model.specs.Entries.{handed_of, is_any_hand, is_commit, is_decision, is_good_vote, is_hand, is_owner, is_promoted, is_record, is_sealed, is_vote, is_yes}
-use Rattle.dtx_model.specs.Outcome.{all_vote, by_log, by_owner, by_seal, can_own, durables, enlisted, evidence, is_empty, is_outcome_got, owner_committed, ready, volatiles, voters}
+use Rattle.dtx_model.specs.Outcome.{all_vote, by_log, by_owner, by_seal, can_own, durables, enlisted, evidence, is_empty, is_outcome_got, may_decide, owner_committed, ready, volatiles, voters}
 use Rattle.dtx_model.specs.Observed.{is_promotion_failed, observe, rows}
 use Rattle.dtx_model.specs.Promotes.{is_promoting, is_under_way}
 use Rattle.dtx_model.specs.Half.{is_handed}
@@ -156,7 +156,7 @@ owner_answered : (h : List Entry) (ds : List (EnlNo × Class)) → owner_committ
 owner_answered h [] t = absurd cc
 owner_answered h (x ∷ xs) t =
     has_more (is_owner x.0.value Committed) is_answer (λ y. any_answer x.0.value y) h
-    (and_right (each (λ y. x.0.value == y.0.value) xs && has (λ y. can_own y.1) (x ∷ xs) && has (is_hand x.0.value) h) (has (is_owner x.0.value Committed) h) t)
+    (and_right (each (λ y. x.0.value == y.0.value) xs && has (λ y. can_own y.1) (x ∷ xs) && may_decide h x.0.value && has (is_hand x.0.value) h) (has (is_owner x.0.value Committed) h) t)
   where
     any_answer : (e : ℕ) (y : Entry) → is_owner e Committed y ≡ true → is_answer y ≡ true
     any_answer e (OwnerAnswered f p) k = refl
@@ -186,11 +186,11 @@ pub record IsBy (h : List Entry) (C : Type 0) : Type 0 where
 by_evidence : {C : Type 0} (h : List Entry) → evidence h ≡ true → IsBy h C → C
 unfolding evidence by_seal by_owner by_log
 by_evidence h e f =
-    or_case ((has is_sealed h && not (has is_promoted h) && is_empty (durables h)) || (not (all_vote h) && owner_committed h (durables h))) (has is_promoted h && has is_record h)
-    (λ t. or_case (has is_sealed h && not (has is_promoted h) && is_empty (durables h)) (not (all_vote h) && owner_committed h (durables h))
+    or_case ((has is_sealed h && not (has is_promoted h) && is_empty (durables h)) || owner_committed h (durables h)) (has is_promoted h && has is_record h)
+    (λ t. or_case (has is_sealed h && not (has is_promoted h) && is_empty (durables h)) (owner_committed h (durables h))
     (λ s. f.seal (not_true (has is_promoted h) (second_of_three (has is_sealed h) (not (has is_promoted h)) (is_empty (durables h)) s))
     (first_of_three (has is_sealed h) (not (has is_promoted h)) (is_empty (durables h)) s) (and_right (has is_sealed h && not (has is_promoted h)) (is_empty (durables h)) s))
-    (λ o. f.owner (and_right (not (all_vote h)) (owner_committed h (durables h)) o)) t)
+    f.owner t)
     (λ l. f.log (and_left (has is_promoted h) (has is_record h) l) (and_right (has is_promoted h) (has is_record h) l)) (and_right (ready h) _ e)
 
 ready_there : (h : List Entry) → evidence h ≡ true → ready h ≡ true

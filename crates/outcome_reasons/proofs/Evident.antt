@@ -7,7 +7,7 @@ use Rattle.dtx_values.specs.declared.number.EnlNo.{EnlNo}
 use Rattle.dtx_values.specs.declared.words.Class.{Class}
 use Rattle.dtx_values.specs.declared.words.Outcome.TheVariants.{Committed}
 use Rattle.dtx_model.specs.Entries.{is_hand, is_owner, is_promoted, is_record, is_sealed}
-use Rattle.dtx_model.specs.Outcome.{all_vote, by_log, by_owner, by_seal, can_own, durables, evidence, owner_committed, ready}
+use Rattle.dtx_model.specs.Outcome.{by_log, by_owner, by_seal, can_own, durables, evidence, may_decide, owner_committed, ready}
 use Rattle.dtx_model.specs.Words.{each, has, or_else}
 use Rattle.dtx_model.proofs.Bools.{or_false}
 use Rattle.outcome_reasons.specs.Commits.{commit_reason, evident, is_mark}
@@ -46,17 +46,17 @@ and_false false = refl
 unowned : (h : List Entry) (ds : List (EnlNo × Class)) → ((e : EnlNo) → has (is_owner e.value Committed) h ≡ false) → owner_committed h ds ≡ false
 unowned h [] never = refl
 unowned h (d ∷ ds) never =
-    ap (λ b. (each (λ y. d.0.value == y.0.value) ds && has (λ y. can_own y.1) (d ∷ ds) && has (is_hand d.0.value) h) && b) (never d.0)
-    ∙ and_false (each (λ y. d.0.value == y.0.value) ds && has (λ y. can_own y.1) (d ∷ ds) && has (is_hand d.0.value) h)
+    ap (λ b. (each (λ y. d.0.value == y.0.value) ds && has (λ y. can_own y.1) (d ∷ ds) && may_decide h d.0.value && has (is_hand d.0.value) h) && b) (never d.0)
+    ∙ and_false (each (λ y. d.0.value == y.0.value) ds && has (λ y. can_own y.1) (d ∷ ds) && may_decide h d.0.value && has (is_hand d.0.value) h)
 
 pub no_evidence : (h : List Entry) → has is_mark h ≡ false → evidence h ≡ false
 unfolding evidence by_seal by_owner by_log
 no_evidence h k =
     rw (without is_sealed no_seal h k, without is_record no_record h k, unowned h (durables h) (λ e. without (is_owner e.value Committed) (no_owner e) h k))
-    (all_false (ready h) (not (all_vote h)) (has is_promoted h))
+    (all_false (ready h) (has is_promoted h))
   where
-    all_false : (r n p : Bool) → (r && (false || ((n && false) || (p && false)))) ≡ false
-    all_false r n p = rw (and_false n) (rw (and_false p) (and_false r))
+    all_false : (r p : Bool) → (r && (false || false || (p && false))) ≡ false
+    all_false r p = rw (and_false p) (and_false r)
 
 -- so none of its entries is evident
 pub none_evident : (h : List Entry) → has is_mark h ≡ false → first_of evident h ≡ None

@@ -12,12 +12,12 @@ use Rattle.dtx_values.specs.declared.words.Outcome.TheVariants.{Committed}
 use Rattle.dtx_values.specs.Class.{is_volatile}
 use Rattle.dtx_model.specs.Words.{has, each, all_of}
 use Rattle.dtx_model.specs.Entries.{is_any_single_sent, is_good_vote, is_promoted, is_yes, is_sealed, is_decision, is_commit, clone_of, is_any_hand, is_hand, is_owner, is_record, same_outcome}
-use Rattle.dtx_model.specs.Outcome.{all_vote, enlisted, volatiles, voters, is_complete, ready, can_own, owner_committed, is_empty, durables, by_seal, by_owner, by_log, evidence}
+use Rattle.dtx_model.specs.Outcome.{enlisted, volatiles, voters, is_complete, ready, can_own, may_decide, owner_committed, is_empty, durables, by_seal, by_owner, by_log, evidence}
 use Rattle.dtx_model.proofs.Bools.{or_false, not_true, or_right, not_both, and_never, and_left, and_right, and_both, three_hold, or_case}
 use Rattle.history_table.proofs.Tests.{second_of_four, second_of_three, third_of_four, second_of_five, third_of_five, fourth_of_five}
 use Rattle.history_table.proofs.EntryTests.{is_enlisted, all_complete, is_cloned, zeros_cast, is_answer, is_only}
 use Rattle.history_table.proofs.Scans.{each_more, has_less}
-use Rattle.history_table.proofs.Evident.{not_all}
+use Rattle.history_table.proofs.Evident.{may_decide_local}
 use Rattle.history_table.proofs.Handed.{hand_any, is_answered, owner_alone, only_name, hand_name}
 use Rattle.script_histories.proofs.Rule.{rule, ruled, first_rule, other_rules}
 
@@ -122,18 +122,17 @@ owner_answer e o _ k = k
 pub uncommitted : (h : List Entry) (ds : List (EnlNo × Class)) → has is_answer h ≡ false → owner_committed h ds ≡ false
 uncommitted h [] u = refl
 uncommitted h (x ∷ xs) u =
-    ap (λ b. each (λ y. x.0.value == y.0.value) xs && has (λ y. can_own y.1) (x ∷ xs) && has (is_hand x.0.value) h && b)
+    ap (λ b. each (λ y. x.0.value == y.0.value) xs && has (λ y. can_own y.1) (x ∷ xs) && may_decide h x.0.value && has (is_hand x.0.value) h && b)
     (has_less (is_owner x.0.value Committed) is_answer (owner_answer x.0.value Committed) h u)
-    ∙ and_never (each (λ y. x.0.value == y.0.value) xs && has (λ y. can_own y.1) (x ∷ xs) && has (is_hand x.0.value) h)
+    ∙ and_never (each (λ y. x.0.value == y.0.value) xs && has (λ y. can_own y.1) (x ∷ xs) && may_decide h x.0.value && has (is_hand x.0.value) h)
 
 -- where nothing is promoted and no owner committed, evidence is by the seal
-pub seal_alone : (a s p v l e o : Bool) → p ≡ false → v ≡ false → o ≡ false → (a && ((s && not p && e) || (not v && o) || (p && l))) ≡ (a && (s && e))
-seal_alone a s true v l e o p w q = absurd cc
-seal_alone a s false true l e o p w q = absurd cc
-seal_alone a s false false l e true p w q = absurd cc
-seal_alone a true false false l true false p w q = refl
-seal_alone a true false false l false false p w q = refl
-seal_alone a false false false l e false p w q = refl
+pub seal_alone : (a s p l e o : Bool) → p ≡ false → o ≡ false → (a && ((s && not p && e) || o || (p && l))) ≡ (a && (s && e))
+seal_alone a s true l e o p q = absurd cc
+seal_alone a s false l e true p q = absurd cc
+seal_alone a true false l true false p q = refl
+seal_alone a true false l false false p q = refl
+seal_alone a false false l e false p q = refl
 
 -- after the seal nothing but the votes and the durables is open
 pub seal_step : (s c a w e : Bool) → (s ≡ true → c ≡ true) → (s ≡ true → a ≡ true) → ((c && a && w) && (s && e)) ≡ (s && (w && e))
@@ -163,7 +162,7 @@ volatile_well g (x ∷ xs) =
 pub evidence-sealed : (h : List Entry) → ruled h ≡ true → has is_answer h ≡ false → evidence h ≡ (has is_sealed h && all_well h)
 unfolding evidence ready by_seal by_owner by_log
 evidence-sealed h r u =
-    seal_alone (ready h) (has is_sealed h) (has is_promoted h) (all_vote h) (has is_record h) (is_empty (durables h)) (owner_committed h (durables h)) (none_promoted h r) (not_all h (none_promoted h r))
+    seal_alone (ready h) (has is_sealed h) (has is_promoted h) (has is_record h) (is_empty (durables h)) (owner_committed h (durables h)) (none_promoted h r)
     (uncommitted h (durables h) u)
     ∙ ap (λ xs. (has is_commit h && all_complete h && each (λ x. has (is_good_vote x.0.value) h) xs) && (has is_sealed h && is_empty (durables h))) (voters-volatile h r)
     ∙ seal_step (has is_sealed h) (has is_commit h) (all_complete h) (each (λ x. has (is_good_vote x.0.value) h) (volatiles h)) (is_empty (durables h))
@@ -249,5 +248,5 @@ unfolding evidence by_seal by_owner by_log
 evidence-handed h r k =
     let name = hand_name h k in
     let w = hand_stands name.0 h r name.1 in
-    owner_alone (ready h) (has is_sealed h) (has is_promoted h) (all_vote h) (has is_record h) h name.0 (durables h) w.all_ready (not_all h (none_promoted h r)) (ap (λ b. b && has is_record h) (none_promoted h r)) w.alone name.1
+    owner_alone (ready h) (has is_sealed h) (has is_promoted h) (has is_record h) h name.0 (durables h) w.all_ready (may_decide_local h name.0 (none_promoted h r)) (ap (λ b. b && has is_record h) (none_promoted h r)) w.alone name.1
     ∙ answers_alone name.0 Committed h r (λ f g. only_name f name.0 (durables h) (hand_stands f h r g).alone w.alone)

@@ -5,10 +5,9 @@ use Rattle.dtx_values.specs.Owners.{is_evident}
 use Rattle.dtx_model.specs.Words.{each, has}
 use Rattle.dtx_model.specs.Entries.{is_commit, is_decision, is_good_vote, is_promoted, is_record, is_sealed}
 use Rattle.dtx_model.specs.Observed.{rows}
-use Rattle.dtx_model.specs.Outcome.{all_vote, by_log, by_owner, by_seal, durables, enlisted, evidence, is_empty, owner_committed, ready, volatiles, voters}
+use Rattle.dtx_model.specs.Outcome.{by_log, by_owner, by_seal, durables, enlisted, evidence, is_empty, owner_committed, ready, volatiles, voters}
 use Rattle.history_table.proofs.EntryTests.{all_complete, is_answer}
 use Rattle.script_histories.proofs.Evidence.{all_well, seal_alone, seal_step, uncommitted, volatile_well}
-use Rattle.history_table.proofs.Evident.{not_all}
 use Rattle.history_table.proofs.Keeping.{Keeps}
 use Rattle.history_table.proofs.Recording.{commit_if_sealed, complete_if_sealed}
 use Rattle.history_table.proofs.HalfRows.{evident_seen}
@@ -22,7 +21,7 @@ voters_local h p = rw p refl
 evidence_local : (h : List Entry) → Keeps h → has is_promoted h ≡ false → has is_answer h ≡ false → evidence h ≡ (has is_sealed h && all_well h)
 unfolding evidence ready by_seal by_owner by_log
 evidence_local h k p u =
-    seal_alone (ready h) (has is_sealed h) (has is_promoted h) (all_vote h) (has is_record h) (is_empty (durables h)) (owner_committed h (durables h)) p (not_all h p) (uncommitted h (durables h) u)
+    seal_alone (ready h) (has is_sealed h) (has is_promoted h) (has is_record h) (is_empty (durables h)) (owner_committed h (durables h)) p (uncommitted h (durables h) u)
     ∙ ap (λ xs. (has is_commit h && all_complete h && each (λ x. has (is_good_vote x.0.value) h) xs) && (has is_sealed h && is_empty (durables h))) (voters_local h p)
     ∙ seal_step (has is_sealed h) (has is_commit h) (all_complete h) (each (λ x. has (is_good_vote x.0.value) h) (volatiles h)) (is_empty (durables h))
     (commit_if_sealed h k) (complete_if_sealed h k)

@@ -25,7 +25,7 @@ use Rattle.dtx_model.specs.Half.{half_of, veto}
 use Rattle.dtx_model.specs.Replies.{all_due, due_of, reply_entries}
 use Rattle.dtx_model.specs.World.{answer_at}
 use Rattle.dtx_model.specs.Steps.{Replies, ReplyOf, block_at, local_pending, pending}
-use Rattle.dtx_model.specs.Caused.{Caused, IsNamed}
+use Rattle.dtx_model.specs.Caused.{Caused, has_object, IsNamed}
 use Rattle.dtx_model.specs.Replay.{HasSettled, IsReplayed, LinesRan, StepsRan, world_at}
 use Rattle.dtx_values.specs.Owners.{may_own, owner_of}
 use Rattle.dtx_model.specs.Outcome.{ready, by_seal, by_owner, by_log, evidence, vetoed, owner_doubt, coordinator_doubt, single_doubt, doubt, may_tell, justified, agree}
@@ -140,7 +140,7 @@ owned_replayed = record { by_lines = at_t1 owned_whole; lines = owned_run; turns
 
 -- the script causes the history, and no object answers
 pub owned_caused : Caused owned 0 1 (past_of owned_whole)
-owned_caused = replayed_caused owned (at_t1 owned_whole) owned_replayed 0 (λ t. planned_at_t1 owned owned_whole refl t (t.value == 1) refl) t1
+owned_caused = replayed_caused owned (at_t1 owned_whole) owned_replayed (has_object owned 0) (λ t. planned_at_t1 owned owned_whole refl t (t.value == 1) refl) t1
 
 -- it is just
 pub owned_is_just : just_in owned_whole ≡ true

@@ -1,11 +1,11 @@
 -- Evidence by the seal and by the owner, read off a book.
-use Rattle.std.proofs.Common.{◌≡◌, ℕ, Bool, true, false, cond, ◌==◌, ◌&&◌, not, List, [], ◌∷◌, refl, ap, sym, ◌∙◌}
+use Rattle.std.proofs.Common.{◌≡◌, ℕ, Bool, true, false, cond, ◌==◌, ◌&&◌, ◌||◌, not, List, [], ◌∷◌, refl, ap, sym, ◌∙◌}
 use Rattle.dtx_values.specs.declared.entry.Entry.{Entry}
 use Rattle.dtx_values.specs.declared.number.EnlNo.{EnlNo}
 use Rattle.dtx_values.specs.declared.words.Class.{Class}
 use Rattle.dtx_values.specs.declared.words.Outcome.TheVariants.{Committed}
 use Rattle.dtx_model.specs.Entries.{is_hand, is_owner, is_promoted, is_sealed}
-use Rattle.dtx_model.specs.Outcome.{all_vote, by_owner, by_seal, can_own, durables, is_empty, owner_committed}
+use Rattle.dtx_model.specs.Outcome.{by_owner, by_seal, can_own, durables, is_empty, may_decide, owner_committed}
 use Rattle.dtx_model.specs.Words.{each, has}
 use Rattle.trace_checker.specs.declared.book.Book.{Book}
 use Rattle.trace_checker.specs.declared.owner.Lasting.{Lasting}
@@ -17,50 +17,38 @@ use Rattle.trace_checker.specs.Owner.{named_by}
 -- whether the one that is named owned the commit and answered committed
 abbrev owner_by : List Entry → List (EnlNo × Class) → Lasting → Bool
 owner_by h ds Nobody = false
-owner_by h ds (One n) = has (λ y. can_own y.1) ds && has (is_hand n) h && has (is_owner n Committed) h
+owner_by h ds (One n) = has (λ y. can_own y.1) ds && may_decide h n && has (is_hand n) h && has (is_owner n Committed) h
 owner_by h ds Several = false
 
 owner_named : (h : List Entry) (ds : List (EnlNo × Class)) → owner_committed h ds ≡ owner_by h ds (named_by ds)
 owner_named h [] = refl
 owner_named h (x ∷ xs) = by (each (λ y. x.0.value == y.0.value) xs)
   where
-    by : (b : Bool) → (b && has (λ y. can_own y.1) (x ∷ xs) && has (is_hand x.0.value) h && has (is_owner x.0.value Committed) h) ≡ owner_by h (x ∷ xs) (cond b (One x.0.value) Several)
+    by : (b : Bool) → (b && has (λ y. can_own y.1) (x ∷ xs) && may_decide h x.0.value && has (is_hand x.0.value) h && has (is_owner x.0.value Committed) h) ≡ owner_by h (x ∷ xs) (cond b (One x.0.value) Several)
     by true = refl
     by false = refl
 
--- the one durable or promotable
-owner_one : (h : List Entry) (b : Book) (n : ℕ) → b.owner.lasting ≡ One n → IsBookOf h b
-    → by_owner h ≡ (not (all_vote h) && ((b.owner.able && (member n b.members).handed) && (member n b.members).committed))
+-- by the owner, where it is known whom the book names
+owner_kept : (h : List Entry) (b : Book) (l : Lasting) → b.owner.lasting ≡ l → IsBookOf h b → by_owner h ≡ owner_by h (durables h) l
 unfolding by_owner
-owner_one h b n e k = ap (λ v. not (all_vote h) && v)
-    (owner_named h (durables h) ∙ (ap (owner_by h (durables h)) (sym k.owner.lasting ∙ e) ∙ three _ _ _ _ _ _ k.owner.able (k.members n).handed (k.members n).committed))
+owner_kept h b l e k = owner_named h (durables h) ∙ ap (owner_by h (durables h)) (sym k.owner.lasting ∙ e)
+
+-- the one durable or promotable may own the commit, may decide, was handed the commit and answered committed
+pub owner_one : (h : List Entry) (b : Book) (n : ℕ) → b.owner.lasting ≡ One n → IsBookOf h b
+    → by_owner h ≡ (b.owner.able && ((not b.marks.promoted || (member n b.members).single) && (member n b.members).handed && (member n b.members).committed))
+owner_one h b n e k =
+    owner_kept h b (One n) e k
+    ∙ rw (k.owner.able, k.marks.promoted, (k.members n).single, (k.members n).handed, (k.members n).committed) (apart (has (λ y. can_own y.1) (durables h)) (may_decide h n) (has (is_hand n) h) (has (is_owner n Committed) h))
   where
-    three : (a b c a' b' c' : Bool) → a ≡ a' → b ≡ b' → c ≡ c' → (a' && b' && c') ≡ (a && b && c)
-    three a b c a' b' c' p q r = cc
-
-pub owner_alone : (h : List Entry) (b : Book) (n : ℕ) → all_vote h ≡ false → b.owner.lasting ≡ One n → IsBookOf h b
-    → by_owner h ≡ ((b.owner.able && (member n b.members).handed) && (member n b.members).committed)
-owner_alone h b n v e k = owner_one h b n e k ∙ ap (λ a. not a && ((b.owner.able && (member n b.members).handed) && (member n b.members).committed)) v
-
-pub owner_voting : (h : List Entry) → all_vote h ≡ true → by_owner h ≡ false
-unfolding by_owner
-owner_voting h e = ap (λ v. not v && owner_committed h (durables h)) e
+    apart : (a m k o : Bool) → (a && m && k && o) ≡ (a && (m && k && o))
+    apart true m k o = refl
+    apart false m k o = refl
 
 pub owner_nobody : (h : List Entry) (b : Book) → b.owner.lasting ≡ Nobody → IsBookOf h b → by_owner h ≡ false
-unfolding by_owner
-owner_nobody h b e k = ap (λ v. not (all_vote h) && v) (owner_named h (durables h) ∙ ap (owner_by h (durables h)) (sym k.owner.lasting ∙ e)) ∙ never (not (all_vote h))
-  where
-    never : (a : Bool) → (a && false) ≡ false
-    never true = refl
-    never false = refl
+owner_nobody h b e k = owner_kept h b Nobody e k
 
 pub owner_several : (h : List Entry) (b : Book) → b.owner.lasting ≡ Several → IsBookOf h b → by_owner h ≡ false
-unfolding by_owner
-owner_several h b e k = ap (λ v. not (all_vote h) && v) (owner_named h (durables h) ∙ ap (owner_by h (durables h)) (sym k.owner.lasting ∙ e)) ∙ never (not (all_vote h))
-  where
-    never : (a : Bool) → (a && false) ≡ false
-    never true = refl
-    never false = refl
+owner_several h b e k = owner_kept h b Several e k
 
 -- nobody is named by none alone
 abbrev pub is_nobody : Lasting → Bool

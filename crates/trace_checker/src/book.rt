@@ -78,15 +78,13 @@ impl Book {
     }
 
     /// Whether it is evident by the owner.
-    #[tactic(auto, using(crate::proofs::Owned::owner_voting, crate::proofs::Owned::owner_nobody, crate::proofs::Owned::owner_several))]
+    #[tactic(auto, using(crate::proofs::Owned::owner_nobody, crate::proofs::Owned::owner_several))]
     fn is_by_owner(&self) -> bool
         ensures { (h : List Entry) → IsBookOf h self.now → result ≡ by_owner h }
     {
-        if self.all_vote() {
-            return false;
-        }
         match self.owner.lasting {
-            Lasting::One(n) => self.owner.able && self.members.at(n).has_committed(),
+            Lasting::One(n) => self.owner.able
+                && self.members.at(n).has_decided(self.marks.promoted),
             Lasting::Nobody => false,
             Lasting::Several => false,
         }

@@ -1,5 +1,5 @@
 //! A row for each enlistment.
-ghost use Rattle.std.specs.Prelude.{◌≡◌, ◌&&◌, List, [], ◌∷◌, OnOk};
+ghost use Rattle.std.specs.Prelude.{◌≡◌, ◌&&◌, ◌||◌, not, List, [], ◌∷◌, OnOk};
 ghost use Rattle.trace_checker.specs.Members.{about};
 
 use dtx_values::{Conn, Dir, EnlNo, Entry, Message, Outcome};
@@ -56,11 +56,11 @@ impl Member {
         replied: false,
     };
 
-    /// Whether it was handed the commit and answered committed.
-    pub fn has_committed(&self) -> bool
-        ensures { result ≡ (self.now.handed && self.now.committed) }
+    /// Whether it may decide, where the transaction is promoted or not, was handed the commit and answered committed.
+    pub fn has_decided(&self, promoted: bool) -> bool
+        ensures { result ≡ ((not promoted || self.now.single) && self.now.handed && self.now.committed) }
     {
-        self.handed && self.committed
+        (!promoted || self.single) && self.handed && self.committed
     }
 
     /// Notes what the coordinator got from it.
