@@ -31,7 +31,7 @@ use Rattle.dtx_model.specs.Acts.{act_entries}
 use Rattle.dtx_model.specs.Replies.{due_of, fits}
 use Rattle.dtx_model.specs.World.{World, half, core, has_left}
 use Rattle.dtx_model.specs.Steps.{LogAnswer, Full, Step, Calls, Replies, Acts, Coordinates, Delivers, Stops, Restarts, StepName, ReplyOf, LocalAct, CoordinatorAct, Delivery, after, block_at, pending}
-use Rattle.std.specs.Prelude.{ℕ, ◌≡◌, ◌≤◌, Bool, true, false, ◌||◌, not, List, [], ◌∷◌, Some, is_some, slice_get}
+use Rattle.std.specs.Prelude.{ℕ, ◌==◌, ◌≡◌, ◌≤◌, Bool, true, false, ◌||◌, not, List, [], ◌∷◌, Some, is_some, slice_get}
 use Rattle.dtx_values.specs.Row.{is_of}
 use Rattle.dtx_values.specs.Clones.{is_clone}
 use Rattle.dtx_model.specs.Observed.{Observed}
@@ -219,11 +219,40 @@ is_up_to k None = false
 abbrev pub has_object : List Line → ℕ → ℕ → Bool
 has_object s k e = is_up_to k (manager_of (calls_in s (past_of s)) e)
 
--- Caused, with k objects: the history is made of steps that may come over the calls that the script's lines give the transaction, and each reply that no
--- object gives is the planned one
-pub record Caused (s : List Line) (k t : ℕ) (h : List Entry) : Type 0 where
+-- whose enlistments have an object: those of the first managers, each with its own; those of one manager; or all volatiles
+pub data Of : Type 0 where
+  Managers : (count : ℕ) → Of
+  Manager : (manager : RmNo) → Of
+  Volatiles : Of
+
+abbrev pub is_manager : RmNo → Option RmNo → Bool
+is_manager r (Some q) = r.value == q.value
+is_manager r None = false
+
+-- the call makes this volatile
+abbrev pub makes_volatile : ℕ → Call → Bool
+makes_volatile e (Volatile t f x v) = e == f.value
+makes_volatile e _ = false
+
+-- the script makes the enlistment a volatile
+abbrev pub is_volatile_in : List Line → ℕ → Bool
+is_volatile_in s e = has (λ k. makes_volatile e k.call) (calls_in s (past_of s))
+
+-- the enlistment has an object
+abbrev pub answers : List Line → Of → ℕ → Bool
+answers s (Managers k) e = has_object s k e
+answers s (Manager r) e = is_manager r (manager_of (calls_in s (past_of s)) e)
+answers s Volatiles e = is_volatile_in s e
+
+-- Caused, where `free` says which enlistments have an object: the history is made of steps that may come over the calls that the script's lines give the
+-- transaction, and each reply that no object gives is the planned one
+pub record CausedBy (s : List Line) (free : ℕ → Bool) (t : ℕ) (h : List Entry) : Type 0 where
   pub freely : FreelyCaused (IsCallOf s t) t h
-  pub planned : always (is_as_planned (plans_of s) (has_object s k)) h ≡ true
+  pub planned : always (is_as_planned (plans_of s) free) h ≡ true
+
+-- Caused, where the first k managers have an object each
+abbrev pub Caused : List Line → ℕ → ℕ → List Entry → Type 0
+Caused s k t h = CausedBy s (has_object s k) t h
 
 -- the world of a history, by the script
 abbrev pub world_of : List Line → List Entry → World

@@ -83,7 +83,7 @@ pub struct Line {
     pub body: Body,
 }
 
-/// The first fault of a line, in the order in which they are looked for.
+/// The first fault of a line, in the order in which they are looked for. The last two are those of a line `put`, which comes before a script; a script's own lines have the others.
 #[derive(Clone, Copy, PartialEq, Eq, Debug)]
 pub enum BadCause {
     TooLong,
@@ -98,6 +98,8 @@ pub enum BadCause {
     NameUnknown,
     WrongKind,
     ParTwice,
+    TooManyPuts,
+    KeyTaken,
 }
 
 /// A script: its lines in order, which contracts see as a list.

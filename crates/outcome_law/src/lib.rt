@@ -34,7 +34,7 @@ ghost use Rattle.dtx_model.specs.Calls.{call_of};
 ghost use Rattle.dtx_model.specs.Contexts.{context};
 ghost use Rattle.dtx_model.specs.declared.waiting.EnteredCall.{EnteredCall};
 ghost use Rattle.dtx_model.specs.World.{World};
-ghost use Rattle.dtx_model.specs.Caused.{IsCallOf, is_new, AreMadeOnce, Caused, FreelyCaused, IsIn, IsOwnRun, Settled, has_object, is_as_planned, is_unpromoted, plans_of};
+ghost use Rattle.dtx_model.specs.Caused.{IsCallOf, is_new, AreMadeOnce, CausedBy, FreelyCaused, IsIn, IsOwnRun, Settled, is_as_planned, is_unpromoted, plans_of};
 ghost use Rattle.dtx_model.specs.AtLog.{follow_log, is_local_trace, is_restart};
 ghost use Rattle.dtx_model.specs.Traces.{Placed, history, at_context, calls};
 ghost use Rattle.dtx_model.specs.Replay.{IsReplayed, LinesRan, due_calls};
@@ -119,8 +119,8 @@ pub fn completeness()
 /// in which the log is sound: it was never stopped, nor opened again, and no append found it full. And so it is where nothing is promoted and nothing stands at the
 /// log. The trace is read newest first, but for the last two clauses.
 pub fn replay()
-    ensures caused { (s : List Line) (T : List Placed) → IsReplayed s T → (k : ℕ)
-        → ((t : TxNo) → always (is_as_planned (plans_of s) (has_object s k)) (history t.value T) ≡ true) → (t : TxNo) → Caused s k t.value (history t.value T) }
+    ensures caused { (s : List Line) (T : List Placed) → IsReplayed s T → (free : ℕ → Bool)
+        → ((t : TxNo) → always (is_as_planned (plans_of s) free) (history t.value T) ≡ true) → (t : TxNo) → CausedBy s free t.value (history t.value T) }
     ensures contexts { (s : List Line) (T : List Placed) → IsReplayed s T → (a : ActorNo) → at_context a.value T ≡ context a.value (past_of s) }
     ensures called { (s : List Line) (T : List Placed) → IsReplayed s T → calls T ≡ due_calls s (past_of s) }
     ensures followed { (s : List Line) (T : List Placed) → IsReplayed s T → follow_log T ≡ true }

@@ -8,7 +8,7 @@ use Rattle.dtx_values.specs.declared.scope.OpenScope.{OpenScope}
 use Rattle.dtx_values.specs.declared.script.Line.{Line}
 use Rattle.dtx_model.specs.Words.{kth, latest, onto, past_of}
 use Rattle.dtx_model.specs.AtLog.{at_log, is_called, unless_said, up_of}
-use Rattle.dtx_model.specs.Caused.{IsCallOf, IsIn}
+use Rattle.dtx_model.specs.Caused.{IsCallOf, IsIn, Of}
 use Rattle.dtx_model.specs.Contexts.{lines_before, scope_block, scope_calls}
 use Rattle.dtx_model.specs.Replay.{after_calls, after_scope}
 use Rattle.dtx_model.specs.Tied.{tied as is_tied_history}
@@ -45,7 +45,7 @@ noted_tied a es old new t n k =
       given = λ m b c i. subst (λ (s : List Line). IsCallOf s t.value m b c) (sym n.script) (k.given m b c (subst (λ (x : TxState). IsIn x.world.calls m b c) same i));
       planned =
           subst (λ (s : List Line). IsToPlan s new.objects (state_of t new.worlds).world.past) (sym n.script)
-          (subst (λ (o : ℕ). IsToPlan old.script o (state_of t new.worlds).world.past) (sym n.objects) (subst (λ (x : TxState). IsToPlan old.script old.objects x.world.past) (sym same) k.planned));
+          (subst (λ (o : Of). IsToPlan old.script o (state_of t new.worlds).world.past) (sym n.objects) (subst (λ (x : TxState). IsToPlan old.script old.objects x.world.past) (sym same) k.planned));
     }
 
 -- so what holds of the run holds still,

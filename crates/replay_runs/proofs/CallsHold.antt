@@ -14,7 +14,7 @@ use Rattle.dtx_model.specs.AtLog.{at_log, is_called, unless_said, up_of}
 use Rattle.dtx_model.specs.Tied.{tied as is_tied_history}
 use Rattle.dtx_model.specs.World.{World}
 use Rattle.dtx_model.specs.Steps.{Step, Calls, block_at}
-use Rattle.dtx_model.specs.Caused.{AreMadeOnce, IsCallOf, IsIn, IsOwnRun, MayAnswer, has_object, plans_of}
+use Rattle.dtx_model.specs.Caused.{AreMadeOnce, IsCallOf, IsIn, IsOwnRun, MayAnswer, Of, answers, plans_of}
 use Rattle.dtx_model.specs.Traces.{Placed, history, placed}
 use Rattle.dtx_model.specs.Replay.{after_turn}
 use Rattle.dtx_model.proofs.Bools.{and_both, and_left, and_right}
@@ -78,7 +78,7 @@ tied_here faults log t n a c m x y old new e mine tied =
       given = subst (λ (ks : List EnteredCall). (j : ℕ) (b : ActorNo) (d : Call) → IsIn ks j b d → IsCallOf old.script t.value j b d) (sym calls)
           (given_more old.script t.value k x.world.calls mine tied.given);
       planned = subst (λ (h : List Entry). IsToPlan old.script old.objects h) (sym past)
-          (right_onto (plans_of old.script) (has_object old.script old.objects) x.world.past es tied.planned (right_written (plans_of old.script) (has_object old.script old.objects) log.is_up t.value x.world step tt));
+          (right_onto (plans_of old.script) (answers old.script old.objects) x.world.past es tied.planned (right_written (plans_of old.script) (answers old.script old.objects) log.is_up t.value x.world step tt));
     }
 
 -- and so do the others
@@ -128,7 +128,7 @@ entered_holds faults honest image log t n a c m x y old new e mine h =
     record {
       tied = λ u.
           subst (λ (r : List Line). IsTied r new.objects u (past_of new.trace) (state_of u new.worlds)) (sym e.script)
-          (subst (λ (k : ℕ). IsTied s k u (past_of new.trace) (state_of u new.worlds)) (sym e.objects) (tied u));
+          (subst (λ (k : Of). IsTied s k u (past_of new.trace) (state_of u new.worlds)) (sym e.objects) (tied u));
       kept = each_still faults log t n a c m x y old new IsRecordKept e (λ k. e.kept) h.kept;
       goes = each_still faults log t n a c m x y old new (GoesWith log) e (λ k. goes_step faults t x y log log step e.own e.does refl k tt) h.goes;
       had = each_still faults log t n a c m x y old new (λ z. IsHad z log) e (had_as log x y e.does.transaction e.ours) h.had;
@@ -201,7 +201,7 @@ was_here : (old ws : List TxState) (t : TxNo) (x : TxState) → t.value ≤ leng
 was_here old ws t x made here same = sym (same t) ∙ state_reached t ws x made here
 
 -- so a call of the script may be entered there, where only calls of lines before it were
-pub may_enter_here : (s : List Line) (o : ℕ) (T : List Placed) (old ws : List TxState) (t : TxNo) (n : ℕ) (a : ActorNo) (c : Call) (x : TxState) → t.value ≤ length ws → x ≡ get_or ws (t.value - 1) x
+pub may_enter_here : (s : List Line) (o : Of) (T : List Placed) (old ws : List TxState) (t : TxNo) (n : ℕ) (a : ActorNo) (c : Call) (x : TxState) → t.value ≤ length ws → x ≡ get_or ws (t.value - 1) x
     → ((u : TxNo) → state_of u ws ≡ state_of u old) → AreMadeOnce (IsCallOf s t.value) → IsTied s o t T (state_of t old) → IsCallOf s t.value n a c → IsBelow n (state_of t old) → may_enter x.world n c ≡ true
 may_enter_here s o T old ws t n a c x made here same once tied given below =
     subst (λ (z : TxState). may_enter z.world n c ≡ true) (was_here old ws t x made here same) (enters s t.value n a c (state_of t old).world once given tied.given below)

@@ -1,13 +1,16 @@
 -- How the parts of a run follow each other: what two parts in a row keep, they keep together.
-use Rattle.std.proofs.Common.{◌≡◌, ◌≤◌, ◌∙◌, ℕ, Bool, true, false, List, sym, subst, refl, arith, inl, inr}
-use Rattle.std.specs.Prelude.{nat_lt}
+use Rattle.std.proofs.Common.{◌≡◌, ◌≤◌, ◌∙◌, ℕ, Result, Ok, Err, Bool, true, false, List, sym, subst, refl, arith, inl, inr}
+use Rattle.std.specs.Prelude.{OnOk, nat_lt}
 use Rattle.outside.proofs.Rising.{rose_earlier, rose_later}
 use Rattle.dtx_model.specs.declared.waiting.EnteredCall.{EnteredCall}
-use Rattle.dtx_model.specs.Words.{each}
+use Rattle.dtx_values.specs.declared.script.Line.{Line}
+use Rattle.dtx_model.specs.Caused.{Of}
+use Rattle.dtx_model.specs.Words.{each, past_of}
+use Rattle.heard_notes.specs.Heard.{HeardNote, heard}
 use Rattle.coordinator_log.specs.State.{LogState}
 use Rattle.tx_world.specs.State.{TxState}
 use Rattle.replay_runs.specs.LogRun.{LogGoes, LogStays}
-use Rattle.replay_runs.specs.RunState.{AreBelow, HaveSameCalls, Holds, RunState, RunsOn, StepsGo}
+use Rattle.replay_runs.specs.RunState.{AreBelow, HaveSameCalls, HearsOn, Holds, RunState, RunsOn, StepsGo}
 
 -- a log that nothing touched
 pub goes_same : {D : Type 0} (faults : D → ℕ) (honest : Bool) (image : D → List ℕ → Type 0) (log : LogState D) → LogGoes faults honest image log log
@@ -80,3 +83,32 @@ pub down_still : (a b : Bool) → (b ≡ true → a ≡ true) → a ≡ false �
 down_still true b still e = absurd cc
 down_still false true still e = absurd (let k = still refl in cc)
 down_still false false still e = refl
+
+-- What objects hear of no part, of two parts in a row, and of one in which the script and those that have an object stay.
+pub hears_same : {O : Type 0} (is_for : List Line → Of → O → Type 0) (hears : List Line → O → List HeardNote → O → Type 0) (r : RunState) (x : O) → is_for r.script r.objects x → HearsOn is_for hears r r x x
+hears_same is_for hears r x made = record { made = made; reached = λ from reached. reached }
+
+pub hears_then : {O : Type 0} (is_for : List Line → Of → O → Type 0) (hears : List Line → O → List HeardNote → O → Type 0) (p q r : RunState) (x y z : O) → HearsOn is_for hears p q x y → HearsOn is_for hears q r y z
+    → HearsOn is_for hears p r x z
+hears_then is_for hears p q r x y z first second = record { made = second.made; reached = λ from reached. second.reached from (first.reached from reached) }
+
+pub hears_on : {O : Type 0} (is_for : List Line → Of → O → Type 0) (hears : List Line → O → List HeardNote → O → Type 0) (p q : RunState) (x y : O) → q.script ≡ p.script → q.objects ≡ p.objects → is_for p.script p.objects y
+    → ((from : O) → hears p.script from (heard p.script p.objects (past_of p.trace)) x → hears p.script from (heard p.script p.objects (past_of q.trace)) y) → HearsOn is_for hears p q x y
+hears_on is_for hears p q x y script objects made reached =
+    record {
+      made = subst (λ (s : List Line). is_for s q.objects y) (sym script) (subst (λ (o : Of). is_for p.script o y) (sym objects) made);
+      reached = λ from before.
+          subst (λ (s : List Line). hears s from (heard s q.objects (past_of q.trace)) y) (sym script)
+          (subst (λ (o : Of). hears p.script from (heard p.script o (past_of q.trace)) y) (sym objects) (reached from before));
+    }
+
+-- and of one whose entries show no note
+pub hears_none : {O : Type 0} (is_for : List Line → Of → O → Type 0) (hears : List Line → O → List HeardNote → O → Type 0) (p q : RunState) (x : O) → q.script ≡ p.script → q.objects ≡ p.objects → is_for p.script p.objects x
+    → heard p.script p.objects (past_of q.trace) ≡ heard p.script p.objects (past_of p.trace) → HearsOn is_for hears p q x x
+hears_none is_for hears p q x script objects made same =
+    hears_on is_for hears p q x x script objects made (λ from before. subst (λ (hs : List HeardNote). hears p.script from hs x) (sym same) before)
+
+-- what follows from two clauses of a result
+pub on_ok_both : {T E A B C : Type 0} (r : Result T E) → (A → B → C) → OnOk r A → OnOk r B → OnOk r C
+on_ok_both (Ok x) f a b = f a b
+on_ok_both (Err e) f a b = tt

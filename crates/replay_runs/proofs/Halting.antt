@@ -12,7 +12,7 @@ use Rattle.dtx_model.specs.Words.{each, has, onto}
 use Rattle.dtx_model.specs.Log.{CommitRecord, first_of}
 use Rattle.dtx_values.specs.Table.{how_many}
 use Rattle.dtx_model.specs.AtLog.{hit, is_hit, is_known, known, one_if, transactions}
-use Rattle.dtx_model.specs.Caused.{has_object, is_begin_sent, plans_of}
+use Rattle.dtx_model.specs.Caused.{Of, answers, is_begin_sent, plans_of}
 use Rattle.dtx_model.specs.Replay.{put_at}
 use Rattle.dtx_model.specs.Steps.{Restarts, Stops, after, block_at, restarted}
 use Rattle.dtx_model.specs.Tied.{tied as is_tied_history}
@@ -38,8 +38,8 @@ use Rattle.replay_runs.proofs.Goes.{restarts_core, stops_core}
 use Rattle.replay_runs.proofs.Numbered.{is_it, numbered_set, state_here, state_reached, state_there, state_unreached}
 use Rattle.replay_runs.proofs.Tying.{given_same}
 
--- Of a run under way all but its transactions and its trace is as it was: its script's names, its managers, how many objects it has, and its contexts.
-pub record IsElseSame {P M C : Type 0} (old_plans new_plans : P) (old_managers new_managers : M) (old_objects new_objects : ℕ) (old_contexts new_contexts : C) : Type 0 where
+-- Of a run under way all but its transactions and its trace is as it was: its script's names, its managers, whose enlistments have an object, and its contexts.
+pub record IsElseSame {P M C : Type 0} (old_plans new_plans : P) (old_managers new_managers : M) (old_objects new_objects : Of) (old_contexts new_contexts : C) : Type 0 where
   pub plans : new_plans ≡ old_plans
   pub managers : new_managers ≡ old_managers
   pub objects : new_objects ≡ old_objects
@@ -203,14 +203,14 @@ hit_known life own true true k = refl
 hit_known life own true false k = elim (leb_tells own life) [ inl l ↦ l.0 | inr l ↦ let high = l.1 in let same = k refl in absurd (omega (arith, high, same)) ]
 hit_known life own false c k = refl
 
-pub hit_same : (s : List Line) (o : ℕ) (life : ℕ) (t : TxNo) (T : List Placed) (x : TxState) → IsTied s o t T x → (has is_begin_sent x.world.past ≡ true → x.life ≡ life) → is_hit_by life x ≡ is_hit T t
+pub hit_same : (s : List Line) (o : Of) (life : ℕ) (t : TxNo) (T : List Placed) (x : TxState) → IsTied s o t T x → (has is_begin_sent x.world.past ≡ true → x.life ≡ life) → is_hit_by life x ≡ is_hit T t
 hit_same s o life t T x tied lives =
     hit_known life x.life (has is_begin_sent x.world.past) (core x.world).stopped lives
     ∙ (ap (λ (c : Bool). has is_begin_sent x.world.past && not c) (stopped_same x.world.past)
     ∙ ap (λ (h : List Entry). has is_begin_sent h && not (is_stopped h)) tied.past)
 
 -- So a stop of the log, told to each by number.
-pub halted_trace : (s : List Line) (o : ℕ) (life : ℕ) (ws vs : List TxState) (T U : List Placed) (n : ℕ) → IsThrough (halted life) (is_hit_by life) (λ t. Stopped) ws T n vs U → length ws ≤ n
+pub halted_trace : (s : List Line) (o : Of) (life : ℕ) (ws vs : List TxState) (T U : List Placed) (n : ℕ) → IsThrough (halted life) (is_hit_by life) (λ t. Stopped) ws T n vs U → length ws ≤ n
     → ((t : TxNo) → IsTied s o t T (state_of t ws)) → ((t : TxNo) → has is_begin_sent (state_of t ws).world.past ≡ true → (state_of t ws).life ≡ life)
     → U ≡ put_at (λ t. Stopped) (hit T) T
 halted_trace s o life ws vs T U n a all tied lives =
@@ -221,7 +221,7 @@ one_more_where : (b : Bool) (x : Entry) (h : List Entry) → onto h (one_where b
 one_more_where true x h = refl
 one_more_where false x h = refl
 
-pub halted_tied : (s : List Line) (o : ℕ) (life : ℕ) (t : TxNo) (T : List Placed) (x : TxState) → IsTied s o t T x → (has is_begin_sent x.world.past ≡ true → x.life ≡ life)
+pub halted_tied : (s : List Line) (o : Of) (life : ℕ) (t : TxNo) (T : List Placed) (x : TxState) → IsTied s o t T x → (has is_begin_sent x.world.past ≡ true → x.life ≡ life)
     → IsTied s o t (put_at (λ u. Stopped) (hit T) T) (halted life x)
 halted_tied s o life t T x tied lives =
     let alike = halted_as life x in
@@ -232,10 +232,10 @@ halted_tied s o life t T x tied lives =
           ∙ (ap (λ b. one_more b Stopped x.world.past) (hit_same s o life t T x tied lives)
           ∙ (ap (λ h. one_more (is_hit T t) Stopped h) tied.past ∙ sym (history-hit t (λ u. Stopped) T T))));
       given = given_same s t.value x.world (halted life x).world alike.calls tied.given;
-      planned = subst (λ (h : List Entry). IsToPlan s o h) (sym alike.past) (right_onto (plans_of s) (has_object s o) x.world.past (one_where (is_hit_by life x) Stopped) tied.planned (as_planned (is_hit_by life x)));
+      planned = subst (λ (h : List Entry). IsToPlan s o h) (sym alike.past) (right_onto (plans_of s) (answers s o) x.world.past (one_where (is_hit_by life x) Stopped) tied.planned (as_planned (is_hit_by life x)));
     }
   where
-    as_planned : (b : Bool) → each (is_right (plans_of s) (has_object s o)) (one_where b Stopped) ≡ true
+    as_planned : (b : Bool) → each (is_right (plans_of s) (answers s o)) (one_where b Stopped) ≡ true
     as_planned true = refl
     as_planned false = refl
 
@@ -332,11 +332,11 @@ reached_known : (life own : ℕ) (b : Bool) → (b ≡ true → own < life) → 
 reached_known life own true k = elim (leb_tells life own) [ inl l ↦ let high = l.1 in let less = k refl in absurd (omega (arith, high, less)) | inr l ↦ ap not l.0 ]
 reached_known life own false k = refl
 
-pub reached_same : (s : List Line) (o : ℕ) (life : ℕ) (t : TxNo) (T : List Placed) (x : TxState) → IsTied s o t T x → (has is_begin_sent x.world.past ≡ true → x.life < life) → is_reached_by life x ≡ is_known T t
+pub reached_same : (s : List Line) (o : Of) (life : ℕ) (t : TxNo) (T : List Placed) (x : TxState) → IsTied s o t T x → (has is_begin_sent x.world.past ≡ true → x.life < life) → is_reached_by life x ≡ is_known T t
 reached_same s o life t T x tied lives = reached_known life x.life (has is_begin_sent x.world.past) lives ∙ ap (λ (h : List Entry). has is_begin_sent h) tied.past
 
 -- So an opening of the log, told to each by number.
-pub reopened_trace : {D : Type 0} (s : List Line) (o : ℕ) (log : LogState D) (ws vs : List TxState) (T U : List Placed) (n : ℕ)
+pub reopened_trace : {D : Type 0} (s : List Line) (o : Of) (log : LogState D) (ws vs : List TxState) (T U : List Placed) (n : ℕ)
     → IsThrough (reopened log) (is_reached_by log.life) (λ t. Restarted (is_some (record_in log.slots t.value))) ws T n vs U → length ws ≤ n → ((t : TxNo) → IsTied s o t T (state_of t ws))
     → ((t : TxNo) → has is_begin_sent (state_of t ws).world.past ≡ true → (state_of t ws).life < log.life)
     → U ≡ put_at (λ t. Restarted (is_some (record_in log.slots t.value))) (known T) T
@@ -345,7 +345,7 @@ reopened_trace s o log ws vs T U n a all tied lives =
     (λ t. reached_same s o log.life t T (state_of t ws) (tied t) (lives t)) (λ u. many-known u T)
 
 -- each is tied to the trace with it
-pub reopened_tied : {D : Type 0} (s : List Line) (o : ℕ) (log : LogState D) (t : TxNo) (T : List Placed) (x : TxState) → x.transaction ≡ first_id t → IsTied s o t T x
+pub reopened_tied : {D : Type 0} (s : List Line) (o : Of) (log : LogState D) (t : TxNo) (T : List Placed) (x : TxState) → x.transaction ≡ first_id t → IsTied s o t T x
     → (has is_begin_sent x.world.past ≡ true → (core x.world).stopped ≡ true) → (has is_begin_sent x.world.past ≡ true → x.life < log.life)
     → IsTied s o t (put_at (λ u. Restarted (is_some (record_in log.slots u.value))) (known T) T) (reopened log x)
 reopened_tied {D} s o log t T x number tied stopped lives =
@@ -360,10 +360,10 @@ reopened_tied {D} s o log t T x number tied stopped lives =
           ∙ (ap (λ (u : TxId). one_more (is_known T t) (Restarted (is_some (record_in log.slots (number_of u)))) (history t.value T)) number
           ∙ sym (history-known t (λ u. Restarted (is_some (record_in log.slots u.value))) T T)))));
       given = given_same s t.value x.world (reopened log x).world (reopened_calls log x) tied.given;
-      planned = subst (λ (h : List Entry). IsToPlan s o h) (sym past) (right_onto (plans_of s) (has_object s o) x.world.past (one_where (is_reached_by log.life x) found) tied.planned (as_planned (is_reached_by log.life x)));
+      planned = subst (λ (h : List Entry). IsToPlan s o h) (sym past) (right_onto (plans_of s) (answers s o) x.world.past (one_where (is_reached_by log.life x) found) tied.planned (as_planned (is_reached_by log.life x)));
     }
   where
-    as_planned : (b : Bool) → each (is_right (plans_of s) (has_object s o)) (one_where b (Restarted (is_some (record_in log.slots (number_of x.transaction))))) ≡ true
+    as_planned : (b : Bool) → each (is_right (plans_of s) (answers s o)) (one_where b (Restarted (is_some (record_in log.slots (number_of x.transaction))))) ≡ true
     as_planned true = refl
     as_planned false = refl
 

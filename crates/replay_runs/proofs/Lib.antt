@@ -12,8 +12,10 @@ pub mod FoundRecords
 pub mod Goes
 pub mod Going
 pub mod Halting
+pub mod Hearing
 pub mod InRecords
 pub mod LogEvents
+pub mod Marking
 pub mod NeverFull
 pub mod Noting
 pub mod Numbered
@@ -21,6 +23,7 @@ pub mod OwnCalls
 pub mod Recorded
 pub mod Reopening
 pub mod Replayed
+pub mod Replying
 pub mod RollingBack
 pub mod Rounds
 pub mod RunningLines

@@ -16,7 +16,7 @@ use Rattle.dtx_model.specs.Promotes.{identifier_of}
 use Rattle.dtx_model.specs.Tied.{before_last_stop, can_free, has_mark, is_tied}
 use Rattle.dtx_model.specs.Traces.{Placed, history}
 use Rattle.dtx_model.specs.World.{core}
-use Rattle.dtx_model.specs.Caused.{is_begin_sent}
+use Rattle.dtx_model.specs.Caused.{Of, is_begin_sent}
 use Rattle.dtx_model.specs.declared.waiting.EnteredCall.{EnteredCall}
 use Rattle.dtx_model.proofs.Bools.{not_both}
 use Rattle.coordinator_log.specs.Crash.{AllHold}
@@ -201,7 +201,7 @@ none_in : (k : ℕ) (c : EnteredCall) → kth {A = EnteredCall} [] k ≡ Some c 
 none_in zero c e = absurd cc
 none_in (suc k) c e = absurd cc
 
-tied_at_start : (s : List Line) (o : ℕ) (t : TxNo) → IsTied s o t [] (untouched t)
+tied_at_start : (s : List Line) (o : Of) (t : TxNo) → IsTied s o t [] (untouched t)
 tied_at_start s o t = record { past = refl; given = λ n a c k. absurd (none_in k.place (record { line = n; actor = a; call = c }) k.stands); planned = refl }
 
 -- each transaction keeps nothing,
@@ -228,7 +228,7 @@ in_each : (P : List CommitRecord → Type 0) (image : List ℕ → Type 0) (rs :
 in_each P image rs held p c i = subst (λ r. IfOk r P) (sym (held c i)) p
 
 -- So all holds of a run before its first step,
-pub holds_at_start : {D : Type 0} (honest : Bool) (image : D → List ℕ → Type 0) (log : LogState D) (s : List Line) (o : ℕ) (cs : List Standing) → IsTrue log.is_up → (IsTrue honest → HasNone (open_records log.slots))
+pub holds_at_start : {D : Type 0} (honest : Bool) (image : D → List ℕ → Type 0) (log : LogState D) (s : List Line) (o : Of) (cs : List Standing) → IsTrue log.is_up → (IsTrue honest → HasNone (open_records log.slots))
     → (IsTrue honest → AllHold (image log.disk) (open_records log.slots)) → Holds honest image log (record { script = s; objects = o; worlds = []; contexts = cs; trace = [] })
 holds_at_start honest image log s o cs up none held =
     record {

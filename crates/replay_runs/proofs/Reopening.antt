@@ -19,7 +19,7 @@ use Rattle.dtx_values.specs.declared.trace.Place.TheVariants.{Log}
 use Rattle.dtx_values.specs.Table.{how_many}
 use Rattle.dtx_model.specs.Words.{has, latest, past_of}
 use Rattle.dtx_model.specs.AtLog.{at_log, hit, is_called, is_known, is_log_up, known, one_if, unless_said, up_of}
-use Rattle.dtx_model.specs.Caused.{IsIn, is_begin_sent}
+use Rattle.dtx_model.specs.Caused.{IsIn, Of, is_begin_sent}
 use Rattle.dtx_model.specs.Log.{CommitRecord, first_of, is_record_of}
 use Rattle.dtx_model.specs.Promotes.{identifier_of}
 use Rattle.dtx_model.specs.Replay.{Differs, Faults, Opens, Reopening, after_halt, after_restart, at_the_log, put_at, stopped_by_restart}
@@ -48,13 +48,13 @@ use Rattle.replay_runs.proofs.TellingOpenings.{IsJust}
 use Rattle.replay_runs.proofs.Tying.{tied_same}
 
 -- A transaction is tied to a trace with an entry of the log after it.
-pub tied_at_log : (s : List Line) (o : ℕ) (t : TxNo) (T : List Placed) (e : Entry) (x : TxState) → IsTied s o t T x → IsTied s o t (at_the_log e T) x
+pub tied_at_log : (s : List Line) (o : Of) (t : TxNo) (T : List Placed) (e : Entry) (x : TxState) → IsTied s o t T x → IsTied s o t (at_the_log e T) x
 tied_at_log s o t T e x k = tied_same s o t T ((Log, e) ∷ T) x refl k
 
 -- the same of the same
-pub tied_move : (s r : List Line) (o w : ℕ) (t : TxNo) (T U : List Placed) (x y : TxState) → r ≡ s → w ≡ o → U ≡ T → y ≡ x → IsTied s o t T x → IsTied r w t U y
+pub tied_move : (s r : List Line) (o w : Of) (t : TxNo) (T U : List Placed) (x y : TxState) → r ≡ s → w ≡ o → U ≡ T → y ≡ x → IsTied s o t T x → IsTied r w t U y
 tied_move s r o w t T U x y a e b c k =
-    subst (λ (q : List Line). IsTied q w t U y) (sym a) (subst (λ (m : ℕ). IsTied s m t U y) (sym e) (subst (λ (V : List Placed). IsTied s o t V y) (sym b) (subst (λ (z : TxState). IsTied s o t T z) (sym c) k)))
+    subst (λ (q : List Line). IsTied q w t U y) (sym a) (subst (λ (m : Of). IsTied s m t U y) (sym e) (subst (λ (V : List Placed). IsTied s o t V y) (sym b) (subst (λ (z : TxState). IsTied s o t T z) (sym c) k)))
 
 -- a log isn't both up and down
 never_up : {A : Type 0} (b : Bool) → b ≡ false → IsTrue b → A

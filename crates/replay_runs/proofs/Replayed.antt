@@ -10,7 +10,7 @@ use Rattle.dtx_values.specs.declared.number.TxNo.{TxNo}
 use Rattle.dtx_values.specs.declared.trace.Place.{Place}
 use Rattle.dtx_values.specs.Table.{how_many}
 use Rattle.dtx_model.specs.AtLog.{at_log, faults as faults_told}
-use Rattle.dtx_model.specs.Caused.{Settled}
+use Rattle.dtx_model.specs.Caused.{Of, Settled}
 use Rattle.dtx_model.specs.History.{is_call_at}
 use Rattle.dtx_model.specs.Traces.{Placed, calls, history}
 use Rattle.dtx_model.specs.Replay.{IsReplayed, due_calls}
@@ -34,12 +34,12 @@ pub called_at : (s : List Line) (T : List Placed) → calls T ≡ due_calls s (p
 called_at s T same p n a = ap (how_many (is_call_at p n a)) same
 
 -- What a run of lines gives is a run of the script that has these lines.
-pub record IsOfScript (s : List Line) (o : ℕ) (T : List Placed) : Type 0 where
+pub record IsOfScript (s : List Line) (o : Of) (T : List Placed) : Type 0 where
   pub replayed : IsReplayed s T
   pub settled : (t : TxNo) → Settled s (history t.value T)
   pub planned : (t : TxNo) → IsToPlan s o (history t.value T)
 
-pub of_script : (s r : List Line) (o : ℕ) (T : List Placed) → r ≡ s → IsReplayed r T → ((t : TxNo) → Settled r (history t.value T)) → ((t : TxNo) → IsToPlan r o (history t.value T)) → IsOfScript s o T
+pub of_script : (s r : List Line) (o : Of) (T : List Placed) → r ≡ s → IsReplayed r T → ((t : TxNo) → Settled r (history t.value T)) → ((t : TxNo) → IsToPlan r o (history t.value T)) → IsOfScript s o T
 of_script s r o T same replayed settled planned = subst (λ (x : List Line). IsOfScript x o T) same (record { replayed = replayed; settled = settled; planned = planned })
 
 -- By how much a count of faults rose, where nobody knows it at its last value: as much as the trace tells of, and more.

@@ -17,7 +17,7 @@ use Rattle.dtx_model.specs.Tied.{tied as is_tied_history}
 use Rattle.dtx_model.specs.Wires.{is_stopped}
 use Rattle.dtx_model.specs.World.{World, core}
 use Rattle.dtx_model.specs.Steps.{StoppedNow, Step, Coordinates, Stops, after, appended, block_at, freed}
-use Rattle.dtx_model.specs.Caused.{is_begin_sent}
+use Rattle.dtx_model.specs.Caused.{Of, is_begin_sent}
 use Rattle.dtx_model.specs.Traces.{Placed, history, placed}
 use Rattle.dtx_model.specs.Replay.{after_stop, after_turn, at_the_log, others, put_at}
 use Rattle.dtx_model.proofs.Bools.{not_both}
@@ -178,7 +178,7 @@ stopped_holds {D} faults honest image a mid q at d down script objects worlds to
     record {
       tied = λ u.
           subst (λ (s : List Line). IsTied s q.objects u (past_of q.trace) (state_of u q.worlds)) (sym script)
-          (subst (λ (o : ℕ). IsTied a.run.script o u (past_of q.trace) (state_of u q.worlds)) (sym objects)
+          (subst (λ (o : Of). IsTied a.run.script o u (past_of q.trace) (state_of u q.worlds)) (sym objects)
           (subst (λ (T : List Placed). IsTied a.run.script a.run.objects u T (state_of u q.worlds)) (sym told)
           (subst (λ (x : TxState). IsTied a.run.script a.run.objects u (put_at (λ v. Stopped) (hit (past_of mid)) (past_of mid)) x) (sym (worlds u))
           (halted_tied a.run.script a.run.objects life u (past_of mid) (state_of u ws) (ties u) (lives u)))));

@@ -24,7 +24,7 @@ use Rattle.dtx_model.specs.Replies.{all_due}
 use Rattle.dtx_model.specs.Tied.{tied as is_tied_history}
 use Rattle.dtx_model.specs.World.{World, core}
 use Rattle.dtx_model.specs.Steps.{Done, Full, StoppedNow, StoppedBefore, Step, Calls, Replies, Acts, Coordinates, Delivers, Stops, Restarts, appended, block_at, freed, local_pending, pending}
-use Rattle.dtx_model.specs.Caused.{HasStepped, IsCallOf, IsIn, IsOwnRun, has_object, is_begin_sent, may_coordinate, plans_of, world_of}
+use Rattle.dtx_model.specs.Caused.{HasStepped, IsCallOf, IsIn, IsOwnRun, Of, answers, is_begin_sent, may_coordinate, plans_of, world_of}
 use Rattle.dtx_model.specs.Traces.{Placed, history, placed}
 use Rattle.dtx_model.specs.Replay.{is_in_replay, world_at}
 use Rattle.dtx_model.proofs.Bools.{and_both, and_left, and_right, not_both}
@@ -108,7 +108,7 @@ pub record DidStep {D : Type 0} (faults : D → ℕ) (honest : Bool) (a : StepOf
   pub past : a.y.world.past ≡ onto (was a).world.past (written a.from.is_up a.t.value (was a).world does.step)
   pub calls : a.y.world.calls ≡ (was a).world.calls
   pub given : (n : ℕ) (w : ActorNo) (c : Call) → IsIn a.y.world.calls n w c → IsCallOf a.run.script a.t.value n w c
-  pub planned : each (is_right (plans_of a.run.script) (has_object a.run.script a.run.objects)) (written a.from.is_up a.t.value (was a).world does.step) ≡ true
+  pub planned : each (is_right (plans_of a.run.script) (answers a.run.script a.run.objects)) (written a.from.is_up a.t.value (was a).world does.step) ≡ true
   pub goes : GoesWith a.to a.y
   pub in_replay : is_in_replay does.step ≡ true
   pub sound : IsTrue honest → is_tied_history a.y.world.past ≡ true
@@ -136,7 +136,7 @@ did_step faults honest image a d =
       calls = calls;
       given = given_same a.run.script a.t.value z.world a.y.world calls tied.given;
       planned =
-          right_written (plans_of a.run.script) (has_object a.run.script a.run.objects) a.from.is_up a.t.value z.world m
+          right_written (plans_of a.run.script) (answers a.run.script a.run.objects) a.from.is_up a.t.value z.world m
           (right_here faults a.run.script a.run.objects a.t (past_of a.run.trace) z a.given a.k a.from a.y a.to d.names tied own d.may d.does);
       goes = goes_step faults a.t z a.y a.from a.to m own d.does.done d.leaves.later.life (d.holds.goes a.t) (named_turn z.world d.does.name m d.does.named);
       in_replay = named_in_replay faults a.t z a.from a.to d.does.name m own d.does.named d.does.done.answered (d.holds.goes a.t);
@@ -384,7 +384,7 @@ step_found {D} faults honest image seen a at d same T f =
     by (Restarts found) may i q e = absurd may
 
 -- Nothing more is pending in the trace than in the world.
-pub none_pending : (s : List Line) (o : ℕ) (ws : List TxState) (T : List Placed) (t : TxNo) (k : ℕ) → IsTied s o t T (state_of t ws) → IsOwn t (state_of t ws) → kth (pending (state_of t ws).world) k ≡ None
+pub none_pending : (s : List Line) (o : Of) (ws : List TxState) (T : List Placed) (t : TxNo) (k : ℕ) → IsTied s o t T (state_of t ws) → IsOwn t (state_of t ws) → kth (pending (state_of t ws).world) k ≡ None
     → kth (pending (world_at s t T)) k ≡ None
 none_pending s o ws T t k tied own none = ap (λ ns. kth ns k) (sym (pending_here s o t T (state_of t ws) tied own)) ∙ none
 
@@ -394,7 +394,7 @@ unfolding pending local_pending all_due act_entries observe coordinate may_log m
 blank_pending zero = refl
 blank_pending (suc k) = refl
 
-untouched_pending : (s : List Line) (o : ℕ) (ws : List TxState) (T : List Placed) (t : TxNo) (k : ℕ) → IsTied s o t T (state_of t ws) → state_of t ws ≡ untouched t
+untouched_pending : (s : List Line) (o : Of) (ws : List TxState) (T : List Placed) (t : TxNo) (k : ℕ) → IsTied s o t T (state_of t ws) → state_of t ws ≡ untouched t
     → (kth (pending (state_of t ws).world) k ≡ None) × (kth (pending (world_at s t T)) k ≡ None)
 untouched_pending s o ws T t k tied blank =
     let past : [] ≡ history t.value T = sym (ap (λ (x : TxState). x.world.past) blank) ∙ tied.past in (

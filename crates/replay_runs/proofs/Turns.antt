@@ -1,6 +1,6 @@
 -- A step of a transaction, as its world does it and as the trace has it: a step that doesn't stop the log is a turn of the trace, whether the log is up or not.
-use Rattle.std.proofs.Common.{◌≡◌, ◌-◌, ◌<◌, ℕ, suc, Bool, true, false, ◌&&◌, not, List, [], ◌∷◌, ◌++◌, Option, None, Some, is_some, refl, ap, sym, subst, ◌∙◌, if◌then◌else◌}
-use Rattle.std.specs.Prelude.{IfSome, slice_index_or}
+use Rattle.std.proofs.Common.{◌≡◌, ◌<◌, ℕ, suc, Bool, true, false, ◌&&◌, not, List, [], ◌∷◌, ◌++◌, Option, None, Some, is_some, refl, ap, sym, subst, ◌∙◌, if◌then◌else◌}
+use Rattle.std.specs.Prelude.{IfSome}
 use Rattle.dtx_values.specs.declared.call.Call.{Call}
 use Rattle.dtx_values.specs.TxIds.{first_id, number_of}
 use Rattle.dtx_values.specs.declared.tx_id.TxId.{TxId}
@@ -10,7 +10,6 @@ use Rattle.dtx_values.specs.declared.note.Note.{Note}
 use Rattle.dtx_values.specs.declared.note.Reply.{Reply}
 use Rattle.dtx_values.specs.declared.number.ActorNo.{ActorNo}
 use Rattle.dtx_values.specs.declared.number.EnlNo.{EnlNo}
-use Rattle.dtx_values.specs.declared.number.RmNo.{RmNo}
 use Rattle.dtx_values.specs.declared.number.TxNo.{TxNo}
 use Rattle.dtx_values.specs.declared.script.Line.{Line}
 use Rattle.dtx_values.specs.declared.trace.Place.TheVariants.{Transaction}
@@ -21,7 +20,7 @@ use Rattle.dtx_model.specs.Plans.{planned as reply_planned}
 use Rattle.dtx_model.specs.Replies.{due_of, with_note}
 use Rattle.dtx_model.specs.World.{World, core, half}
 use Rattle.dtx_model.specs.Steps.{StoppedNow, StoppedBefore, Step, Replies, Coordinates, Stops, StepName, ReplyOf, LocalAct, CoordinatorAct, Delivery, after, appended, block_at, freed, pending}
-use Rattle.dtx_model.specs.Caused.{HasStepped, IsCallOf, IsIn, IsNamed, IsOwnRun, IsRun, entered_in, has_object, is_begin_sent, is_up_to, may_coordinate, may_stop_after, plans_of, stopped_if, world_of}
+use Rattle.dtx_model.specs.Caused.{HasStepped, IsCallOf, IsIn, IsNamed, IsOwnRun, IsRun, Of, answers, entered_in, is_begin_sent, may_coordinate, may_stop_after, plans_of, stopped_if, world_of}
 use Rattle.dtx_model.specs.Traces.{Placed, placed}
 use Rattle.dtx_model.specs.AtLog.{is_log_up}
 use Rattle.dtx_model.specs.Replay.{after_turn, block_in, stop_if, world_at}
@@ -32,7 +31,6 @@ use Rattle.script_histories.proofs.ReplayRuns.{named_same}
 use Rattle.script_histories.proofs.ReplaySame.{block_same, pending_same}
 use Rattle.script_histories.proofs.ReplayTurns.{is_stopping}
 use Rattle.script_histories.proofs.ScriptCalls.{ran_calls}
-use Rattle.script_calls.specs.Managers.{AreManagers}
 use Rattle.script_calls.proofs.RightReplies.{IsReplyRight, free_to, reply_to}
 use Rattle.script_calls.proofs.Unsilent.{unsilent}
 use Rattle.coordinator_log.specs.State.{LogState}
@@ -63,17 +61,17 @@ calls_by_script : (s : List Line) (t : ℕ) (w : World) → ((n : ℕ) (a : Acto
 calls_by_script s t w g r = let run = by_script s t w g r in ran_calls s t run.0 w run.1
 
 -- So what is pending in the world of a transaction that is tied is pending by the trace,
-pub pending_here : (s : List Line) (o : ℕ) (t : TxNo) (T : List Placed) (x : TxState) → IsTied s o t T x → IsOwn t x → pending x.world ≡ pending (world_at s t T)
+pub pending_here : (s : List Line) (o : Of) (t : TxNo) (T : List Placed) (x : TxState) → IsTied s o t T x → IsOwn t x → pending x.world ≡ pending (world_at s t T)
 pending_here s o t T x tied own =
     pending_same s t.value x.world.calls x.world.past (calls_by_script s t.value x.world tied.given own.run) ∙ ap (λ (h : List Entry). pending (world_of s h)) tied.past
 
 -- a step makes the same block there,
-pub block_here : (s : List Line) (o : ℕ) (t : TxNo) (T : List Placed) (x : TxState) (m : Step) → IsTied s o t T x → IsOwn t x → block_at t.value x.world m ≡ block_in s t m T
+pub block_here : (s : List Line) (o : Of) (t : TxNo) (T : List Placed) (x : TxState) (m : Step) → IsTied s o t T x → IsOwn t x → block_at t.value x.world m ≡ block_in s t m T
 block_here s o t T x m tied own =
     block_same s t.value x.world.calls x.world.past m (calls_by_script s t.value x.world tied.given own.run) ∙ ap (λ (h : List Entry). block_at t.value (world_of s h) m) tied.past
 
 -- and has the same name.
-pub named_here : (s : List Line) (o : ℕ) (t : TxNo) (T : List Placed) (x : TxState) (n : StepName) (m : Step) → IsTied s o t T x → IsNamed x.world n m → IsNamed (world_at s t T) n m
+pub named_here : (s : List Line) (o : Of) (t : TxNo) (T : List Placed) (x : TxState) (n : StepName) (m : Step) → IsTied s o t T x → IsNamed x.world n m → IsNamed (world_at s t T) n m
 named_here s o t T x n m tied k =
     subst (λ (h : List Entry). IsNamed (world_of s h) n m) tied.past (named_same x.world.calls (entered_in s x.world.past) x.world.past n m k)
 
@@ -99,7 +97,7 @@ block_turn : (s : List Line) (t : TxNo) (m : Step) (T : List Placed) → is_stop
 block_turn s t (Coordinates StoppedNow) T k = absurd cc
 block_turn s t m T k = refl
 
-pub turn_here : (s : List Line) (o : ℕ) (t : TxNo) (T : List Placed) (x : TxState) (m : Step) (up : Bool) → IsTied s o t T x → IsOwn t x → up ≡ is_log_up T → is_stopping m ≡ false
+pub turn_here : (s : List Line) (o : Of) (t : TxNo) (T : List Placed) (x : TxState) (m : Step) (up : Bool) → IsTied s o t T x → IsOwn t x → up ≡ is_log_up T → is_stopping m ≡ false
     → onto T (placed t (written up t.value x.world m)) ≡ after_turn s t m T
 turn_here s o t T x m up tied own same k =
     by (has is_begin_sent (block_at t.value x.world m) && not up) (block_at t.value x.world m)
@@ -139,15 +137,14 @@ acts_begun t w r may =
     let same : v ≡ after t w (Coordinates StoppedBefore) = ap (λ (es : List Entry). record { calls = w.calls; past = onto w.past es }) (sym (stop_block w (may_log (core w)))) in
     stopped_begun t v (Coordinates StoppedBefore ∷ r.0, (w, r.1, may, same)) refl
 
--- What is asked of a reply that is given: it fits the note, and its manager has an object.
-abbrev pub MayGive : List Line → ℕ → World → ℕ → Option (EnlNo × Reply) → Type 0
-MayGive s o w k given = IfSome given (λ x. MayReply w k x.0 x.1 × (has_object s o x.0.value ≡ true))
+-- What is asked of a reply that is given: it fits the note, and its enlistment has an object.
+abbrev pub MayGive : List Line → Of → World → ℕ → Option (EnlNo × Reply) → Type 0
+MayGive s o w k given = IfSome given (λ x. MayReply w k x.0 x.1 × (answers s o x.0.value ≡ true))
 
--- so it is, where the table of the script's managers says so
-pub given_by : (s : List Line) (o : ℕ) (ms : List (Option RmNo)) (w : World) (k : ℕ) (given : Option (EnlNo × Reply)) → AreManagers s s ms → IfSome given (λ x. MayReply w k x.0 x.1)
-    → IfSome given (λ x. is_up_to o (slice_index_or ms (x.0.value - 1) None) ≡ true) → MayGive s o w k given
-given_by s o ms w k (Some x) are may up = (may, ap (is_up_to o) (sym (are x.0)) ∙ up)
-given_by s o ms w k None are may up = tt
+-- both together
+pub given_by : (s : List Line) (o : Of) (w : World) (k : ℕ) (given : Option (EnlNo × Reply)) → IfSome given (λ x. MayReply w k x.0 x.1) → IfSome given (λ x. answers s o x.0.value ≡ true) → MayGive s o w k given
+given_by s o w k (Some x) may own = (may, own)
+given_by s o w k None may own = tt
 
 -- the step that is pending there is a reply of it
 reply_pending : (w : World) (e : EnlNo) (n : Note) (m : Option StepName) → reply_in w m ≡ Some (e, n) → (m ≡ Some (ReplyOf e)) × (due_of (half w).seen e.value ≡ Some n)
@@ -175,16 +172,16 @@ reply_nearer faults k e r x from y to run may did =
     let P : World → Type 0 = λ w. steps_left w < steps_left x.world in
     subst P (sym did.world) (step_nearer (IsIn x.world.calls) from.is_up (number_of x.transaction) run.0 x.world (ReplyOf e) (Replies e r) k run.1 there.0 there.1)
 
--- and a reply that is planned or given is right: it is the one that the script plans, or that of an enlistment whose manager has an object, which isn't silent.
-pub right_here : {D : Type 0} (faults : D → ℕ) (s : List Line) (o : ℕ) (t : TxNo) (T : List Placed) (x : TxState) (given : Option (EnlNo × Reply)) (k : ℕ) (from : LogState D) (y : TxState) (to : LogState D) → are_named_well s ≡ true
-    → IsTied s o t T x → IsOwn t x → MayGive s o x.world k given → (d : DoesGiven faults given k x from y to) → IsReplyRight (plans_of s) (has_object s o) d.step
+-- and a reply that is planned or given is right: it is the one that the script plans, or that of an enlistment that has an object, which isn't silent.
+pub right_here : {D : Type 0} (faults : D → ℕ) (s : List Line) (o : Of) (t : TxNo) (T : List Placed) (x : TxState) (given : Option (EnlNo × Reply)) (k : ℕ) (from : LogState D) (y : TxState) (to : LogState D) → are_named_well s ≡ true
+    → IsTied s o t T x → IsOwn t x → MayGive s o x.world k given → (d : DoesGiven faults given k x from y to) → IsReplyRight (plans_of s) (answers s o) d.step
 right_here faults s o t T x (Some (e, r)) k from y to named tied own (may, object) d =
     let there = reply_pending x.world e may.note (kth (pending x.world) k) may.due in
     let spoken : is_some (reply_planned (plans_of s e.value) may.note) ≡ true =
     ap is_some (sym (planned_here s t.value x.world e.value may.note named tied.given own.run there.1)) ∙ unsilent x.world k e may.note there.0 there.1 in
-    subst (λ (m : Step). IsReplyRight (plans_of s) (has_object s o) m) (sym d.reply) (free_to (plans_of s) (has_object s o) e may.note r object may.fitting spoken)
+    subst (λ (m : Step). IsReplyRight (plans_of s) (answers s o) m) (sym d.reply) (free_to (plans_of s) (answers s o) e may.note r object may.fitting spoken)
 right_here faults s o t T x None k from y to named tied own may d = by d.step d.reply
   where
-    by : (m : Step) → IsToPlan x.world m → IsReplyRight (plans_of s) (has_object s o) m
-    by (Replies e r) (n, due, plan) = reply_to (plans_of s) (has_object s o) e n r (sym (planned_here s t.value x.world e.value n named tied.given own.run due) ∙ plan)
+    by : (m : Step) → IsToPlan x.world m → IsReplyRight (plans_of s) (answers s o) m
+    by (Replies e r) (n, due, plan) = reply_to (plans_of s) (answers s o) e n r (sym (planned_here s t.value x.world e.value n named tied.given own.run due) ∙ plan)
     by _ q = tt

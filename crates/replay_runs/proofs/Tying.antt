@@ -10,7 +10,7 @@ use Rattle.dtx_values.specs.declared.script.Line.{Line}
 use Rattle.dtx_model.specs.Words.{each, onto}
 use Rattle.dtx_model.specs.World.{World}
 use Rattle.dtx_model.specs.Steps.{Step, block_at}
-use Rattle.dtx_model.specs.Caused.{IsCallOf, IsIn, has_object, plans_of}
+use Rattle.dtx_model.specs.Caused.{IsCallOf, IsIn, Of, answers, plans_of}
 use Rattle.dtx_model.specs.Traces.{Placed, history, placed}
 use Rattle.dtx_model.proofs.Bools.{and_both, and_left, and_right}
 use Rattle.script_calls.proofs.RightReplies.{IsReplyRight, is_right, right_block, right_onto}
@@ -34,9 +34,9 @@ right_written p free up t w m q = by (sends_begin t w m && not up)
     by false = right_block p free t w m q
 
 -- A transaction that wrote these entries, which were noted, is tied to the trace with them; and each other is tied as before.
-pub tied_noted : (s : List Line) (o : ℕ) (ws : List TxState) (T U : List Placed) (t : TxNo) (y : TxState) (es : List Entry) → t.value ≤ length ws
+pub tied_noted : (s : List Line) (o : Of) (ws : List TxState) (T U : List Placed) (t : TxNo) (y : TxState) (es : List Entry) → t.value ≤ length ws
     → ((u : TxNo) → IsTied s o u T (state_of u ws)) → U ≡ onto T (placed t es) → y.world.past ≡ onto (state_of t ws).world.past es
-    → ((n : ℕ) (a : ActorNo) (c : Call) → IsIn y.world.calls n a c → IsCallOf s t.value n a c) → each (is_right (plans_of s) (has_object s o)) es ≡ true
+    → ((n : ℕ) (a : ActorNo) (c : Call) → IsIn y.world.calls n a c → IsCallOf s t.value n a c) → each (is_right (plans_of s) (answers s o)) es ≡ true
     → (u : TxNo) → IsTied s o u U (state_of u (set ws (t.value - 1) y))
 tied_noted s o ws T U t y es made tied noted past given planned u = elim (is_it u t) [ inl e ↦ own e | inr k ↦ other k ]
   where
@@ -47,7 +47,7 @@ tied_noted s o ws T U t y es made tied noted past given planned u = elim (is_it 
         (record {
           past = past ∙ (ap (λ (h : List Entry). onto h es) (tied t).past ∙ (sym (history_here t T es) ∙ ap (history t.value) (sym noted)));
           given = given;
-          planned = subst (λ (h : List Entry). IsToPlan s o h) (sym past) (right_onto (plans_of s) (has_object s o) (state_of t ws).world.past es (tied t).planned planned);
+          planned = subst (λ (h : List Entry). IsToPlan s o h) (sym past) (right_onto (plans_of s) (answers s o) (state_of t ws).world.past es (tied t).planned planned);
         }))
 
     other : u ≢ t → IsTied s o u U (state_of u (set ws (t.value - 1) y))
@@ -56,7 +56,7 @@ tied_noted s o ws T U t y es made tied noted past given planned u = elim (is_it 
         (record { past = (tied u).past ∙ (sym (history_there u t T es k) ∙ ap (history u.value) (sym noted)); given = (tied u).given; planned = (tied u).planned })
 
 -- in a trace with the same histories it is tied too
-pub tied_same : (s : List Line) (o : ℕ) (u : TxNo) (T U : List Placed) (x : TxState) → history u.value U ≡ history u.value T → IsTied s o u T x → IsTied s o u U x
+pub tied_same : (s : List Line) (o : Of) (u : TxNo) (T U : List Placed) (x : TxState) → history u.value U ≡ history u.value T → IsTied s o u T x → IsTied s o u U x
 tied_same s o u T U x e tied = record { past = tied.past ∙ sym e; given = tied.given; planned = tied.planned }
 
 -- The calls that were entered are the script's, after a step that enters none.

@@ -7,4 +7,6 @@ pub mod Objects
 pub mod Rights
 pub mod Run
 pub mod RunState
+pub mod Volatiles
 pub mod Waits
+pub mod Whose

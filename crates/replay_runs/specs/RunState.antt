@@ -14,9 +14,10 @@ use Rattle.dtx_model.specs.World.{World, core}
 use Rattle.dtx_model.specs.Log.{CommitRecord, first_of}
 use Rattle.dtx_model.specs.Promotes.{identifier_of}
 use Rattle.dtx_model.specs.Steps.{Step, StepName, Stops, Restarts, after, pending}
-use Rattle.dtx_model.specs.Caused.{AreMadeOnce, HasStepped, IsCallOf, IsIn, IsNamed, IsOwnRun, Settled, has_object, is_as_planned, is_begin_sent, plans_of}
+use Rattle.dtx_model.specs.Caused.{AreMadeOnce, HasStepped, IsCallOf, IsIn, IsNamed, IsOwnRun, Of, Settled, answers, is_as_planned, is_begin_sent, plans_of}
 use Rattle.dtx_model.specs.Traces.{Placed, history}
 use Rattle.dtx_model.specs.Replay.{HasSettled, RoundsRan, StepsRan, after_turn, is_in_replay, is_passed, last_turn, world_at}
+use Rattle.heard_notes.specs.Heard.{HeardNote, heard}
 use Rattle.coordinator_log.specs.Slots.{open_records}
 use Rattle.coordinator_log.specs.State.{LogState}
 use Rattle.world_laws.specs.Left.{steps_left}
@@ -31,10 +32,10 @@ use Rattle.turn_parts.specs.Reopening.{is_no_log_answer}
 use Rattle.replay_runs.specs.Found.{Finds}
 use Rattle.replay_runs.specs.LogRun.{IsCounted, IsForeignKept, LogGoes, LogStays}
 
--- its script, how many managers have an object, the transactions by number up to the last that was called, the contexts of its actors, and its trace
+-- its script, whose enlistments have an object, the transactions by number up to the last that was called, the contexts of its actors, and its trace
 pub record RunState : Type 0 where
   pub script : List Line
-  pub objects : ℕ
+  pub objects : Of
   pub worlds : List TxState
   pub contexts : List Standing
   pub trace : List Placed
@@ -48,15 +49,15 @@ pub record AreNumbered (ws : List TxState) : Type 0 where
   pub few : length ws ≤ MAX
   pub numbered : (t : TxNo) → (state_of t ws).transaction ≡ first_id t
 
--- each reply in the history is the planned one, or that of an enlistment whose manager has an object, as the first k have
-abbrev pub IsToPlan : List Line → ℕ → List Entry → Type 0
-IsToPlan s k h = always (is_as_planned (plans_of s) (has_object s k)) h ≡ true
+-- each reply in the history is the planned one, or that of an enlistment that has an object
+abbrev pub IsToPlan : List Line → Of → List Entry → Type 0
+IsToPlan s o h = always (is_as_planned (plans_of s) (answers s o)) h ≡ true
 
 -- A transaction is that of its history in the trace T, newest first: each call that was entered is one that the script gives it, and each reply that no object gave is the planned one.
-pub record IsTied (s : List Line) (k : ℕ) (t : TxNo) (T : List Placed) (x : TxState) : Type 0 where
+pub record IsTied (s : List Line) (o : Of) (t : TxNo) (T : List Placed) (x : TxState) : Type 0 where
   pub past : x.world.past ≡ history t.value T
   pub given : (n : ℕ) (a : ActorNo) (c : Call) → IsIn x.world.calls n a c → IsCallOf s t.value n a c
-  pub planned : IsToPlan s k x.world.past
+  pub planned : IsToPlan s o x.world.past
 
 -- A transaction is what its own calls made; what its coordinator keeps of the log is what it knows; and where each restart found what may be found, it is what its history says. No two of its calls make the same enlistment or the same clone.
 pub record IsRecordKept (x : TxState) : Type 0 where
@@ -105,6 +106,11 @@ pub record RunsOn {D : Type 0} (faults : D → ℕ) (honest : Bool) (image : D �
   pub holds : Holds honest image to new
   pub tells : (start : LogState D) → Tells faults honest image start from (past_of old.trace) → Tells faults honest image start to (past_of new.trace)
   pub finds : IsTrue obeys → (start : LogState D) → Finds faults seen start from (past_of old.trace) → Finds faults seen start to (past_of new.trace)
+
+-- How objects come through a part of a run, which they were before it and are after it: they are still made for its script, and where what they heard by the trace before is what they were reached by, so it is by the trace after.
+pub record HearsOn {O : Type 0} (is_for : List Line → Of → O → Type 0) (hears : List Line → O → List HeardNote → O → Type 0) (old new : RunState) (before after : O) : Type 0 where
+  pub made : is_for new.script new.objects after
+  pub reached : (from : O) → hears old.script from (heard old.script old.objects (past_of old.trace)) before → hears new.script from (heard new.script new.objects (past_of new.trace)) after
 
 -- each call that was entered is one of a line before this one
 abbrev pub IsBelow : ℕ → TxState → Type 0

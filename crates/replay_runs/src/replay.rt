@@ -20,31 +20,30 @@ ghost use Rattle.dtx_model.specs.Contexts.{calls_by, lines_before, scope_block, 
 ghost use Rattle.dtx_model.specs.Tied.{tied};
 ghost use Rattle.dtx_model.specs.Traces.{Placed, history, noted, placed};
 ghost use Rattle.dtx_model.specs.Replay.{CallRan, HasDoneAt, IsReplayed, LineRan, LinesRan, Reopening, after_calls, after_restart, after_scope, after_turn, at_the_log, put_at, world_at};
-ghost use Rattle.dtx_model.specs.Outcome.{is_empty};
 ghost use Rattle.dtx_model.specs.Grammar.{IsScript, are_named_well, is_in_range};
 ghost use Rattle.coordinator_log.specs.Slots.{open_records};
 ghost use Rattle.turn_parts.specs.Reopening.{is_no_log_answer};
 ghost use Rattle.turn_parts.specs.Runs.{untouched};
 ghost use Rattle.turn_parts.specs.Runs.{AreTied, IsNeverFull};
 ghost use Rattle.replay_runs.specs.Ending.{EndsAs, HasNone};
-ghost use Rattle.replay_runs.specs.Lawful.{IsLawful};
 ghost use Rattle.replay_runs.specs.Found.{finds_as_wished};
 ghost use Rattle.replay_runs.specs.LogRun.{IsCounted, LogGoes, LogStays, MetNoFault};
-ghost use Rattle.replay_runs.specs.Run.{IsRunOf};
-ghost use Rattle.replay_runs.specs.RunState.{AreBelow, AreSettledBelow, HasNoStep, HaveSameCalls, Holds, IsBelow, IsRecordKept, IsRoundAt, IsTied, IsToPlan, RunsOn, Settles, StepsGo, StepsOn, halted, record_in, reopened, state_of};
+ghost use Rattle.replay_runs.specs.RunState.{AreBelow, AreSettledBelow, HasNoStep, HaveSameCalls, HearsOn, Holds, IsBelow, IsRecordKept, IsRoundAt, IsTied, IsToPlan, RunsOn, Settles, StepsGo, StepsOn, halted, record_in, reopened, state_of};
+ghost use Rattle.replay_runs.specs.Whose.{named};
+ghost use Rattle.heard_notes.specs.Heard.{heard};
 ghost use Rattle.script_calls.specs.Scoped.{AreOnce, AreOpen, IsUnopened, calls_given, nothing_open, rollbacks, rolled_at, scopes_at};
 ghost use Rattle.tx_world.specs.AtLog.{Fits};
 ghost use Rattle.world_laws.specs.Left.{steps_left};
 
-use crate::laws::lawful;
-use crate::objects::{asked, do_kth};
+use crate::asking::Objects;
+use crate::objects::do_kth;
+use crate::whose::Whose;
 use coordinator_log::Log;
 use dtx_values::{
-    ActorNo, Answer, Body, Call, Entry, Image, Line, LogNote, Outbox, Place, Resource, RmNo,
-    Script, TxId, TxNo,
+    ActorNo, Answer, Body, Call, Entry, Image, Line, LogNote, Outbox, Place, RmNo, TxId, TxNo,
 };
 use entry_lists::{PlacedEntries, Trace};
-use outcome_law::{crossings, lifting, replay};
+use outcome_law::lifting;
 use outside::Disk;
 use scope_context::Context;
 use script_calls::{Gives, Plans, act, call_of, contexts, managers_of};
@@ -56,16 +55,15 @@ use tx_world::{TxWorld, WorldError};
 /// For how many entries of each line the trace has room from the start.
 const ENTRIES_A_LINE: usize = 5;
 
-/// A replay under way: its script's names, the objects of the first managers, its transactions and its actors' contexts by number, and its trace. Contracts see the script,
-/// how many objects there are, the transactions, the contexts and the trace.
+/// A replay under way: its script's names, whose enlistments have an object, its transactions and its actors' contexts by number, and its trace. Contracts see the script,
+/// whose enlistments have an object, the transactions, the contexts and the trace. The objects themselves are lent to its parts, as the log is.
 #[derive(Drop)]
 pub struct Run<'a> {
     alloc: Global,
     plans: Plans<'a>,
     /// At which manager the script enlists each enlistment, by number.
     managers: Vec<Option<RmNo>>,
-    /// The objects of the first managers, in order.
-    resources: &'a mut [Box<dyn Resource + Send>],
+    whose: Whose,
     /// The transactions by number, up to the last that was called.
     worlds: Vec<TxWorld>,
     contexts: Vec<Context>,
@@ -83,10 +81,11 @@ impl<'a> Model for Run<'a> {
     ghost use Rattle.dtx_model.specs.Grammar.{are_named_well};
     ghost use Rattle.script_calls.specs.Managers.{AreManagers};
     ghost use Rattle.replay_runs.specs.RunState.{AreNumbered, RunState};
+    ghost use Rattle.replay_runs.specs.Whose.{named};
 
     ghost Value = { RunState };
 
-    ghost view = { λ r. record { script = r.plans; objects = length r.resources.now; worlds = r.worlds.items; contexts = r.contexts.items; trace = r.trace.items } };
+    ghost view = { λ r. record { script = r.plans; objects = named r.whose; worlds = r.worlds.items; contexts = r.contexts.items; trace = r.trace.items } };
 
     ghost invariant = { λ r. AreNumbered r.worlds.items × (length r.contexts.items ≡ MAX) × (are_named_well r.plans ≡ true) × (length r.managers.items ≡ ENLISTMENTS) × AreManagers r.plans r.plans r.managers.items };
 }
@@ -140,19 +139,15 @@ fn note(trace: &mut PlacedEntries, t: TxNo, world: &TxWorld, from: usize) -> Res
 impl<'a> Run<'a> {
     /// A replay of these lines, before its first step. It has room for every transaction, and for a few entries of each line: memory that is never written costs
     /// nothing, and what grows step by step is copied.
-    pub fn new(
-        alloc: Global,
-        lines: &'a [Line],
-        resources: &'a mut [Box<dyn Resource + Send>],
-    ) -> Result<Self, AllocError>
+    pub fn new(alloc: Global, lines: &'a [Line], whose: Whose) -> Result<Self, AllocError>
         requires { are_named_well lines.now ≡ true }
-        ensures { IfOk result (λ r. r ≡ record { script = lines.entry.now; objects = length resources.old; worlds = []; contexts = replicate ActorNo.MAX nothing_open; trace = [] }) }
+        ensures { IfOk result (λ r. r ≡ record { script = lines.entry.now; objects = named whose; worlds = []; contexts = replicate ActorNo.MAX nothing_open; trace = [] }) }
     {
         Ok(Run {
             alloc,
             plans: Plans::new(alloc, lines)?,
             managers: managers_of(alloc, lines)?,
-            resources,
+            whose,
             worlds: Vec::with_capacity(alloc, TxNo::MAX as usize)?,
             contexts: contexts(alloc)?,
             entries: Vec::new(alloc),
@@ -162,9 +157,10 @@ impl<'a> Run<'a> {
     }
 
     /// Does the call that line n gives transaction t, for which so many steps were done.
-    fn call<D: Disk>(
+    fn call<D: Disk, O: Objects>(
         &mut self,
         log: &Log<D>,
+        objects: &mut O,
         n: u32,
         actor: ActorNo,
         t: TxNo,
@@ -175,8 +171,10 @@ impl<'a> Run<'a> {
         requires given { IsCallOf self.old.script t.value n actor c.now }
         requires below { IsBelow n (state_of t self.old.worlds) }
         requires answers { MayAnswer t.value (state_of t self.old.worlds).world c.now done }
+        requires made { O.is_for self.old.script self.old.objects objects.old }
         ensures contexts { self.new.contexts ≡ self.old.contexts }
         ensures runs { OnOk result (RunsOn D.faults D.honest D.image D.obeys D.seen log.now log.now self.old self.new) }
+        ensures heard { OnOk result (HearsOn O.is_for O.reached self.old self.new objects.old objects.new) }
         ensures others { (u : TxNo) → u ≢ t → state_of u self.new.worlds ≡ state_of u self.old.worlds }
         ensures entered { OnOk result (IsBelow (n + 1) (state_of t self.new.worlds)) }
         ensures done { OnOk result (past_of self.new.trace ≡ after_turn self.old.script t (Calls n actor c.now done) (past_of self.old.trace)) }
@@ -190,6 +188,7 @@ impl<'a> Run<'a> {
         let _ = world.enter(log, &mut self.out, actor, n, c, done)?;
         world.is_own_run();
         note(&mut self.trace, t, world, from)?;
+        objects.tell(t, world, from);
         Ok(())
     }
 
@@ -244,10 +243,18 @@ impl<'a> Run<'a> {
     }
 
     /// Does the k-th pending step of transaction t; false where fewer than k are pending.
-    fn step<D: Disk>(&mut self, log: &mut Log<D>, t: TxNo, k: u8) -> Result<bool, WorldError>
+    fn step<D: Disk, O: Objects>(
+        &mut self,
+        log: &mut Log<D>,
+        objects: &mut O,
+        t: TxNo,
+        k: u8,
+    ) -> Result<bool, WorldError>
         requires holds { Holds D.honest D.image log.old self.old }
+        requires made { O.is_for self.old.script self.old.objects objects.old }
         ensures goes { StepsGo D.faults D.honest D.image log.old log.new self.old self.new }
         ensures runs { OnOk result (RunsOn D.faults D.honest D.image D.obeys D.seen log.old log.new self.old self.new) }
+        ensures heard { OnOk result (HearsOn O.is_for O.reached self.old self.new objects.old objects.new) }
         ensures did { result ≡ Ok true → StepsOn t k log.old.is_up log.new.is_up self.old self.new }
         ensures none { result ≡ Ok false → HasNoStep t k self.old }
         ensures unchanged { result ≡ Ok false → (self.new ≡ self.old) × (log.new ≡ log.old) }
@@ -259,7 +266,7 @@ impl<'a> Run<'a> {
         let world = &mut self.worlds[t.index()];
         world.is_own_run();
         let from = world.history().len();
-        let reply = asked(&self.managers, self.resources, t, world, u32::from(k));
+        let reply = objects.asked(&self.managers, t, world, u32::from(k));
         if !do_kth(world, log, &mut self.out, u32::from(k), reply)? {
             return Ok(false);
         }
@@ -269,29 +276,34 @@ impl<'a> Run<'a> {
             self.trace.reserve(1)?;
             self.trace.push_reserved((Place::Log, Entry::Stopped));
             note(&mut self.trace, t, world, from)?;
+            objects.tell(t, world, from);
             self.stop_all(log.life())?;
             return Ok(true);
         }
         note(&mut self.trace, t, world, from)?;
+        objects.tell(t, world, from);
         Ok(true)
     }
 
     /// Does the k-th pending step of transaction t, n times, and stops where there are fewer; how often it did.
-    fn steps<D: Disk>(
+    fn steps<D: Disk, O: Objects>(
         &mut self,
         log: &mut Log<D>,
+        objects: &mut O,
         t: TxNo,
         k: u8,
         n: u16,
     ) -> Result<u16, WorldError>
         requires holds { Holds D.honest D.image log.old self.old }
+        requires made { O.is_for self.old.script self.old.objects objects.old }
         ensures goes { StepsGo D.faults D.honest D.image log.old log.new self.old self.new }
         ensures runs { OnOk result (RunsOn D.faults D.honest D.image D.obeys D.seen log.old log.new self.old self.new) }
+        ensures heard { OnOk result (HearsOn O.is_for O.reached self.old self.new objects.old objects.new) }
         ensures did { IfOk result (λ m. HasDone t.value (state_of t self.new.worlds).world k n m) }
         ensures done { IfOk result (λ m. HasDoneAt self.old.script t k n m (past_of self.old.trace) (past_of self.new.trace)) }
     {
         for m in 0..n {
-            if !self.step(log, t, k)? {
+            if !self.step(log, objects, t, k)? {
                 return Ok(m);
             }
         }
@@ -299,54 +311,73 @@ impl<'a> Run<'a> {
     }
 
     /// Does the pending steps of transaction t, each time the first, until none is left.
-    fn settle<D: Disk>(&mut self, log: &mut Log<D>, t: TxNo) -> Result<(), WorldError>
+    fn settle<D: Disk, O: Objects>(
+        &mut self,
+        log: &mut Log<D>,
+        objects: &mut O,
+        t: TxNo,
+    ) -> Result<(), WorldError>
         requires holds { Holds D.honest D.image log.old self.old }
+        requires made { O.is_for self.old.script self.old.objects objects.old }
         ensures goes { StepsGo D.faults D.honest D.image log.old log.new self.old self.new }
         ensures runs { OnOk result (RunsOn D.faults D.honest D.image D.obeys D.seen log.old log.new self.old self.new) }
+        ensures heard { OnOk result (HearsOn O.is_for O.reached self.old self.new objects.old objects.new) }
         ensures settled { OnOk result (pending (state_of t self.new.worlds).world ≡ []) }
         ensures done { OnOk result (Settles self.old.script t self.old.trace self.new.trace) }
         ensures turns { OnOk result ((start : List Placed) → IsRoundAt self.old.script start t.value (past_of self.old.trace) → IsRoundAt self.old.script start (t.value + 1) (past_of self.new.trace)) }
         ensures below { OnOk result ((log.new.is_up ≡ log.old.is_up) → AreSettledBelow self.old.script t.value (past_of self.old.trace) → AreSettledBelow self.old.script (t.value + 1) (past_of self.new.trace)) }
     {
         loop {
-            if !self.step(log, t, 1)? {
+            if !self.step(log, objects, t, 1)? {
                 return Ok(());
             }
         }
     }
 
     /// Settles t1, t2 and so on in turn. As long as the log isn't stopped, no step of one makes another's pending: so then one round leaves nothing.
-    fn settle_round<D: Disk>(&mut self, log: &mut Log<D>) -> Result<(), WorldError>
+    fn settle_round<D: Disk, O: Objects>(
+        &mut self,
+        log: &mut Log<D>,
+        objects: &mut O,
+    ) -> Result<(), WorldError>
         requires holds { Holds D.honest D.image log.old self.old }
+        requires made { O.is_for self.old.script self.old.objects objects.old }
         ensures goes { StepsGo D.faults D.honest D.image log.old log.new self.old self.new }
         ensures runs { OnOk result (RunsOn D.faults D.honest D.image D.obeys D.seen log.old log.new self.old self.new) }
+        ensures heard { OnOk result (HearsOn O.is_for O.reached self.old self.new objects.old objects.new) }
         ensures turns { OnOk result ((start : List Placed) → IsRoundAt self.old.script start 1 (past_of self.old.trace) → IsRoundAt self.old.script start 1 (past_of self.new.trace)) }
         ensures settled { OnOk result (log.new.is_up ≡ log.old.is_up → AreSettledBelow self.old.script (TxNo.MAX + 1) (past_of self.new.trace)) }
     {
         for n in 1..TxNo::MAX + 1 {
             let t = TxNo::new(n).unwrap();
-            self.settle(log, t)?;
+            self.settle(log, objects, t)?;
         }
         Ok(())
     }
 
     /// Settles all, round after round. A stop of the log in a round may leave something to do in those before; once it is stopped, it stops no more.
-    fn settle_all<D: Disk>(&mut self, log: &mut Log<D>) -> Result<(), WorldError>
+    fn settle_all<D: Disk, O: Objects>(
+        &mut self,
+        log: &mut Log<D>,
+        objects: &mut O,
+    ) -> Result<(), WorldError>
         requires holds { Holds D.honest D.image log.old self.old }
+        requires made { O.is_for self.old.script self.old.objects objects.old }
         ensures goes { StepsGo D.faults D.honest D.image log.old log.new self.old self.new }
         ensures runs { OnOk result (RunsOn D.faults D.honest D.image D.obeys D.seen log.old log.new self.old self.new) }
+        ensures heard { OnOk result (HearsOn O.is_for O.reached self.old self.new objects.old objects.new) }
         ensures turns { OnOk result ((start : List Placed) → IsRoundAt self.old.script start 1 (past_of self.old.trace) → IsRoundAt self.old.script start 1 (past_of self.new.trace)) }
         ensures settled { OnOk result (AreSettledBelow self.old.script (TxNo.MAX + 1) (past_of self.new.trace)) }
     {
         let was_up = log.is_up();
-        self.settle_round(log)?;
+        self.settle_round(log, objects)?;
         if !was_up {
             return Ok(());
         }
         if log.is_up() {
             return Ok(());
         }
-        self.settle_round(log)
+        self.settle_round(log, objects)
     }
 
     /// Writes what line n does at its actor's context: its call, and its entries; and which calls it gives transactions. Nothing, where it
@@ -377,48 +408,65 @@ impl<'a> Run<'a> {
     }
 
     /// Does, as line n, a rollback of each transaction that the last nested close at this actor's context is to roll back, in order.
-    fn roll_back<D: Disk>(&mut self, log: &Log<D>, n: u32, actor: ActorNo) -> Result<(), WorldError>
+    fn roll_back<D: Disk, O: Objects>(
+        &mut self,
+        log: &Log<D>,
+        objects: &mut O,
+        n: u32,
+        actor: ActorNo,
+    ) -> Result<(), WorldError>
         requires holds { Holds D.honest D.image log.now self.old }
         requires below { AreBelow n self.old.worlds }
         requires given { (t : TxNo) (c : Call) (i : ℕ) → slice_get (rollbacks (rolled_at actor self.old.contexts)) i ≡ Some (t, c) → IsCallOf self.old.script t.value n actor c }
         requires once { AreOnce (rolled_at actor self.old.contexts) }
+        requires made { O.is_for self.old.script self.old.objects objects.old }
         ensures contexts { self.new.contexts ≡ self.old.contexts }
         ensures runs { OnOk result (RunsOn D.faults D.honest D.image D.obeys D.seen log.now log.now self.old self.new) }
+        ensures heard { OnOk result (HearsOn O.is_for O.reached self.old self.new objects.old objects.new) }
         ensures entered { OnOk result (AreBelow (n + 1) self.new.worlds) }
         ensures done { OnOk result (past_of self.new.trace ≡ after_calls self.old.script n actor (rollbacks (rolled_at actor self.old.contexts)) (past_of self.old.trace)) }
     {
         let place = actor.index();
         for i in 0..self.contexts[place].rolled().len() {
             let t = self.contexts[place].rolled()[i];
-            self.call(log, n, actor, t, &Call::Rollback(t), 0)?;
+            self.call(log, objects, n, actor, t, &Call::Rollback(t), 0)?;
         }
         Ok(())
     }
 
     /// Does what line n does as a scope line: what it writes at its actor's context, and then the calls that it gives transactions.
-    fn scope<D: Disk>(&mut self, log: &Log<D>, n: u32, l: &Line) -> Result<(), WorldError>
+    fn scope<D: Disk, O: Objects>(
+        &mut self,
+        log: &Log<D>,
+        objects: &mut O,
+        n: u32,
+        l: &Line,
+    ) -> Result<(), WorldError>
         requires holds { Holds D.honest D.image log.now self.old }
         requires below { AreBelow n self.old.worlds }
         requires stands { kth self.old.script n ≡ Some l.now }
         requires open { AreOpen self.old.contexts (lines_before self.old.script n) }
         requires unopened { IsUnopened l.now.body (scopes_at l.now.actor self.old.contexts) }
         requires no_call { call_of self.old.script l.now.body ≡ None }
+        requires made { O.is_for self.old.script self.old.objects objects.old }
         ensures runs { OnOk result (RunsOn D.faults D.honest D.image D.obeys D.seen log.now log.now self.old self.new) }
+        ensures heard { OnOk result (HearsOn O.is_for O.reached self.old self.new objects.old objects.new) }
         ensures entered { OnOk result (AreBelow (n + 1) self.new.worlds) }
         ensures done { OnOk result (past_of self.new.trace ≡ after_scope self.old.script n l.now (scopes_at l.now.actor self.old.contexts) (past_of self.old.trace)) }
         ensures scopes { OnOk result ((before : List Line) → AreOpen self.old.contexts before → AreOpen self.new.contexts (l.now ∷ before)) }
     {
         match self.at_context(n, l)? {
             Gives::Nothing => Ok(()),
-            Gives::Call(t, c) => self.call(log, n, l.actor, t, &c, 0),
-            Gives::Rollbacks => self.roll_back(log, n, l.actor),
+            Gives::Call(t, c) => self.call(log, objects, n, l.actor, t, &c, 0),
+            Gives::Rollbacks => self.roll_back(log, objects, n, l.actor),
         }
     }
 
     /// Does the call that line n gives transaction t by its own words, after the steps of a `do` or an `await`.
-    fn own_call<D: Disk>(
+    fn own_call<D: Disk, O: Objects>(
         &mut self,
         log: &mut Log<D>,
+        objects: &mut O,
         n: u32,
         actor: ActorNo,
         t: TxNo,
@@ -427,23 +475,25 @@ impl<'a> Run<'a> {
         requires holds { Holds D.honest D.image log.old self.old }
         requires below { AreBelow n self.old.worlds }
         requires given { IsCallOf self.old.script t.value n actor c.now }
+        requires made { O.is_for self.old.script self.old.objects objects.old }
         ensures contexts { self.new.contexts ≡ self.old.contexts }
         ensures log { LogGoes D.faults D.honest D.image log.old log.new }
         ensures stays { LogStays D.faults log.old log.new }
         ensures runs { OnOk result (RunsOn D.faults D.honest D.image D.obeys D.seen log.old log.new self.old self.new) }
+        ensures heard { OnOk result (HearsOn O.is_for O.reached self.old self.new objects.old objects.new) }
         ensures entered { OnOk result (AreBelow (n + 1) self.new.worlds) }
         ensures done { OnOk result (CallRan self.old.script actor n (Some (t, c.now)) (past_of self.old.trace) (past_of self.new.trace)) }
     {
         match *c {
             Call::Do(_, k, times) => {
-                let done = self.steps(log, t, k, times)?;
-                self.call(log, n, actor, t, c, done)
+                let done = self.steps(log, objects, t, k, times)?;
+                self.call(log, objects, n, actor, t, c, done)
             }
             Call::Await(_) => {
-                self.settle(log, t)?;
-                self.call(log, n, actor, t, c, 0)
+                self.settle(log, objects, t)?;
+                self.call(log, objects, n, actor, t, c, 0)
             }
-            _ => self.call(log, n, actor, t, c, 0),
+            _ => self.call(log, objects, n, actor, t, c, 0),
         }
     }
 
@@ -511,7 +561,13 @@ impl<'a> Run<'a> {
     }
 
     /// Does what line n does: what it does at the log, its own call, or what it does as a scope line.
-    fn line<D: Disk>(&mut self, log: &mut Log<D>, n: u32, l: &Line) -> Result<(), WorldError>
+    fn line<D: Disk, O: Objects>(
+        &mut self,
+        log: &mut Log<D>,
+        objects: &mut O,
+        n: u32,
+        l: &Line,
+    ) -> Result<(), WorldError>
         requires holds { Holds D.honest D.image log.old self.old }
         requires below { AreBelow n self.old.worlds }
         requires stands { kth self.old.script n ≡ Some l.now }
@@ -519,10 +575,12 @@ impl<'a> Run<'a> {
         requires unopened { IsUnopened l.now.body (scopes_at l.now.actor self.old.contexts) }
         requires range { is_in_range l.now.body ≡ true }
         requires life { log.old.life < 2 ^ 64 - 1 }
+        requires made { O.is_for self.old.script self.old.objects objects.old }
         ensures log { LogGoes D.faults D.honest D.image log.old log.new }
         ensures stays { is_log_line l.now.body ≡ false → LogStays D.faults log.old log.new }
         ensures life { log.new.life ≤ log.old.life + 1 }
         ensures runs { OnOk result (RunsOn D.faults D.honest D.image D.obeys D.seen log.old log.new self.old self.new) }
+        ensures heard { OnOk result (HearsOn O.is_for O.reached self.old self.new objects.old objects.new) }
         ensures entered { OnOk result (AreBelow (n + 1) self.new.worlds) }
         ensures done { OnOk result ((before : List Line) → length before + 1 ≡ n → before ≡ lines_before self.old.script n → AreOpen self.old.contexts before → LineRan self.old.script before l.now (past_of self.old.trace) (past_of self.new.trace)) }
         ensures scopes { OnOk result ((before : List Line) → AreOpen self.old.contexts before → AreOpen self.new.contexts (l.now ∷ before)) }
@@ -531,30 +589,36 @@ impl<'a> Run<'a> {
             Body::Stop(k, image) => Ok(self.arm(log, n, l.actor, k, image)?),
             Body::Restart => self.restart(log, n, l.actor),
             _ => match call_of(&self.plans, l.body) {
-                Some((t, c)) => self.own_call(log, n, l.actor, t, &c),
-                None => self.scope(log, n, l),
+                Some((t, c)) => self.own_call(log, objects, n, l.actor, t, &c),
+                None => self.scope(log, objects, n, l),
             },
         }
     }
 
     /// Runs the lines in order.
-    fn lines<D: Disk>(&mut self, log: &mut Log<D>) -> Result<(), WorldError>
+    fn lines<D: Disk, O: Objects>(
+        &mut self,
+        log: &mut Log<D>,
+        objects: &mut O,
+    ) -> Result<(), WorldError>
         requires holds { Holds D.honest D.image log.old self.old }
         requires below { AreBelow 1 self.old.worlds }
         requires start { self.old.trace ≡ [] }
         requires contexts { AreOpen self.old.contexts [] }
         requires script { IsScript self.old.script }
         requires life { log.old.life ≤ 2 ^ 62 }
+        requires made { O.is_for self.old.script self.old.objects objects.old }
         ensures log { LogGoes D.faults D.honest D.image log.old log.new }
         ensures stays { has_log_line self.old.script ≡ false → LogStays D.faults log.old log.new }
         ensures runs { OnOk result (RunsOn D.faults D.honest D.image D.obeys D.seen log.old log.new self.old self.new) }
+        ensures heard { OnOk result (HearsOn O.is_for O.reached self.old self.new objects.old objects.new) }
         ensures ran { OnOk result (LinesRan self.old.script (past_of self.old.script) (past_of self.new.trace)) }
     {
         let lines = self.plans.lines();
         let mut n = 0;
         for l in lines {
             n += 1;
-            self.line(log, n, l)?;
+            self.line(log, objects, n, l)?;
         }
         Ok(())
     }
@@ -569,22 +633,25 @@ impl<'a> Run<'a> {
 }
 
 /// The trace of what the lines do in order, and of the rounds after them.
-fn trace_of<D: Disk>(
+pub fn trace_of<D: Disk, O: Objects>(
     alloc: Global,
     lines: &[Line],
     log: &mut Log<D>,
-    resources: &mut [Box<dyn Resource + Send>],
+    whose: Whose,
+    objects: &mut O,
 ) -> Result<Trace, WorldError>
     requires script { IsScript lines.now }
     requires up { IsTrue log.old.is_up }
     requires unarmed { log.old.armed ≡ None }
     requires life { log.old.life ≤ 2 ^ 62 }
     requires none { IsTrue D.honest → HasNone (open_records log.old.slots) }
+    requires made { O.is_for lines.now (named whose) objects.old }
     ensures log { LogGoes D.faults D.honest D.image log.old log.new }
     ensures stays { has_log_line lines.now ≡ false → LogStays D.faults log.old log.new }
     ensures replayed { IfOk result (λ T. IsReplayed lines.now (past_of T)) }
     ensures settled { IfOk result (λ T. (t : TxNo) → Settled lines.now (history t.value (past_of T))) }
-    ensures planned { IfOk result (λ T. (t : TxNo) → IsToPlan lines.now (length resources.old) (history t.value (past_of T))) }
+    ensures planned { IfOk result (λ T. (t : TxNo) → IsToPlan lines.now (named whose) (history t.value (past_of T))) }
+    ensures heard { IfOk result (λ T. (from : _) → O.reached lines.now from [] objects.old → O.reached lines.now from (heard lines.now (named whose) (past_of T)) objects.new) }
     ensures counted { IfOk result (λ T. IsCounted (D.faults log.old.disk) (D.faults log.new.disk) log.new.armed (past_of T)) }
     ensures opens { IsTrue D.honest → open_records log.old.slots ≡ [] → IfOk result (λ T. open_right [] (past_of T) ≡ true) }
     ensures unlike { IsTrue D.honest → IfOk result (λ T. has is_no_log_answer (at_log (past_of T)) ≡ false) }
@@ -596,56 +663,9 @@ fn trace_of<D: Disk>(
 {
     // A proof sees here, and at the end, that each image has the records of a log that is up.
     let _ = log.is_up();
-    let mut run = Run::new(alloc, lines, resources)?;
-    run.lines(log)?;
-    run.settle_all(log)?;
+    let mut run = Run::new(alloc, lines, whose)?;
+    run.lines(log, objects)?;
+    run.settle_all(log, objects)?;
     let _ = log.is_up();
     Ok(run.into_trace())
-}
-
-/// Replays a script: runs its lines in order, and settles its transactions, over a log that is up, on which no stop is armed, that has no record of the script's transactions, and whose life is at
-/// most 2^62. A stop of the log stands in the trace, and so does a fault of the disk, which stops it.
-///
-/// Over a disk that obeys and meets no fault, the restart after a stop that was reached finds the record of the transaction whose act was stopped as the stop tells: an append stopped with `Keep` at its third or
-/// fourth device call has left it, and a free stopped with `Lose`; else it isn't there.
-///
-/// The object at place k of `resources`, from 0, is that of manager r(k + 1). It hears each note to which a reply of one of its manager's enlistments is due, and its answer is the reply. The planned
-/// reply is taken where there is no object, as for volatiles, and where it gives no answer or one that doesn't fit the note. An enlistment that plans no reply to a note stays silent, whatever its
-/// object would say.
-///
-/// # Errors
-///
-/// [`AllocError`] where memory ran out.
-pub fn run_replay<D: Disk>(
-    alloc: Global,
-    s: &Script,
-    log: &mut Log<D>,
-    resources: &mut [Box<dyn Resource + Send>],
-) -> Result<Trace, AllocError>
-    requires script { IsScript s.now }
-    requires up { IsTrue log.old.is_up }
-    requires unarmed { log.old.armed ≡ None }
-    requires life { log.old.life ≤ 2 ^ 62 }
-    requires none { IsTrue D.honest → HasNone (open_records log.old.slots) }
-
-    // The trace: a run of the script in the order of a replay, which is a settled history. On an honest disk each restart in it found what may be found; and so is each trace without a restart. Where that is so, it has one outcome for each
-    // transaction, and is complete. And over a disk that obeys and met no fault, a restart finds the record of the transaction whose act was stopped exactly where the armed stop leaves it.
-    ensures replay { IfOk result (λ T. IsRunOf s.now (length resources.old) (D.faults log.old.disk) (D.faults log.new.disk) (D.honest && is_empty (open_records log.old.slots)) T) }
-    ensures lawful { IfOk result (IsLawful D.honest (is_empty (open_records log.old.slots)) s.now) }
-    ensures found { IsTrue D.obeys → MetNoFault D.faults log.old.disk log.new.disk → IfOk result (λ T. finds_as_wished (past_of T) ≡ true) }
-
-    // The log.
-    ensures up { IfOk result (λ T. log.new.is_up ≡ is_log_up (past_of T)) }
-    ensures recorded { IsTrue D.honest → IfOk result (λ T. EndsAs D.image (open_records log.old.slots) log.new (past_of T)) }
-    ensures log { LogGoes D.faults D.honest D.image log.old log.new }
-    ensures stays { has_log_line s.now ≡ false → LogStays D.faults log.old log.new }
-{
-    // These calls do nothing when they run: their bodies are empty. Each brings its law into this proof, from which the clauses follow.
-    lawful();
-    crossings();
-    replay();
-    match trace_of(alloc, s.lines(), log, resources) {
-        Ok(trace) => Ok(trace),
-        Err(WorldError::Memory) => Err(AllocError),
-    }
 }

@@ -19,7 +19,7 @@ use Rattle.dtx_model.specs.Answers.{local_answer}
 use Rattle.dtx_model.specs.Replies.{all_due, due_of}
 use Rattle.dtx_model.specs.World.{answer_at}
 use Rattle.dtx_model.specs.Steps.{Acts, LocalAct, block_at, local_pending, pending}
-use Rattle.dtx_model.specs.Caused.{Caused}
+use Rattle.dtx_model.specs.Caused.{Caused, has_object}
 use Rattle.dtx_model.specs.Seen.{is_away}
 use Rattle.dtx_model.specs.Replay.{HasDoneAt, HasSettled, IsReplayed, LinesRan}
 use Rattle.dtx_values.specs.Owners.{may_own, owner_of}
@@ -96,7 +96,7 @@ losing_replayed = record { by_lines = at_t1 losing_whole; lines = losing_run; tu
 
 -- the script causes the history, and no object answers
 pub losing_caused : Caused losing 0 1 (past_of losing_whole)
-losing_caused = replayed_caused losing (at_t1 losing_whole) losing_replayed 0 (λ t. planned_at_t1 losing losing_whole refl t (t.value == 1) refl) t1
+losing_caused = replayed_caused losing (at_t1 losing_whole) losing_replayed (has_object losing 0) (λ t. planned_at_t1 losing losing_whole refl t (t.value == 1) refl) t1
 
 -- it is just
 pub losing_is_just : just_in losing_whole ≡ true

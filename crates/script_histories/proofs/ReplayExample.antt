@@ -154,7 +154,7 @@ promoted_none t false e = subst (λ h. promotes script t.value h ≡ true) (sym 
 
 -- each transaction is caused by the script
 all_caused : (t : TxNo) → Caused script 0 t.value (history t.value (at_t1 whole))
-all_caused = replayed_caused script (at_t1 whole) is_replayed 0 (λ t. planned_at_t1 script whole refl t (t.value == 1) refl)
+all_caused = replayed_caused script (at_t1 whole) is_replayed (has_object script 0) (λ t. planned_at_t1 script whole refl t (t.value == 1) refl)
 
 -- the trace is a history of the script
 pub is_history : IsHistory script 0 0 (placed t1 whole)

@@ -21,7 +21,7 @@ use Rattle.dtx_model.specs.Arrivals.{local_got}
 use Rattle.dtx_model.specs.Replies.{all_due}
 use Rattle.dtx_model.specs.World.{answer_at}
 use Rattle.dtx_model.specs.Steps.{Delivers, Delivery, block_at, local_pending, pending}
-use Rattle.dtx_model.specs.Caused.{Caused, Settled}
+use Rattle.dtx_model.specs.Caused.{Caused, has_object, Settled}
 use Rattle.dtx_model.specs.Traces.{history}
 use Rattle.dtx_model.specs.Replay.{HasDoneAt, IsReplayed, LinesRan, RoundsRan, StepsRan}
 use Rattle.script_histories.specs.LogQuiet.{is_log_quiet}
@@ -98,4 +98,4 @@ promoted_quiet = refl
 
 -- so each transaction is caused by the script
 pub promoted_caused : (t : TxNo) → Caused marshalled 0 t.value (history t.value (at_t1 over))
-promoted_caused = replayed_caused marshalled (at_t1 over) promoted_replayed 0 (λ t. planned_at_t1 marshalled over refl t (t.value == 1) refl)
+promoted_caused = replayed_caused marshalled (at_t1 over) promoted_replayed (has_object marshalled 0) (λ t. planned_at_t1 marshalled over refl t (t.value == 1) refl)

@@ -1,6 +1,6 @@
 -- What a replay does, stops of the log and restarts included, is caused by its script in each transaction and follows the log, has each line's call once and in order, and makes each
 -- name anew.
-use Rattle.std.proofs.Common.{◌≡◌, ℕ, suc, ◌+◌, ◌-◌, true, false, List, [], ◌∷◌, ◌++◌, length, take, Option, Some, None, inl}
+use Rattle.std.proofs.Common.{◌≡◌, ℕ, suc, ◌+◌, ◌-◌, Bool, true, false, List, [], ◌∷◌, ◌++◌, length, take, Option, Some, None, inl}
 use Rattle.std.proofs.Common.{refl, arith, append-nil, ◌∙◌, ap, sym, subst}
 use Rattle.std.specs.List.{slice_get}
 use Rattle.dtx_values.specs.declared.number.ActorNo.{ActorNo}
@@ -23,7 +23,7 @@ use Rattle.dtx_model.specs.declared.waiting.EnteredCall.{EnteredCall}
 use Rattle.dtx_model.specs.World.{World}
 use Rattle.dtx_model.specs.Steps.{Step, Calls}
 use Rattle.dtx_model.specs.Contexts.{scope_calls, scopes_of, scope_block, context, lines_before, calls_by}
-use Rattle.dtx_model.specs.Caused.{IsCallOf, is_new, Caused, MayAnswer, has_object, is_as_planned, plans_of}
+use Rattle.dtx_model.specs.Caused.{IsCallOf, is_new, CausedBy, MayAnswer, is_as_planned, plans_of}
 use Rattle.dtx_model.specs.Grammar.{are_named_well}
 use Rattle.dtx_model.specs.Traces.{Placed, history, at_context, noted, calls}
 use Rattle.dtx_model.specs.AtLog.{follow_log}
@@ -211,9 +211,9 @@ replayed_good s T r =
     rounds_good s r.by_lines r.turns T (lines_good s (past_of s) [] r.by_lines (sym (append-nil s) ∙ sym (onto-onto [] s [])) r.lines) r.rounds
 
 -- caused, where its replies are as planned,
-pub replayed_caused : (s : List Line) (T : List Placed) → IsReplayed s T → (k : ℕ) → ((t : TxNo) → always (is_as_planned (plans_of s) (has_object s k)) (history t.value T) ≡ true)
-    → (t : TxNo) → Caused s k t.value (history t.value T)
-replayed_caused s T r k planned t = record { freely = (replayed_good s T r).free t; planned = planned t }
+pub replayed_caused : (s : List Line) (T : List Placed) → IsReplayed s T → (free : ℕ → Bool) → ((t : TxNo) → always (is_as_planned (plans_of s) free) (history t.value T) ≡ true)
+    → (t : TxNo) → CausedBy s free t.value (history t.value T)
+replayed_caused s T r free planned t = record { freely = (replayed_good s T r).free t; planned = planned t }
 
 -- and follows its log
 pub replayed_followed : (s : List Line) (T : List Placed) → IsReplayed s T → follow_log T ≡ true

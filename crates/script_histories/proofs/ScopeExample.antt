@@ -151,7 +151,7 @@ scoped_planned n false false e f = rw (e, f) refl
 
 -- each transaction is caused by the script
 scoped_caused : (t : TxNo) → Caused scoped 0 t.value (history t.value (past_of told_both))
-scoped_caused = replayed_caused scoped (past_of told_both) scoped_replayed 0 (λ t. scoped_planned t.value (t.value == 1) (t.value == 2) refl refl)
+scoped_caused = replayed_caused scoped (past_of told_both) scoped_replayed (has_object scoped 0) (λ t. scoped_planned t.value (t.value == 1) (t.value == 2) refl refl)
 
 -- the trace is a history of the script
 pub scoped_history : IsHistory scoped 0 0 told_both

@@ -7,7 +7,7 @@ use Rattle.dtx_values.specs.declared.trace.Place.{Place}
 use Rattle.dtx_values.specs.TxIds.{first_id}
 use Rattle.dtx_values.specs.Table.{how_many}
 use Rattle.dtx_model.specs.AtLog.{at_log, faults, follow_log}
-use Rattle.dtx_model.specs.Caused.{Caused, Settled}
+use Rattle.dtx_model.specs.Caused.{CausedBy, Managers, Of, Settled, answers}
 use Rattle.dtx_model.specs.Contexts.{context}
 use Rattle.dtx_model.specs.History.{is_call_at}
 use Rattle.dtx_model.specs.Log.{CommitRecord, is_record_of, log_has}
@@ -38,11 +38,11 @@ IsNeverFull T = (t : TxNo) → has is_log_full (history t.value (past_of T)) ≡
 abbrev pub IsRise : ℕ → ℕ → ℕ → Type 0
 IsRise from to rise = to < LAST → rise ≡ to - from
 
--- T is a settled history of the script s in which the first k managers have an object, over a disk whose count of faults rose by so many, whatever its restarts found: each transaction's history is one that the script's lines cause, runs over
+-- T is a settled history of the script s in which those that `o` names have an object, over a disk whose count of faults rose by so many, whatever its restarts found: each transaction's history is one that the script's lines cause, runs over
 -- its connections, and is settled; each context has the entries that its actor's lines make there; each line has its call at each of its places exactly once; what stands at the log came there in turn, the faults that it tells of rose the count,
 -- and each stop and restart is followed. And where each restart found what may be found, each transaction is promoted in order.
-pub record IsRunHistory (s : List Line) (k rise : ℕ) (T : List Placed) : Type 0 where
-  pub caused : (t : TxNo) → Caused s k t.value (history t.value (past_of T))
+pub record IsRunHistoryBy (s : List Line) (o : Of) (rise : ℕ) (T : List Placed) : Type 0 where
+  pub caused : (t : TxNo) → CausedBy s (answers s o) t.value (history t.value (past_of T))
   pub wires : (t : TxNo) → WireRun (history t.value (past_of T))
   pub settled : (t : TxNo) → Settled s (history t.value (past_of T))
   pub contexts : (a : ActorNo) → at_context a.value (past_of T) ≡ context a.value (past_of s)
@@ -51,6 +51,10 @@ pub record IsRunHistory (s : List Line) (k rise : ℕ) (T : List Placed) : Type 
   pub at_log : IsLogHistory s (at_log (past_of T))
   pub followed : follow_log (past_of T) ≡ true
   pub promotes : AreTied T → (t : TxNo) → promotes s t.value (history t.value (past_of T)) ≡ true
+
+-- the same, where the first k managers have an object each
+abbrev pub IsRunHistory : List Line → ℕ → ℕ → List Placed → Type 0
+IsRunHistory s k rise T = IsRunHistoryBy s (Managers k) rise T
 
 -- the records of a transaction of this number, of these
 abbrev pub records_of : ℕ → List CommitRecord → List CommitRecord

@@ -1,9 +1,9 @@
-use Rattle.std.proofs.Common.{◌≡◌, ℕ, Bool, List, [], None, ap, arith, inl, inr, length, refl, subst, sym, ◌∙◌}
+use Rattle.std.proofs.Common.{◌≡◌, ℕ, Bool, List, [], None, ap, arith, inl, inr, refl, subst, sym, ◌∙◌}
 use Rattle.std.specs.Prelude.{IsTrue}
 use Rattle.dtx_values.specs.declared.entry.Entry.{Entry}
 use Rattle.dtx_values.specs.declared.script.Line.{Line}
 use Rattle.dtx_model.specs.AtLog.{at_log, has_log_line, is_log_up, open_right}
-use Rattle.dtx_model.specs.Caused.{Settled}
+use Rattle.dtx_model.specs.Caused.{Of, Settled}
 use Rattle.dtx_model.specs.Grammar.{IsScript}
 use Rattle.dtx_model.specs.Replay.{IsReplayed, LinesRan}
 use Rattle.dtx_model.specs.Tied.{tied}
@@ -25,12 +25,14 @@ use Rattle.replay_runs.proofs.Going.{goes_then, stays_then}
 use Rattle.script_calls.proofs.Openings.{open_none}
 use Rattle.replay_runs.proofs.Recorded.{ends_as, holds_at_start, tells_at_start}
 use Rattle.replay_runs.proofs.Rounds.{is_replayed, turn-first}
+use Rattle.heard_notes.specs.Heard.{heard}
+use Rattle.replay_runs.specs.Whose.{named}
 use Rattle.replay_runs.proofs.replay.trace_of.Given.{Over}
 use Rattle.replay_runs.proofs.replay.trace_of.Goals.{In_ok-settle_all}
 use Rattle.replay_runs.proofs.replay.trace_of.Goals as goal
 
 -- before the first step the trace tells of the log
-told_first : {D : Type 0} (faults : D → ℕ) (honest : Bool) (image : D → List ℕ → Type 0) (log : LogState D) (lines : List Line) (objects : ℕ) (contexts : List Standing) (run : RunState)
+told_first : {D : Type 0} (faults : D → ℕ) (honest : Bool) (image : D → List ℕ → Type 0) (log : LogState D) (lines : List Line) (objects : Of) (contexts : List Standing) (run : RunState)
     → run ≡ record { script = lines; objects = objects; worlds = []; contexts = contexts; trace = [] } → log.armed ≡ None → (IsTrue honest → AllHold (image log.disk) (open_records log.slots)) → Tells faults honest image log log (past_of run.trace)
 told_first faults honest image log lines objects contexts run is unarmed held =
     subst (λ (r : RunState). Tells faults honest image log log (past_of r.trace)) (sym is) (tells_at_start faults honest image log unarmed held)
@@ -90,14 +92,14 @@ returns-clause-settled g c t =
 pub returns-clause-planned : goal.returns-clause-planned
 returns-clause-planned g c t =
     let s = c.args.lines.now in
-    let o = length c.args.resources.now in
+    let o = named c.args.whose in
     let script : c.in_ok-run.run'.script ≡ s = ap (λ (r : RunState). r.script) c.in_ok-run.ensures in
     let objects : c.in_ok-run.run'.objects ≡ o = ap (λ (r : RunState). r.objects) c.in_ok-run.ensures in
     let end = c.settle_all.new.self in
     let tied = c.in_ok-settle_all.ensures.runs.holds.tied t in
     subst (λ (T : List Placed). IsToPlan s o (history t.value (past_of T))) (sym c.into_trace.ensures.trace)
     (subst (λ (r : List Line). IsToPlan r o (history t.value (past_of end.trace))) (c.in_ok-settle_all.ensures.runs.script ∙ (c.in_ok-lines.ensures.runs.script ∙ script))
-    (subst (λ (k : ℕ). IsToPlan end.script k (history t.value (past_of end.trace))) (c.in_ok-settle_all.ensures.runs.objects ∙ (c.in_ok-lines.ensures.runs.objects ∙ objects))
+    (subst (λ (k : Of). IsToPlan end.script k (history t.value (past_of end.trace))) (c.in_ok-settle_all.ensures.runs.objects ∙ (c.in_ok-lines.ensures.runs.objects ∙ objects))
     (subst (λ (h : List Entry). IsToPlan end.script end.objects h) tied.past tied.planned)))
 
 -- what restarts found is right at the end, where no fault came
@@ -154,3 +156,22 @@ returns-clause-ends g c h =
     let went = goes_then g.D.Disk.faults g.D.Disk.honest image log c.lines.new.log last c.lines.ensures.log c.settle_all.ensures.goes.log in
     ends_as g.D.Disk.faults image log last c.settle_all.new.self c.into_trace.result c.into_trace.ensures.trace c.into_trace.ensures.numbered
     (subst (λ b. Holds b image last c.settle_all.new.self) h c.in_ok-settle_all.ensures.runs.holds) (end.foreign h) (went.logs h (λ bytes among. (_, c.is_up.ensures.images h c.requires.up bytes among))) (c.is_up-2.ensures.images h)
+
+pub lines-requires-clause-made : goal.lines-requires-clause-made
+lines-requires-clause-made g c = subst (λ (r : RunState). g.O.Objects.is_for r.script r.objects c.args.objects.now) (sym c.in_ok-run.ensures) c.requires.made
+
+pub returns-clause-heard : goal.returns-clause-heard
+returns-clause-heard g c from start =
+    let s = c.args.lines.now in
+    let o = named c.args.whose in
+    let run = c.in_ok-run.run' in
+    let end = c.settle_all.new.self in
+    let z = c.settle_all.new.objects in
+    let first : g.O.Objects.reached run.script from (heard run.script run.objects (past_of run.trace)) c.args.objects.now =
+    subst (λ (r : RunState). g.O.Objects.reached r.script from (heard r.script r.objects (past_of r.trace)) c.args.objects.now) (sym c.in_ok-run.ensures) start in
+    let last = c.in_ok-settle_all.ensures.heard.reached from (c.in_ok-lines.ensures.heard.reached from first) in
+    let script : end.script ≡ s = c.in_ok-settle_all.ensures.runs.script ∙ (c.in_ok-lines.ensures.runs.script ∙ ap (λ (r : RunState). r.script) c.in_ok-run.ensures) in
+    let objects : end.objects ≡ o = c.in_ok-settle_all.ensures.runs.objects ∙ (c.in_ok-lines.ensures.runs.objects ∙ ap (λ (r : RunState). r.objects) c.in_ok-run.ensures) in
+    subst (λ (T : List Placed). g.O.Objects.reached s from (heard s o (past_of T)) z) (sym c.into_trace.ensures.trace)
+    (subst (λ (r : List Line). g.O.Objects.reached r from (heard r o (past_of end.trace)) z) script
+    (subst (λ (k : Of). g.O.Objects.reached end.script from (heard end.script k (past_of end.trace)) z) objects last))

@@ -13,7 +13,7 @@ use Rattle.script_calls.proofs.Scoping.{few_notes, noted_block}
 use Rattle.replay_runs.proofs.replay.Run.at_context.Goals as goal
 
 pub append-requires : goal.append-requires
-append-requires g c =
+append-requires c =
     let did : DoesScope c.args.l.now.body c.index_mut-context.result.now c.act.new.context c.act.new.entries.items c.in-Some.acted = c.in-Some.ensures.some in
     let few = few_notes _ _ _ _ _ did in
     let many : length c.index_mut-context.result.now.scopes ≡ length c.scopes.result.now = ap length (sym c.scopes.ensures) ∙ length-past c.scopes.result.now in
@@ -21,10 +21,10 @@ append-requires g c =
     omega (arith, few, many, notes, c.in_ok-reserve-2.ensures.room, c.push_reserved.ensures.room)
 
 pub invariant_of-self-2 : goal.invariant_of-self-2
-invariant_of-self-2 g c = (c.self.invariant.0, rw length-set c.self.invariant.1, c.self.invariant.2, c.self.invariant.3, c.self.invariant.4)
+invariant_of-self-2 c = (c.self.invariant.0, rw length-set c.self.invariant.1, c.self.invariant.2, c.self.invariant.3, c.self.invariant.4)
 
 pub returns-clause-block : goal.returns-clause-block
-returns-clause-block g c =
+returns-clause-block c =
     let a = c.args.l.now.actor in
     let did : DoesScope c.args.l.now.body c.index_mut-context.result.now c.act.new.context c.act.new.entries.items c.in-Some.acted = c.in-Some.ensures.some in
     let block = noted_block c.self.inside.trace.items c.append.new.trace.items c.args.n a _ _ _ _ _ did
@@ -37,7 +37,7 @@ returns-clause-block g c =
     ∙ ap (λ (r : RunState). onto (past_of r.trace) (noted a (scope_block c.args.n a c.args.l.now.body (scopes_at a c.args.self.now.contexts)))) c.self.view_is
 
 pub returns-clause-calls : goal.returns-clause-calls
-returns-clause-calls g c =
+returns-clause-calls c =
     let a = c.args.l.now.actor in
     let did : DoesScope c.args.l.now.body c.index_mut-context.result.now c.act.new.context c.act.new.entries.items c.in-Some.acted = c.in-Some.ensures.some in
     let here : c.index_mut-context.result.now.scopes ≡ scopes_at a c.args.self.now.contexts =
@@ -48,7 +48,7 @@ returns-clause-calls g c =
     ∙ ap (λ (xs : List OpenScope). scope_calls c.args.l.now.body xs) here
 
 pub returns-clause-scopes : goal.returns-clause-scopes
-returns-clause-scopes g c =
+returns-clause-scopes c =
     let a = c.args.l.now.actor in
     let cs = c.self.inside.contexts.items in
     let did : DoesScope c.args.l.now.body c.index_mut-context.result.now c.act.new.context c.act.new.entries.items c.in-Some.acted = c.in-Some.ensures.some in

@@ -7,9 +7,11 @@ use Rattle.scope_context.specs.Standing.{Standing}
 use Rattle.replay_runs.specs.RunState.{IsBelow, RunState, state_of}
 use Rattle.script_calls.specs.Scoped.{AreOpen}
 use Rattle.replay_runs.proofs.Entering.{below_next}
-use Rattle.replay_runs.proofs.Going.{below_same, goes_same, stays_same}
+use Rattle.replay_runs.proofs.Going.{below_same, goes_same, hears_none, on_ok_both, stays_same}
 use Rattle.script_calls.proofs.Openings.{no_scope_call, open_same}
 use Rattle.replay_runs.proofs.RunningLines.{log_no_scope, other_off, own_line, restart_line, scope_line, stop_line}
+use Rattle.replay_runs.proofs.Replying.{heard_restart}
+use Rattle.heard_notes.specs.Heard.{heard}
 use Rattle.replay_runs.proofs.replay.Run.line.Goals as goal
 use Rattle.dtx_model.specs.AtLog.{is_log_line}
 
@@ -92,3 +94,20 @@ returns-in-None-clause-done g c =
     (λ did before number is ties.
     scope_line s l before c.args.n c.args.self.now.contexts (past_of c.args.self.now.trace) (past_of c.scope.new.self.trace) (other_off l.body c.in_default.not-Stop c.in_default.not-Restart) none number ties did)
     c.scope.ensures.done
+
+-- An object hears nothing of what is done at the log.
+pub returns-in_ok-arm-in-Stop-clause-heard : goal.returns-in_ok-arm-in-Stop-clause-heard
+returns-in_ok-arm-in-Stop-clause-heard g c =
+    let r = c.args.self.now in
+    let did = c.in_ok-arm-in-Stop.ensures in
+    hears_none g.O.Objects.is_for g.O.Objects.reached r c.arm.new.self c.args.objects.now did.runs.script did.runs.objects c.requires.made (ap (heard r.script r.objects) did.done)
+
+pub returns-in-Restart-clause-heard : goal.returns-in-Restart-clause-heard
+returns-in-Restart-clause-heard g c =
+    let r = c.args.self.now in
+    let q = c.restart.new.self in
+    on_ok_both c.restart.result
+    (λ runs did.
+    hears_none g.O.Objects.is_for g.O.Objects.reached r q c.args.objects.now runs.script runs.objects c.requires.made
+    (ap (heard r.script r.objects) did.1 ∙ heard_restart r.script r.objects c.args.n c.args.l.now.actor did.0 (past_of r.trace)))
+    c.restart.ensures.runs c.restart.ensures.done

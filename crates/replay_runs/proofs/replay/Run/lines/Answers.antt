@@ -6,7 +6,7 @@ use Rattle.dtx_model.specs.Grammar.{is_in_range}
 use Rattle.dtx_model.specs.Words.{kth, past_of}
 use Rattle.replay_runs.specs.RunState.{RunState}
 use Rattle.script_calls.specs.Scoped.{AreOpen}
-use Rattle.replay_runs.proofs.Going.{goes_same, goes_then, runs_same, runs_then, stays_same, stays_then}
+use Rattle.replay_runs.proofs.Going.{goes_same, goes_then, hears_same, hears_then, runs_same, runs_then, stays_same, stays_then}
 use Rattle.script_calls.proofs.Openings.{past_next, unopened}
 use Rattle.script_calls.proofs.Scripts.{few}
 use Rattle.replay_runs.proofs.Replayed.{line_at, split_at}
@@ -37,6 +37,7 @@ loop-l-init g c = record {
   stays = λ off. stays_same g.D.Disk.faults c.args.log.now;
   life = omega arith;
   runs = runs_same g.D.Disk.faults g.D.Disk.honest g.D.Disk.image g.D.Disk.obeys g.D.Disk.seen c.args.log.now c.args.self.now c.requires.holds;
+  heard = hears_same g.O.Objects.is_for g.O.Objects.reached c.args.self.now c.args.objects.now c.requires.made;
   below = c.requires.below;
   open_at = c.requires.contexts;
   ran = ap past_of c.requires.start;
@@ -105,6 +106,7 @@ loop-l-preserved g c =
       stays = λ off. stays_then faults c.args.log.now c.loop-l.log c.line.new.log was.log.grows c.line.ensures.log.grows (was.stays off) (c.line.ensures.stays (none_there (λ (m : Line). is_log_line m.body) s i l off stands));
       life = let so_far = was.life in let next = c.line.ensures.life in omega (arith, so_far, next);
       runs = runs_then faults g.D.Disk.honest g.D.Disk.image g.D.Disk.obeys g.D.Disk.seen c.args.log.now c.loop-l.log c.line.new.log c.args.self.now c.loop-l.self c.line.new.self was.runs did.runs;
+      heard = hears_then g.O.Objects.is_for g.O.Objects.reached c.args.self.now c.loop-l.self c.line.new.self c.args.objects.now c.loop-l.objects c.line.new.objects c.loop-l.invariant.heard c.in_ok-line.ensures.heard;
       below = did.entered;
       open_at = subst (λ (b : List Line). AreOpen c.line.new.self.contexts b) (sym (past_next lines i l c.loop-l-test.true c.l-item.is)) (did.scopes (past_of (take i lines)) was.open_at);
       ran =

@@ -7,7 +7,7 @@ use Rattle.dtx_model.specs.Steps.{Calls}
 use Rattle.dtx_model.specs.Words.{past_of}
 use Rattle.replay_runs.specs.RunState.{state_of}
 use Rattle.replay_runs.proofs.Entering.{all_below, all_below_next}
-use Rattle.replay_runs.proofs.Going.{below_same, goes_same, runs_then, stays_same}
+use Rattle.replay_runs.proofs.Going.{below_same, goes_same, hears_then, runs_then, stays_same}
 use Rattle.replay_runs.proofs.OwnCalls.{await_answers, awaited_ran, did_answers, did_ran, plain_answers, plain_ran}
 use Rattle.replay_runs.proofs.replay.Run.own_call.Goals as goal
 
@@ -84,3 +84,12 @@ returns-in_default-clause-done g c =
     on_ok_weaker c.call-in_default.result
     (λ did. plain_ran c.args.self.now.script c.args.actor c.args.n c.args.t c.args.c.now (past_of c.args.self.now.trace) (past_of c.call-in_default.new.self.trace) c.in_default.not-Do c.in_default.not-Await did)
     c.call-in_default.ensures.done
+
+pub returns-in_ok-done-in-Do-clause-heard : goal.returns-in_ok-done-in-Do-clause-heard
+returns-in_ok-done-in-Do-clause-heard g c =
+    on_ok_weaker c.call.result (hears_then g.O.Objects.is_for g.O.Objects.reached c.args.self.now c.steps.new.self c.call.new.self c.args.objects.now c.steps.new.objects c.call.new.objects c.in_ok-done-in-Do.ensures.heard) c.call.ensures.heard
+
+pub returns-in_ok-settle-in-Await-clause-heard : goal.returns-in_ok-settle-in-Await-clause-heard
+returns-in_ok-settle-in-Await-clause-heard g c =
+    on_ok_weaker c.call-in-Await.result
+    (hears_then g.O.Objects.is_for g.O.Objects.reached c.args.self.now c.settle.new.self c.call-in-Await.new.self c.args.objects.now c.settle.new.objects c.call-in-Await.new.objects c.in_ok-settle-in-Await.ensures.heard) c.call-in-Await.ensures.heard

@@ -1,4 +1,4 @@
-use Rattle.std.proofs.Common.{◌≡◌, ◌<◌, ◌+◌, ℕ, true, List, [], Err, inl, inr, is_some, ap, arith, length, refl, subst, sym, ◌∙◌, if◌then◌else◌}
+use Rattle.std.proofs.Common.{◌≡◌, ◌<◌, ◌+◌, ℕ, true, List, [], Err, inl, inr, is_some, ap, arith, refl, subst, sym, ◌∙◌, if◌then◌else◌}
 use Rattle.std.proofs.lemmas.Result.{IfErr-at_err, IfOk-at_ok, on_ok_weaker}
 use Rattle.std.specs.Prelude.{is_ok}
 use Rattle.outside.specs.Faults.{Rose}
@@ -24,6 +24,7 @@ use Rattle.replay_runs.proofs.Finding.{finds_on, found_halt, found_opened}
 use Rattle.replay_runs.proofs.Fitting.{fits_opened}
 use Rattle.replay_runs.proofs.Reopening.{IsHalted, after_unopened, both_ok, goes_restart, halted_down, halted_log, halted_up, halts_at, holds_opened, one_written, opened_just, opened_trace, tied_at_log, tied_move, two_written, unopened_by, unopened_just}
 use Rattle.replay_runs.proofs.TellingOpenings.{tells_restart}
+use Rattle.replay_runs.specs.Whose.{named}
 use Rattle.replay_runs.proofs.replay.Run.restart.Given.{Over}
 use Rattle.replay_runs.proofs.replay.Run.restart.Goals.{After-is_up, After-restart_all-arg-1, In_default, then-was_up+in_ok-stop_all, else-was_up}
 use Rattle.replay_runs.proofs.replay.Run.restart.Goals as goal
@@ -32,7 +33,7 @@ pub stop_all-requires-clause-tied : goal.stop_all-requires-clause-tied
 stop_all-requires-clause-tied g c = λ t.
     let r = c.args.self.now in
     let a = Called c.args.n c.args.actor c.restart_answer.result in
-    tied_move r.script c.self.inside.plans r.objects (length c.self.inside.resources.now) t (at_the_log Stopped (at_the_log a (past_of r.trace))) (past_of c.push_reserved-then-was_up.new.self.items) (state_of t r.worlds) (state_of t c.self.inside.worlds.items)
+    tied_move r.script c.self.inside.plans r.objects (named c.self.inside.whose) t (at_the_log Stopped (at_the_log a (past_of r.trace))) (past_of c.push_reserved-then-was_up.new.self.items) (state_of t r.worlds) (state_of t c.self.inside.worlds.items)
     (ap (λ (q : RunState). q.script) c.self.view_is) (ap (λ (q : RunState). q.objects) c.self.view_is)
     (two_written r.trace c.reserve.new.self.items c.push_reserved.new.self.items c.push_reserved-then-was_up.new.self.items a Stopped (c.in_ok-reserve.ensures.items ∙ ap (λ (q : RunState). q.trace) c.self.view_is)
     c.push_reserved.ensures.items c.push_reserved-then-was_up.ensures.items)
@@ -139,7 +140,7 @@ pub restart_all-requires-clause-tied : goal.restart_all-requires-clause-tied
 restart_all-requires-clause-tied g c = λ t.
     let at = goal.at.restart_all-requires-clause-tied g c in
     let q = c.if-was_up.self in
-    tied_move q.script c.self-2.inside.plans q.objects (length c.self-2.inside.resources.now) t (at_the_log (LogWord (Opened c.in-Ok.records)) (past_of q.trace)) (past_of c.push_reserved-2.new.self.items) (state_of t q.worlds) (state_of t c.self-2.inside.worlds.items)
+    tied_move q.script c.self-2.inside.plans q.objects (named c.self-2.inside.whose) t (at_the_log (LogWord (Opened c.in-Ok.records)) (past_of q.trace)) (past_of c.push_reserved-2.new.self.items) (state_of t q.worlds) (state_of t c.self-2.inside.worlds.items)
     (ap (λ (r : RunState). r.script) c.self-2.view_is) (ap (λ (r : RunState). r.objects) c.self-2.view_is) (pushed g at.After-restart_all-arg-1) (ap (λ (r : RunState). state_of t r.worlds) c.self-2.view_is)
     (tied_at_log q.script q.objects t (past_of q.trace) (LogWord (Opened c.in-Ok.records)) (state_of t q.worlds) ((held g at.After-is_up).tied t))
 

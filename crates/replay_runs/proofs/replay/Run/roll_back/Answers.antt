@@ -9,7 +9,7 @@ use Rattle.dtx_model.specs.Words.{past_of}
 use Rattle.replay_runs.specs.RunState.{RunState}
 use Rattle.script_calls.specs.Scoped.{rollbacks, rolled_at}
 use Rattle.replay_runs.proofs.Entering.{all_below, all_below_next}
-use Rattle.replay_runs.proofs.Going.{runs_same, runs_then}
+use Rattle.replay_runs.proofs.Going.{hears_same, hears_then, runs_same, runs_then}
 use Rattle.script_calls.proofs.Openings.{rolled_here, rolled_more}
 use Rattle.replay_runs.proofs.RollingBack.{IsAt, at_place, rolled_there, still_below}
 use Rattle.replay_runs.proofs.replay.Run.roll_back.Given.{Over}
@@ -20,6 +20,7 @@ pub loop-i-init : goal.loop-i-init
 loop-i-init g c = record {
   contexts = refl;
   runs = runs_same g.D.Disk.faults g.D.Disk.honest g.D.Disk.image g.D.Disk.obeys g.D.Disk.seen c.args.log.now c.args.self.now c.requires.holds;
+  heard = hears_same g.O.Objects.is_for g.O.Objects.reached c.args.self.now c.args.objects.now c.requires.made;
   entered = all_below_next c.args.n c.args.self.now.worlds c.requires.below;
   still = λ j u less e. c.requires.below u;
   done = refl;
@@ -62,6 +63,7 @@ loop-i-preserved g c =
     record {
       contexts = c.call.ensures.contexts ∙ was.contexts;
       runs = runs_then g.D.Disk.faults g.D.Disk.honest g.D.Disk.image g.D.Disk.obeys g.D.Disk.seen c.args.log.now c.args.log.now c.args.log.now c.args.self.now c.loop-i.self c.call.new.self was.runs did.runs;
+      heard = hears_then g.O.Objects.is_for g.O.Objects.reached c.args.self.now c.loop-i.self c.call.new.self c.args.objects.now c.loop-i.objects c.call.new.objects c.loop-i.invariant.heard c.in_ok-call.ensures.heard;
       entered = all_below (c.args.n + 1) t c.loop-i.self.worlds c.call.new.self.worlds c.call.ensures.others did.entered was.entered;
       still = still_below c.args.n i ts t c.loop-i.self.worlds c.call.new.self.worlds c.requires.once at.slot c.call.ensures.others was.still;
       done =

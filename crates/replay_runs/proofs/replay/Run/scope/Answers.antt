@@ -9,12 +9,14 @@ use Rattle.dtx_model.specs.Words.{past_of}
 use Rattle.scope_context.specs.Standing.{Standing}
 use Rattle.tx_world.specs.State.{TxState}
 use Rattle.script_calls.specs.declared.scope_lines.Gives.{Gives}
+use Rattle.replay_runs.proofs.Replying.{heard_noted}
+use Rattle.heard_notes.specs.Heard.{heard}
 use Rattle.script_calls.specs.declared.scope_lines.Gives.TheVariants.{Call as CallGiven, Nothing, Rollbacks}
-use Rattle.replay_runs.specs.RunState.{AreBelow, Holds, RunsOn, state_of}
+use Rattle.replay_runs.specs.RunState.{AreBelow, HearsOn, Holds, RunsOn, state_of}
 use Rattle.script_calls.specs.Scoped.{AreOpen, calls_given, rollbacks, rolled_at, scopes_at}
 use Rattle.replay_runs.proofs.AtContext.{noted_finds, noted_holds, noted_tells, scope_did, scope_gives}
 use Rattle.replay_runs.proofs.Entering.{all_below, all_below_next}
-use Rattle.replay_runs.proofs.Going.{runs_then}
+use Rattle.replay_runs.proofs.Going.{hears_none, hears_then, runs_then}
 use Rattle.replay_runs.proofs.RollingBack.{rolled_once}
 use Rattle.replay_runs.proofs.Scoping.{given_plain, scope_call_answers}
 use Rattle.replay_runs.proofs.replay.Run.scope.Given.{Over}
@@ -45,6 +47,15 @@ ran g c =
           noted_finds g.D.Disk.faults g.D.Disk.seen start c.args.log.now l.actor es c.args.self.now c.at_context.new.self
           (record { script = c.at_context.ensures.script; objects = c.at_context.ensures.objects; worlds = c.at_context.ensures.worlds; block = c.in_ok-at_context.ensures.block });
     }
+
+-- no object heard of it,
+unheard : (g : Over) (c : In_ok-at_context g) → HearsOn g.O.Objects.is_for g.O.Objects.reached c.args.self.now c.at_context.new.self c.args.objects.now c.args.objects.now
+unheard g c =
+    let l = c.args.l.now in
+    let r = c.args.self.now in
+    let es = scope_block c.args.n l.actor l.body (scopes_at l.actor r.contexts) in
+    hears_none g.O.Objects.is_for g.O.Objects.reached r c.at_context.new.self c.args.objects.now c.at_context.ensures.script c.at_context.ensures.objects c.requires.made
+    (ap (heard r.script r.objects) c.in_ok-at_context.ensures.block ∙ heard_noted r.script r.objects l.actor es (past_of r.trace))
 
 -- it entered no call,
 below : (g : Over) (c : In_ok-at_context g) → AreBelow c.args.n c.at_context.new.self.worlds
@@ -157,3 +168,22 @@ pub returns-in-Rollbacks-clause-scopes : goal.returns-in-Rollbacks-clause-scopes
 returns-in-Rollbacks-clause-scopes g c =
     on_ok_weaker c.roll_back.result (λ _. kept g (goal.at.returns-in-Rollbacks-clause-scopes g c).In_ok-at_context c.roll_back.new.self.contexts c.roll_back.ensures.contexts)
     c.roll_back.ensures.runs
+
+pub call-requires-clause-made : goal.call-requires-clause-made
+call-requires-clause-made g c = (unheard g (goal.at.call-requires-clause-made g c).In_ok-at_context).made
+
+pub roll_back-requires-clause-made : goal.roll_back-requires-clause-made
+roll_back-requires-clause-made g c = (unheard g (goal.at.roll_back-requires-clause-made g c).In_ok-at_context).made
+
+pub returns-in-Nothing-clause-heard : goal.returns-in-Nothing-clause-heard
+returns-in-Nothing-clause-heard g c = unheard g (goal.at.returns-in-Nothing-clause-heard g c).In_ok-at_context
+
+pub returns-in-Call-clause-heard : goal.returns-in-Call-clause-heard
+returns-in-Call-clause-heard g c =
+    let first = unheard g (goal.at.returns-in-Call-clause-heard g c).In_ok-at_context in
+    on_ok_weaker c.call.result (hears_then g.O.Objects.is_for g.O.Objects.reached c.args.self.now c.at_context.new.self c.call.new.self c.args.objects.now c.args.objects.now c.call.new.objects first) c.call.ensures.heard
+
+pub returns-in-Rollbacks-clause-heard : goal.returns-in-Rollbacks-clause-heard
+returns-in-Rollbacks-clause-heard g c =
+    let first = unheard g (goal.at.returns-in-Rollbacks-clause-heard g c).In_ok-at_context in
+    on_ok_weaker c.roll_back.result (hears_then g.O.Objects.is_for g.O.Objects.reached c.args.self.now c.at_context.new.self c.roll_back.new.self c.args.objects.now c.args.objects.now c.roll_back.new.objects first) c.roll_back.ensures.heard

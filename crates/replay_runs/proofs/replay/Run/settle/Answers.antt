@@ -7,7 +7,7 @@ use Rattle.dtx_model.specs.Traces.{history}
 use Rattle.dtx_model.specs.Words.{kth, past_of}
 use Rattle.turn_parts.proofs.Settling.{none_first, up_between}
 use Rattle.replay_runs.specs.RunState.{Advances, AreSettledBelow, IsRoundAt, RunState, Settles, state_of}
-use Rattle.replay_runs.proofs.Going.{runs_same, runs_then, steps_same, steps_then}
+use Rattle.replay_runs.proofs.Going.{hears_same, hears_then, runs_same, runs_then, steps_same, steps_then}
 use Rattle.replay_runs.proofs.Rounds.{below-apart, below-next, settles-here, steps-more, turn-more, turn-next}
 use Rattle.replay_runs.proofs.replay.Run.settle.Given.{Over}
 use Rattle.replay_runs.proofs.replay.Run.settle.Goals.{In_ok-step}
@@ -18,6 +18,7 @@ loop-init g c =
     record {
       goes = steps_same g.D.Disk.faults g.D.Disk.honest g.D.Disk.image c.args.log.now c.args.self.now;
       runs = runs_same g.D.Disk.faults g.D.Disk.honest g.D.Disk.image g.D.Disk.obeys g.D.Disk.seen c.args.log.now c.args.self.now c.requires.holds;
+      heard = hears_same g.O.Objects.is_for g.O.Objects.reached c.args.self.now c.args.objects.now c.requires.made;
       done = (0, refl);
       turns = λ start turn. turn;
       below = λ up below. below;
@@ -34,6 +35,7 @@ loop-preserved g c =
     record {
       goes = steps_then g.D.Disk.faults g.D.Disk.honest g.D.Disk.image c.args.log.now c.loop.log c.step.new.log start c.loop.self c.step.new.self was.goes c.step.ensures.goes;
       runs = runs_then g.D.Disk.faults g.D.Disk.honest g.D.Disk.image g.D.Disk.obeys g.D.Disk.seen c.args.log.now c.loop.log c.step.new.log start c.loop.self c.step.new.self was.runs c.in_ok-step.ensures.runs;
+      heard = hears_then g.O.Objects.is_for g.O.Objects.reached c.args.self.now c.loop.self c.step.new.self c.args.objects.now c.loop.objects c.step.new.objects c.loop.invariant.heard c.in_ok-step.ensures.heard;
       done = (suc was.done.0, steps-more s c.args.t 1 was.done.0 start.trace c.loop.self.trace c.step.new.self.trace was.done.1 one);
       turns = λ first turn. turn-more s first c.args.t c.loop.self.trace c.step.new.self.trace (was.turns first turn) one;
       below = λ up below.
@@ -90,3 +92,6 @@ returns-then-not-branch-clause-below g c =
     λ up below.
     subst (λ (r : RunState). AreSettledBelow s (c.args.t.value + 1) (past_of r.trace)) (sym same.0)
     (below-next s c.args.t (past_of c.loop.self.trace) (c.loop.invariant.below (sym (ap (λ l. l.is_up) same.1) ∙ up) below) settled)
+
+pub returns-then-not-branch-clause-heard : goal.returns-then-not-branch-clause-heard
+returns-then-not-branch-clause-heard g c = hears_then g.O.Objects.is_for g.O.Objects.reached c.args.self.now c.loop.self c.step.new.self c.args.objects.now c.loop.objects c.step.new.objects c.loop.invariant.heard c.in_ok-step.ensures.heard

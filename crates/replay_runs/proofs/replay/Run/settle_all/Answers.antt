@@ -3,7 +3,7 @@ use Rattle.std.proofs.lemmas.Result.{on_ok_weaker}
 use Rattle.dtx_values.specs.declared.script.Line.{Line}
 use Rattle.dtx_model.specs.Words.{past_of}
 use Rattle.replay_runs.specs.RunState.{AreSettledBelow, IsRoundAt}
-use Rattle.replay_runs.proofs.Going.{down_still, runs_then, steps_then}
+use Rattle.replay_runs.proofs.Going.{down_still, hears_then, runs_then, steps_then}
 use Rattle.replay_runs.proofs.replay.Run.settle_all.Goals as goal
 
 pub returns-then-not-was_up-clause-settled : goal.returns-then-not-was_up-clause-settled
@@ -41,3 +41,9 @@ returns-clause-settled g c =
     (λ settled. subst (λ (r : List Line). AreSettledBelow r 257 (past_of c.settle_round-2.new.self.trace)) c.in_ok-settle_round.ensures.runs.script
     (settled (down_still c.settle_round.new.log.is_up c.settle_round-2.new.log.is_up c.settle_round-2.ensures.goes.stays.still down)))
     c.settle_round-2.ensures.settled
+
+pub returns-clause-heard : goal.returns-clause-heard
+returns-clause-heard g c =
+    on_ok_weaker c.settle_round-2.result
+    (hears_then g.O.Objects.is_for g.O.Objects.reached c.args.self.now c.settle_round.new.self c.settle_round-2.new.self c.args.objects.now c.settle_round.new.objects c.settle_round-2.new.objects c.in_ok-settle_round.ensures.heard)
+    c.settle_round-2.ensures.heard

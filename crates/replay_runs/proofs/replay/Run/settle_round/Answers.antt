@@ -5,7 +5,7 @@ use Rattle.dtx_values.specs.declared.script.Line.{Line}
 use Rattle.dtx_model.specs.Words.{past_of}
 use Rattle.turn_parts.proofs.Settling.{up_between}
 use Rattle.replay_runs.specs.RunState.{AreSettledBelow, IsRoundAt}
-use Rattle.replay_runs.proofs.Going.{runs_same, runs_then, steps_same, steps_then}
+use Rattle.replay_runs.proofs.Going.{hears_same, hears_then, runs_same, runs_then, steps_same, steps_then}
 use Rattle.replay_runs.proofs.Rounds.{below-first, turn-round}
 use Rattle.replay_runs.proofs.replay.Run.settle_round.Goals as goal
 
@@ -14,6 +14,7 @@ loop-n-init g c =
     record {
       goes = steps_same g.D.Disk.faults g.D.Disk.honest g.D.Disk.image c.args.log.now c.args.self.now;
       runs = runs_same g.D.Disk.faults g.D.Disk.honest g.D.Disk.image g.D.Disk.obeys g.D.Disk.seen c.args.log.now c.args.self.now c.requires.holds;
+      heard = hears_same g.O.Objects.is_for g.O.Objects.reached c.args.self.now c.args.objects.now c.requires.made;
       turns = λ start b. b;
       settled = λ same. below-first c.args.self.now.script (past_of c.args.self.now.trace);
     }
@@ -29,6 +30,7 @@ loop-n-preserved g c =
     record {
       goes = steps_then g.D.Disk.faults g.D.Disk.honest g.D.Disk.image c.args.log.now old new c.args.self.now c.loop-n.self c.settle.new.self was.goes c.settle.ensures.goes;
       runs = runs_then g.D.Disk.faults g.D.Disk.honest g.D.Disk.image g.D.Disk.obeys g.D.Disk.seen c.args.log.now old new c.args.self.now c.loop-n.self c.settle.new.self was.runs c.in_ok-settle.ensures.runs;
+      heard = hears_then g.O.Objects.is_for g.O.Objects.reached c.args.self.now c.loop-n.self c.settle.new.self c.args.objects.now c.loop-n.objects c.settle.new.objects c.loop-n.invariant.heard c.in_ok-settle.ensures.heard;
       turns = λ start b.
           let here : IsRoundAt s start t.value (past_of c.loop-n.self.trace) = subst (λ (m : ℕ). IsRoundAt s start m (past_of c.loop-n.self.trace)) (sym n) (was.turns start b) in
           let next : IsRoundAt s start t.value (past_of c.loop-n.self.trace) → IsRoundAt s start (t.value + 1) (past_of c.settle.new.self.trace) =

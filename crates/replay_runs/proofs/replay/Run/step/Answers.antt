@@ -1,11 +1,11 @@
 use Rattle.std.proofs.Common.{◌≡◌, ◌≤◌, ◌<◌, ◌-◌, ◌++◌, ◌∷◌, [], ◌∙◌, ℕ, Bool, true, false, List, Option, None, Ok, Result, ap, arith, length, set, subst, sym}
-use Rattle.std.specs.Prelude.{IfSome, IsTrue, IsFalse, slice_index_or}
+use Rattle.std.specs.Prelude.{IfSome, IsTrue, IsFalse}
 use Rattle.dtx_values.specs.declared.entry.Entry.{Entry}
 use Rattle.dtx_values.specs.declared.entry.Entry.TheVariants.{Stopped}
-use Rattle.dtx_values.specs.declared.number.RmNo.{RmNo}
 use Rattle.dtx_values.specs.declared.number.TxNo.{TxNo}
 use Rattle.dtx_values.specs.declared.trace.Place.TheVariants.{Log}
-use Rattle.dtx_model.specs.Caused.{is_begin_sent, is_up_to}
+use Rattle.dtx_model.specs.AtLog.{hit}
+use Rattle.dtx_model.specs.Caused.{is_begin_sent}
 use Rattle.dtx_model.specs.Grammar.{are_named_well}
 use Rattle.dtx_model.specs.Words.{has, kth, onto, past_of}
 use Rattle.dtx_model.specs.Steps.{pending}
@@ -17,12 +17,22 @@ use Rattle.tx_world.specs.AtLog.{Fits, id_of}
 use Rattle.tx_world.specs.State.{TxState}
 use Rattle.tx_world.specs.declared.refusal.WorldError.{WorldError}
 use Rattle.world_parts.specs.Found.{IsLeftAsWished}
-use Rattle.replay_runs.specs.Objects.{DoesGiven, MayReply}
+use Rattle.replay_runs.proofs.Replying.{heard_stops, step_block}
+use Rattle.replay_runs.proofs.Going.{hears_on, hears_same}
+use Rattle.heard_notes.specs.Heard.{HeardNote, heard}
+use Rattle.replay_runs.specs.Whose.{named}
+use Rattle.dtx_model.proofs.Histories.{past_of-snoc}
+use Rattle.tx_world.specs.Stepping.{reply_in}
+use Rattle.dtx_values.specs.declared.note.Note.{Note}
+use Rattle.dtx_values.specs.declared.number.EnlNo.{EnlNo}
+use Rattle.script_calls.specs.Managers.{AreManagers}
+use Rattle.dtx_values.specs.declared.number.RmNo.{RmNo}
+use Rattle.replay_runs.specs.Objects.{DoesGiven, IsBlockOf, MayReply}
 use Rattle.replay_runs.specs.RunState.{AreNumbered, HaveSameCalls, IsRecordKept, IsTied, RunState, StepsGo, halted, state_of}
-use Rattle.replay_runs.proofs.Noting.{as_long, grown}
+use Rattle.replay_runs.proofs.Noting.{as_long, grown, trace_noted}
 use Rattle.replay_runs.proofs.Numbered.{state_indexed}
 use Rattle.replay_runs.proofs.StepStops.{is_stopping_step, step_stopped, stopping_lives, stopping_ties}
-use Rattle.replay_runs.proofs.Steps.{IsStep, IsStepAt, IsStepped, StepOf, calls_same, none_beyond, none_pending, run_with, step_done, step_log, step_past, step_stays, was, worlds_after}
+use Rattle.replay_runs.proofs.Steps.{IsStep, IsStepAt, IsStepped, StepOf, calls_same, did_step, none_beyond, none_pending, run_with, step_done, step_log, step_past, step_stays, was, worlds_after, wrote}
 use Rattle.replay_runs.proofs.Turns.{MayGive, given_by, own_at}
 use Rattle.replay_runs.proofs.replay.Run.step.Given.{Over}
 use Rattle.replay_runs.proofs.replay.Run.step.Goals.{After-is_own_run, After-is_own_run-2, In_ok-note, else-was_up-via-then-was_up+else-not-is_up, else-was_up-via-else-was_up}
@@ -53,20 +63,37 @@ was_reached g c =
     (state_indexed c.args.t c.self.inside.worlds.items c.index_mut-world.result.now c.index-2.result (omega (arith, c.index-2.ensures.place))
     (omega (arith, c.index.ensures.place, c.if-len-index.false, c.len.ensures)) c.index_mut-world.ensures.value)
 
+-- to what a reply is owed
+abbrev due : (g : Over) → After-is_own_run-2 g → Option (EnlNo × Note)
+due g c = reply_in (was (about g c)).world (kth (pending (was (about g c)).world) c.args.k)
+
+-- what the objects were asked
+asked : (g : Over) (c : After-is_own_run-2 g) → g.O.Objects.asks c.args.t (due g c) c.args.objects.now c.asked-reply.result c.asked-reply.new.self
+asked g c =
+    subst (λ (z : TxState). g.O.Objects.asks c.args.t (reply_in z.world (kth (pending z.world) c.args.k)) c.args.objects.now c.asked-reply.result c.asked-reply.new.self) (sym (was_reached g c))
+    (subst (λ (j : ℕ). g.O.Objects.asks c.args.t (reply_in c.index_mut-world.result.now.world (kth (pending c.index_mut-world.result.now.world) j)) c.args.objects.now c.asked-reply.result c.asked-reply.new.self) c.from.ensures
+    c.asked-reply.ensures.asks)
+
+-- they are still for the script, and a reply is one of these
+still : (g : Over) (c : After-is_own_run-2 g) → g.O.Objects.is_for c.args.self.now.script c.args.self.now.objects c.asked-reply.new.self
+still g c = c.asked-reply.ensures.made c.args.self.now.script c.args.self.now.objects c.requires.made
+
+-- the table that they are given is that of the script
+table : (g : Over) (c : After-is_own_run-2 g) → AreManagers c.args.self.now.script c.args.self.now.script c.deref.result.now
+table g c =
+    subst (λ (r : RunState). AreManagers r.script r.script c.deref.result.now) c.self.view_is
+    (subst (λ (ms : List (Option RmNo)). AreManagers c.self.inside.plans c.self.inside.plans ms) (sym c.deref.ensures.value) c.self.invariant.4)
+
 -- a reply that is given is one that an object may give
 may_give : (g : Over) (c : After-is_own_run-2 g) → MayGive c.args.self.now.script c.args.self.now.objects c.index_mut-world.result.now.world c.args.k c.asked-reply.result
 may_give g c =
-    let inside = c.self.inside in
     let w = c.index_mut-world.result.now.world in
     let due = subst (λ (j : ℕ). IfSome c.asked-reply.result (λ x. MayReply w j x.0 x.1)) c.from.ensures c.asked-reply.ensures.due in
-    let object =
-    subst (λ (ms : List (Option RmNo)). IfSome c.asked-reply.result (λ x. is_up_to (length inside.resources.now) (slice_index_or ms (x.0.value - 1) None) ≡ true)) c.deref.ensures.value c.asked-reply.ensures.object in
-    subst (λ (r : RunState). MayGive r.script r.objects w c.args.k c.asked-reply.result) c.self.view_is
-    (given_by inside.plans (length inside.resources.now) inside.managers.items w c.args.k c.asked-reply.result c.self.invariant.4 due object)
+    given_by c.args.self.now.script c.args.self.now.objects w c.args.k c.asked-reply.result due (c.asked-reply.ensures.owned c.args.self.now.script c.args.self.now.objects c.requires.made (table g c))
 
--- and none is lost
-objects : (g : Over) (c : After-is_own_run-2 g) → length c.asked-reply.new.resources ≡ c.args.self.now.objects
-objects g c = c.asked-reply.ensures.same ∙ ap (λ (r : RunState). r.objects) c.self.view_is
+-- whose enlistments have an object stays
+objects : (g : Over) (c : After-is_own_run-2 g) → named c.self.inside.whose ≡ c.args.self.now.objects
+objects g c = ap (λ (r : RunState). r.objects) c.self.view_is
 
 -- it was done
 done : (g : Over) (c : After-is_own_run-2 g) → IsStep g.D.Disk.faults g.D.Disk.honest g.D.Disk.image (about g c)
@@ -96,12 +123,11 @@ wished g c is =
 
 -- the run after it, as its parts stand then
 parts : (g : Over) (c : After-is_own_run-2 g) (T : List Placed)
-    → record { script = c.self.inside.plans; objects = length c.asked-reply.new.resources; worlds = set c.self.inside.worlds.items c.index-2.result c.do_kth.new.world; contexts = c.self.inside.contexts.items; trace = T }
+    → record { script = c.self.inside.plans; objects = named c.self.inside.whose; worlds = set c.self.inside.worlds.items c.index-2.result c.do_kth.new.world; contexts = c.self.inside.contexts.items; trace = T }
     ≡ run_with (about g c) (worlds_after (about g c)) T
 parts g c T =
     let place : c.index-2.result ≡ c.args.t.value - 1 = omega (arith, c.index-2.ensures.place) in
-    ap (λ (o : ℕ). record { script = c.self.inside.plans; objects = o; worlds = set c.self.inside.worlds.items c.index-2.result c.do_kth.new.world; contexts = c.self.inside.contexts.items; trace = T }) c.asked-reply.ensures.same
-    ∙ ap (λ (r : RunState). record { script = r.script; objects = r.objects; worlds = set r.worlds c.index-2.result c.do_kth.new.world; contexts = r.contexts; trace = T }) c.self.view_is
+    ap (λ (r : RunState). record { script = r.script; objects = r.objects; worlds = set r.worlds c.index-2.result c.do_kth.new.world; contexts = r.contexts; trace = T }) c.self.view_is
     ∙ ap (λ (i : ℕ). run_with (about g c) (set c.args.self.now.worlds i c.do_kth.new.world) T) place
 
 -- no call was entered
@@ -115,12 +141,26 @@ past g c = c.history.ensures ∙ sym (ap (λ (z : TxState). z.world.past) (was_r
 long : (g : Over) (c : After-is_own_run-2 g) → length (was (about g c)).world.past ≡ c.len-from.result
 long g c = sym (as_long c.history.result.now.items (was (about g c)).world.past (past g c)) ∙ sym c.len-from.ensures
 
+-- the block that it wrote
+abbrev entries : (g : Over) (c : After-is_own_run-2 g) → List Entry
+entries g c = wrote g.D.Disk.faults g.D.Disk.honest (about g c) (did_step g.D.Disk.faults g.D.Disk.honest g.D.Disk.image (about g c) (done g c))
+
+wrote_here : (g : Over) (c : After-is_own_run-2 g) → c.do_kth.new.world.world.past ≡ onto (was (about g c)).world.past (entries g c)
+wrote_here g c = (did_step g.D.Disk.faults g.D.Disk.honest g.D.Disk.image (about g c) (done g c)).past
+
 -- and didn't get shorter
 longer : (g : Over) (c : After-is_own_run-2 g) → c.len-from.result ≤ length c.do_kth.new.world.world.past
 longer g c =
     let wrote = step_past g.D.Disk.faults g.D.Disk.honest g.D.Disk.image (about g c) (done g c) in
     subst (λ (n : ℕ). n ≤ length c.do_kth.new.world.world.past) (sym c.len-from.ensures)
     (grown c.history.result.now.items (was (about g c)).world.past c.do_kth.new.world.world.past wrote.0 (past g c) wrote.1)
+
+-- the block is that of a step which they were asked for
+shown : (g : Over) (c : After-is_own_run-2 g) → IsBlockOf c.args.self.now.script (due g c) c.asked-reply.result (entries g c)
+shown g c = step_block g.D.Disk.faults g.D.Disk.honest g.D.Disk.image (about g c) (done g c)
+
+pub asked-reply-requires-clause-made : goal.asked-reply-requires-clause-made
+asked-reply-requires-clause-made g c = (c.args.self.now.script, c.args.self.now.objects, c.requires.made)
 
 pub returns-then-len-index-clause-none : goal.returns-then-len-index-clause-none
 returns-then-len-index-clause-none g c = λ e.
@@ -153,7 +193,7 @@ returns-then-not-branch-clause-none g c = λ e.
 -- the run as it goes on
 went : (g : Over) (c : After-is_own_run-2 g) (T : List Placed)
     → StepsGo g.D.Disk.faults g.D.Disk.honest g.D.Disk.image c.args.log.now c.do_kth.new.log c.args.self.now
-    (record { script = c.self.inside.plans; objects = length c.asked-reply.new.resources; worlds = set c.self.inside.worlds.items c.index-2.result c.do_kth.new.world; contexts = c.self.inside.contexts.items; trace = T })
+    (record { script = c.self.inside.plans; objects = named c.self.inside.whose; worlds = set c.self.inside.worlds.items c.index-2.result c.do_kth.new.world; contexts = c.self.inside.contexts.items; trace = T })
 went g c T =
     record {
       contexts = ap (λ (r : RunState). r.contexts) c.self.view_is;
@@ -227,7 +267,16 @@ returns-then-not-is_up g c =
     ∙ ap (λ l. halted l (state_of u (worlds_after a))) c.life.ensures)
     c.in_ok-stop_all.ensures.trace
     (subst (λ (r : RunState). ((u : TxNo) → IsRecordKept (state_of u r.worlds)) → (u : TxNo) → IsRecordKept (state_of u q.worlds)) now c.in_ok-stop_all.ensures.kept) (wished g b) in
-    record { goes = d.goes; runs = d.runs; did = λ e. d.did; none = λ e. absurd (never_false e); unchanged = λ e. absurd (never_false e) }
+    let r = c.args.self.now in
+    let written : past_of mid ≡ onto ((Log, Stopped) ∷ past_of r.trace) (placed c.args.t (entries g b)) =
+    ap past_of (noted g at.In_ok-note (was a) (long g b) (entries g b) (wrote_here g b)) ∙ trace_noted (r.trace ++ (Log, Stopped) ∷ []) c.args.t (entries g b)
+    ∙ ap (λ (T : List Placed). onto T (placed c.args.t (entries g b))) (past_of-snoc r.trace (Log, Stopped)) in
+    let seen : heard r.script r.objects (past_of q.trace) ≡ heard r.script r.objects (onto ((Log, Stopped) ∷ past_of r.trace) (placed c.args.t (entries g b))) =
+    ap (heard r.script r.objects) c.in_ok-stop_all.ensures.trace ∙ heard_stops r.script r.objects (hit (past_of mid)) (past_of mid) ∙ ap (heard r.script r.objects) written in
+    let hears =
+    hears_on g.O.Objects.is_for g.O.Objects.reached r q c.args.objects.now c.tell.new.self d.runs.script d.runs.objects (c.tell.ensures.made r.script r.objects (still g b))
+    (λ from before. subst (λ (hs : List HeardNote). g.O.Objects.reached r.script from hs c.tell.new.self) (sym seen) (c.tell.ensures.stepped (was a).world.past (entries g b) (long g b) (wrote_here g b) r.script r.objects (due g b) from c.args.objects.now c.asked-reply.result ((Log, Stopped) ∷ past_of r.trace) c.requires.made (asked g b) (shown g b) before)) in
+    record { goes = d.goes; runs = d.runs; heard = hears; did = λ e. d.did; none = λ e. absurd (never_false e); unchanged = λ e. absurd (never_false e) }
 
 pub returns : goal.returns
 returns g c =
@@ -243,4 +292,24 @@ returns g c =
     let d =
     subst (λ (q : RunState). IsStepped g.D.Disk.faults g.D.Disk.honest g.D.Disk.image g.D.Disk.obeys g.D.Disk.seen a q) (sym (parts g b new))
     (step_done g.D.Disk.faults g.D.Disk.honest g.D.Disk.image g.D.Disk.obeys g.D.Disk.seen a new (done g b) stays noted) in
-    record { goes = d.goes; runs = d.runs; did = λ e. d.did; none = λ e. absurd (never_false e); unchanged = λ e. absurd (never_false e) }
+    let r = c.args.self.now in
+    let written : past_of new ≡ onto (past_of r.trace) (placed c.args.t (entries g b)) = ap past_of (noted (entries g b) (wrote_here g b)) ∙ trace_noted r.trace c.args.t (entries g b) in
+    let hears =
+    hears_on g.O.Objects.is_for g.O.Objects.reached r _ c.args.objects.now c.tell-2.new.self d.runs.script d.runs.objects (c.tell-2.ensures.made r.script r.objects (still g b))
+    (λ from before. subst (λ (T : List Placed). g.O.Objects.reached r.script from (heard r.script r.objects T) c.tell-2.new.self) (sym written) (c.tell-2.ensures.stepped (was a).world.past (entries g b) (long g b) (wrote_here g b) r.script r.objects (due g b) from c.args.objects.now c.asked-reply.result (past_of r.trace) c.requires.made (asked g b) (shown g b) before)) in
+    record { goes = d.goes; runs = d.runs; heard = hears; did = λ e. d.did; none = λ e. absurd (never_false e); unchanged = λ e. absurd (never_false e) }
+
+pub tell-requires-clause-made : goal.tell-requires-clause-made
+tell-requires-clause-made g c = let b = (goal.at.tell-requires-clause-made g c).After-is_own_run-2 in (c.args.self.now.script, c.args.self.now.objects, still g b)
+
+pub tell-requires-clause-from : goal.tell-requires-clause-from
+tell-requires-clause-from g c = longer g (goal.at.tell-requires-clause-from g c).After-is_own_run-2
+
+pub tell-requires-2-clause-made : goal.tell-requires-2-clause-made
+tell-requires-2-clause-made g c = let b = (goal.at.tell-requires-2-clause-made g c).After-is_own_run-2 in (c.args.self.now.script, c.args.self.now.objects, still g b)
+
+pub tell-requires-2-clause-from : goal.tell-requires-2-clause-from
+tell-requires-2-clause-from g c = longer g (goal.at.tell-requires-2-clause-from g c).After-is_own_run-2
+
+pub returns-then-len-index-clause-heard : goal.returns-then-len-index-clause-heard
+returns-then-len-index-clause-heard g c = hears_same g.O.Objects.is_for g.O.Objects.reached c.args.self.now c.args.objects.now c.requires.made

@@ -5,7 +5,7 @@ use Rattle.dtx_model.specs.Replay.{HasDoneAt, world_at}
 use Rattle.dtx_model.specs.Steps.{pending}
 use Rattle.dtx_model.specs.Words.{kth, past_of}
 use Rattle.replay_runs.specs.RunState.{Advances, RunState, StepsDone, state_of}
-use Rattle.replay_runs.proofs.Going.{runs_same, runs_then, steps_same, steps_then}
+use Rattle.replay_runs.proofs.Going.{hears_same, hears_then, runs_same, runs_then, steps_same, steps_then}
 use Rattle.replay_runs.proofs.Rounds.{did_all, did_some, done_all, done_some, steps-more}
 use Rattle.replay_runs.proofs.replay.Run.steps.Goals as goal
 
@@ -14,6 +14,7 @@ loop-m-init g c =
     record {
       goes = steps_same g.D.Disk.faults g.D.Disk.honest g.D.Disk.image c.args.log.now c.args.self.now;
       runs = runs_same g.D.Disk.faults g.D.Disk.honest g.D.Disk.image g.D.Disk.obeys g.D.Disk.seen c.args.log.now c.args.self.now c.requires.holds;
+      heard = hears_same g.O.Objects.is_for g.O.Objects.reached c.args.self.now c.args.objects.now c.requires.made;
       did = refl;
       done = refl;
     }
@@ -29,6 +30,7 @@ loop-m-preserved g c =
     record {
       goes = steps_then g.D.Disk.faults g.D.Disk.honest g.D.Disk.image c.args.log.now c.loop-m.log c.step.new.log start c.loop-m.self c.step.new.self was.goes c.step.ensures.goes;
       runs = runs_then g.D.Disk.faults g.D.Disk.honest g.D.Disk.image g.D.Disk.obeys g.D.Disk.seen c.args.log.now c.loop-m.log c.step.new.log start c.loop-m.self c.step.new.self was.runs c.in_ok-step.ensures.runs;
+      heard = hears_then g.O.Objects.is_for g.O.Objects.reached c.args.self.now c.loop-m.self c.step.new.self c.args.objects.now c.loop-m.objects c.step.new.objects c.loop-m.invariant.heard c.in_ok-step.ensures.heard;
       did = subst (λ (i : ℕ). HasStepped c.args.t.value c.args.k i (state_of c.args.t start.worlds).world (state_of c.args.t c.step.new.self.worlds).world) more
           ((c.step.ensures.did some).stepped m (state_of c.args.t start.worlds).world was.did);
       done = subst (λ (i : ℕ). StepsDone start.script c.args.t c.args.k i start.trace c.step.new.self.trace) more
@@ -68,3 +70,6 @@ returns-clause-did g c =
 pub returns-clause-done : goal.returns-clause-done
 returns-clause-done g c =
     done_all c.args.self.now.script c.args.t c.args.k c.args.n c.loop-m.m c.args.self.now.trace c.loop-m.self.trace (omega (arith, c.loop-m-test.false, c.loop-m.auto.m-end)) c.loop-m.invariant.done
+
+pub returns-then-not-branch-clause-heard : goal.returns-then-not-branch-clause-heard
+returns-then-not-branch-clause-heard g c = hears_then g.O.Objects.is_for g.O.Objects.reached c.args.self.now c.loop-m.self c.step.new.self c.args.objects.now c.loop-m.objects c.step.new.objects c.loop-m.invariant.heard c.in_ok-step.ensures.heard

@@ -13,12 +13,11 @@ use Rattle.replay_runs.proofs.Halting.{IsThrough, halted_blank, halted_trace, hi
 use Rattle.replay_runs.proofs.Noting.{as_long, grown, trace_noted}
 use Rattle.replay_runs.proofs.Numbered.{state_reached}
 use Rattle.replay_runs.proofs.Steps.{each_set, step_calls}
-use Rattle.replay_runs.proofs.replay.Run.stop_all.Given.{Over}
 use Rattle.replay_runs.proofs.replay.Run.stop_all.Goals.{In_ok-coordinator_stopped}
 use Rattle.replay_runs.proofs.replay.Run.stop_all.Goals as goal
 
 pub loop-place-init : goal.loop-place-init
-loop-place-init g c =
+loop-place-init c =
     record {
       same = record { plans = refl; managers = refl; objects = refl; contexts = refl };
       through = through_none (halted c.args.life) (is_hit_by c.args.life) (λ t. Stopped) c.self.inside.worlds.items (past_of c.self.inside.trace.items) c.self.invariant.0;
@@ -26,7 +25,7 @@ loop-place-init g c =
     }
 
 pub note-requires : goal.note-requires
-note-requires g c =
+note-requires c =
     let x = c.index_mut-world.result.now in
     let hit = is_hit_by c.args.life x in
     subst (λ (n : ℕ). n ≤ length c.coordinator_stopped.new.self.world.past) (sym c.len-from.ensures)
@@ -34,37 +33,37 @@ note-requires g c =
     (ap (λ (w : World). w.past) c.in_ok-coordinator_stopped.ensures.world ∙ hit_past hit (number_of x.transaction) x.world))
 
 -- the transaction stands at the place that the loop has come to
-number : (g : Over) (c : In_ok-coordinator_stopped g) → c.unwrap-t.result.value ≡ c.loop-place.place + 1
-number g c = subst (λ (o : Option TxNo). IfSome o (λ x. x.value ≡ c.loop-place.place + 1)) c.unwrap-t.ensures c.new.ensures.value
+number : (c : In_ok-coordinator_stopped) → c.unwrap-t.result.value ≡ c.loop-place.place + 1
+number c = subst (λ (o : Option TxNo). IfSome o (λ x. x.value ≡ c.loop-place.place + 1)) c.unwrap-t.ensures c.new.ensures.value
 
-place : (g : Over) (c : In_ok-coordinator_stopped g) → c.unwrap-t.result.value - 1 ≡ c.loop-place.place
-place g c = let value = number g c in omega (arith, value)
+place : (c : In_ok-coordinator_stopped) → c.unwrap-t.result.value - 1 ≡ c.loop-place.place
+place c = let value = number c in omega (arith, value)
 
-made : (g : Over) (c : In_ok-coordinator_stopped g) → c.unwrap-t.result.value ≤ length c.loop-place.self-inside.worlds.items
-made g c = let value = number g c in omega (arith, value, c.loop-place-test.true, c.len-place-end.ensures, c.loop-place.invariant.through.long)
+made : (c : In_ok-coordinator_stopped) → c.unwrap-t.result.value ≤ length c.loop-place.self-inside.worlds.items
+made c = let value = number c in omega (arith, value, c.loop-place-test.true, c.len-place-end.ensures, c.loop-place.invariant.through.long)
 
-there : (g : Over) (c : In_ok-coordinator_stopped g) → c.index_mut-world.result.now ≡ get_or c.loop-place.self-inside.worlds.items (c.unwrap-t.result.value - 1) c.index_mut-world.result.now
-there g c = subst (λ (i : ℕ). c.index_mut-world.result.now ≡ get_or c.loop-place.self-inside.worlds.items i c.index_mut-world.result.now) (sym (place g c)) c.index_mut-world.ensures.value
+there : (c : In_ok-coordinator_stopped) → c.index_mut-world.result.now ≡ get_or c.loop-place.self-inside.worlds.items (c.unwrap-t.result.value - 1) c.index_mut-world.result.now
+there c = subst (λ (i : ℕ). c.index_mut-world.result.now ≡ get_or c.loop-place.self-inside.worlds.items i c.index_mut-world.result.now) (sym (place c)) c.index_mut-world.ensures.value
 
-calls : (g : Over) (c : In_ok-coordinator_stopped g) → c.coordinator_stopped.new.self.world.calls ≡ c.index_mut-world.result.now.world.calls
-calls g c =
+calls : (c : In_ok-coordinator_stopped) → c.coordinator_stopped.new.self.world.calls ≡ c.index_mut-world.result.now.world.calls
+calls c =
     let x = c.index_mut-world.result.now in
     ap (λ (w : World). w.calls) c.in_ok-coordinator_stopped.ensures.world ∙ hit_calls (is_hit_by c.args.life x) (number_of x.transaction) x.world
 
 pub returns-in_err-note-clause-calls : goal.returns-in_err-note-clause-calls
-returns-in_err-note-clause-calls g c =
-    let b = (goal.at.returns-in_err-note-clause-calls g c).In_ok-coordinator_stopped in
+returns-in_err-note-clause-calls c =
+    let b = (goal.at.returns-in_err-note-clause-calls c).In_ok-coordinator_stopped in
     let vs = c.loop-place.self-inside.worlds.items in
     let y = c.coordinator_stopped.new.self in
-    let at = state_reached c.unwrap-t.result vs c.index_mut-world.result.now (made g b) (there g b) in
+    let at = state_reached c.unwrap-t.result vs c.index_mut-world.result.now (made b) (there b) in
     λ v.
-    subst (λ (i : ℕ). (state_of v (set vs i y)).world.calls ≡ (state_of v vs).world.calls) (place g b)
-    (step_calls vs c.unwrap-t.result y (made g b) (calls g b ∙ sym (ap (λ z. z.world.calls) at)) v)
+    subst (λ (i : ℕ). (state_of v (set vs i y)).world.calls ≡ (state_of v vs).world.calls) (place b)
+    (step_calls vs c.unwrap-t.result y (made b) (calls b ∙ sym (ap (λ z. z.world.calls) at)) v)
     ∙ (c.loop-place.invariant.through.calls v ∙ ap (λ (r : RunState). (state_of v r.worlds).world.calls) c.self.view_is)
 
 pub loop-place-preserved : goal.loop-place-preserved
-loop-place-preserved g c =
-    let b = (goal.at.loop-place-preserved g c).In_ok-coordinator_stopped in
+loop-place-preserved c =
+    let b = (goal.at.loop-place-preserved c).In_ok-coordinator_stopped in
     let x = c.index_mut-world.result.now in
     let y = c.coordinator_stopped.new.self in
     let u = c.unwrap-t.result in
@@ -84,16 +83,16 @@ loop-place-preserved g c =
     record {
       same = c.loop-place.invariant.same;
       through =
-          subst (λ (i : ℕ). IsThrough (halted life) (is_hit_by life) (λ t. Stopped) ws start (c.loop-place.place + 1) (set vs i y) (past_of c.note.new.trace.items)) (place g b)
-          (through_next (halted life) (is_hit_by life) (λ t. Stopped) ws vs start (past_of before) (past_of c.note.new.trace.items) c.loop-place.place u x y (number g b) c.loop-place.invariant.through (made g b)
-          (there g b) (is_halted life x y number_same world kept.0 kept.1 kept.2) number_same (calls g b) written);
+          subst (λ (i : ℕ). IsThrough (halted life) (is_hit_by life) (λ t. Stopped) ws start (c.loop-place.place + 1) (set vs i y) (past_of c.note.new.trace.items)) (place b)
+          (through_next (halted life) (is_hit_by life) (λ t. Stopped) ws vs start (past_of before) (past_of c.note.new.trace.items) c.loop-place.place u x y (number b) c.loop-place.invariant.through (made b)
+          (there b) (is_halted life x y number_same world kept.0 kept.1 kept.2) number_same (calls b) written);
       kept = λ all.
-          subst (λ (i : ℕ). (t : TxNo) → IsRecordKept (state_of t (set vs i y))) (place g b)
-          (each_set IsRecordKept vs u y (made g b) record_kept (c.loop-place.invariant.kept all));
+          subst (λ (i : ℕ). (t : TxNo) → IsRecordKept (state_of t (set vs i y))) (place b)
+          (each_set IsRecordKept vs u y (made b) record_kept (c.loop-place.invariant.kept all));
     }
 
 pub returns-clause-worlds : goal.returns-clause-worlds
-returns-clause-worlds g c =
+returns-clause-worlds c =
     let ws = c.self.inside.worlds.items in
     let vs = c.loop-place.self-inside.worlds.items in
     let life = c.args.life in
@@ -102,7 +101,7 @@ returns-clause-worlds g c =
     (omega (arith, c.loop-place-test.false, c.len-place-end.ensures)) (halted_blank life))
 
 pub returns-clause-trace : goal.returns-clause-trace
-returns-clause-trace g c =
+returns-clause-trace c =
     let vs = c.loop-place.self-inside.worlds.items in
     let new = past_of c.loop-place.self-inside.trace.items in
     let life = c.args.life in
@@ -113,5 +112,5 @@ returns-clause-trace g c =
     halted_trace r.script r.objects life r.worlds vs (past_of r.trace) new n through all c.requires.tied c.requires.lives
 
 pub returns-clause-kept : goal.returns-clause-kept
-returns-clause-kept g c =
+returns-clause-kept c =
     subst (λ (r : RunState). ((t : TxNo) → IsRecordKept (state_of t r.worlds)) → (t : TxNo) → IsRecordKept (state_of t c.loop-place.self-inside.worlds.items)) c.self.view_is c.loop-place.invariant.kept

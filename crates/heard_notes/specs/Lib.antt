@@ -1,0 +1,4 @@
+pub mod Heard
+pub mod Whose
+pub mod Puts
+pub mod Tables
