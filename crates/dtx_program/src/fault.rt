@@ -17,6 +17,8 @@ fn words_of(cause: BadCause) -> &'static str {
         BadCause::NameUnknown => "unknown name",
         BadCause::WrongKind => "wrong kind",
         BadCause::ParTwice => "par twice",
+        BadCause::TooManyPuts => "too many puts",
+        BadCause::KeyTaken => "key taken",
     }
 }
 
@@ -27,6 +29,8 @@ pub enum Fault {
     Usage,
     #[error("dtx: line {0}: {1}")]
     BadScript(u32, &'static str),
+    #[error("dtx: line {0}: bad trace")]
+    BadTrace(u64),
     #[error("dtx: line {0}: do needs replay")]
     NotThreadable(u32),
     #[error("dtx: read fault")]
@@ -50,6 +54,7 @@ impl Fault {
             Exit::Fine => Ok(()),
             Exit::Usage => Err(Fault::Usage),
             Exit::BadScript(line, cause) => Err(Fault::BadScript(line, words_of(cause))),
+            Exit::BadTrace(line) => Err(Fault::BadTrace(line)),
             Exit::NotThreadable(line) => Err(Fault::NotThreadable(line)),
             Exit::ReadFault => Err(Fault::Read),
             Exit::LogFault => Err(Fault::Log),
@@ -69,6 +74,7 @@ impl Fault {
             Fault::Write => 6,
             Fault::Log => 7,
             Fault::Memory => 8,
+            Fault::BadTrace(_) => 10,
             Fault::NoLog => 11,
             Fault::NotALog(_) => 12,
         }

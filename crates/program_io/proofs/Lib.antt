@@ -1,3 +1,4 @@
 pub mod Reading
 pub mod Threadable
+pub mod TraceLines
 pub mod Transfers

@@ -2,4 +2,6 @@ pub mod FormText
 pub mod Judged
 pub mod Listed
 pub mod Refusal
+pub mod TraceRead
 pub mod Transfer
+pub mod Verdict

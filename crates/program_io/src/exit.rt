@@ -1,7 +1,7 @@
 //! How the top call ends.
 use script_text::BadCause;
 
-/// How the top call ends. The order in which the answers are given is Usage, ReadFault, BadScript, NotThreadable, LogFault, NotALog, WriteFault; want of memory may
+/// How the top call ends. The order in which the answers are given is Usage, ReadFault, BadScript or BadTrace, NotThreadable, LogFault, NotALog, WriteFault; want of memory may
 /// come at any point.
 #[derive(Clone, Copy, PartialEq, Eq, Debug)]
 pub enum Exit {
@@ -11,6 +11,8 @@ pub enum Exit {
     Usage,
     /// The first bad line, from 1, and its first cause.
     BadScript(u32, BadCause),
+    /// The first line, from 1, that isn't a line of a trace there, or that goes beyond the longest trace that is checked.
+    BadTrace(u64),
     /// The first `do` line, from 1, of a script that was to run on threads. Such a line says how many steps come next, which nobody can say of threads.
     NotThreadable(u32),
     /// The source met a fault.

@@ -11,10 +11,13 @@ ghost use Rattle.program_io.specs.Refusal.{HasNoRun, IsRunnable, Refuses};
 use crate::exit::Exit;
 use crate::transfer::{ReadError, read_all};
 use crate::way::Way;
-use dtx_values::Body;
+use dtx_values::{Body, SCRIPT_BYTES};
 use outside::Source;
 use script_text::{BadCause, Line, Script, ScriptError, read_script, reads_exactly};
 use std::alloc::Global;
+
+/// The most bytes of a script that are read: one more than the longest has.
+const MOST: usize = SCRIPT_BYTES + 1;
 
 /// Why bytes have no run.
 #[derive(Clone, Copy, PartialEq, Eq, Debug)]
@@ -73,7 +76,7 @@ pub fn script_from<S: Source>(alloc: Global, way: Way, source: &mut S) -> Result
 {
     // This does nothing when it runs. It brings in that what is bad in the bytes that were read is bad in all of them.
     reads_exactly();
-    let bytes = match read_all(alloc, source) {
+    let bytes = match read_all(alloc, source, MOST) {
         Ok(bytes) => bytes,
         Err(ReadError::Fault) => return Err(Exit::ReadFault),
         Err(ReadError::Memory) => return Err(Exit::Memory),

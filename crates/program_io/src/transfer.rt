@@ -4,12 +4,8 @@ ghost use Rattle.std.specs.Option.{ForSome};
 ghost use Rattle.outside.specs.Faults.{Rose};
 ghost use Rattle.program_io.specs.Transfer.{IsPartWritten};
 
-use dtx_values::SCRIPT_BYTES;
 use outside::{Sink, Source, WriteError};
 use std::alloc::Global;
-
-/// The most bytes that are read: one more than the longest script has.
-pub const MOST: usize = SCRIPT_BYTES + 1;
 
 /// The most bytes that one call reads.
 const PIECE: usize = 16_384;
@@ -32,7 +28,7 @@ pub enum WriteStop {
     Memory,
 }
 
-/// Reads to the end of the source, or to byte [`MOST`].
+/// Reads to the end of the source, or until there are so many bytes.
 ///
 /// # Errors
 ///
@@ -40,10 +36,10 @@ pub enum WriteStop {
 /// - [`ReadError::Memory`] where no memory was left. The count is then as it was.
 ///
 /// How much of the source was read is then open.
-pub fn read_all<S: Source>(alloc: Global, source: &mut S) -> Result<Vec<u8>, ReadError>
-    ensures short { IfOk result (λ v. vec_len v ≤ MOST) }
-    ensures read { IfOk result (λ v. ForSome (S.left source.old) (λ b. v.items ≡ take MOST b)) }
-    ensures left { OnOk result (ForSome (S.left source.old) (λ b. S.left source.new ≡ Some (drop MOST b))) }
+pub fn read_all<S: Source>(alloc: Global, source: &mut S, most: usize) -> Result<Vec<u8>, ReadError>
+    ensures short { IfOk result (λ v. vec_len v ≤ most) }
+    ensures read { IfOk result (λ v. ForSome (S.left source.old) (λ b. v.items ≡ take most b)) }
+    ensures left { OnOk result (ForSome (S.left source.old) (λ b. S.left source.new ≡ Some (drop most b))) }
     ensures untold { S.left source.old ≡ None → S.left source.new ≡ None }
     ensures cause { IfErr result (λ e. e ≡ ReadError.Fault → Rose (S.faults source.old) (S.faults source.new)) }
     ensures smooth { OnOk result (S.faults source.new ≡ S.faults source.old) }
@@ -51,10 +47,10 @@ pub fn read_all<S: Source>(alloc: Global, source: &mut S) -> Result<Vec<u8>, Rea
     ensures grows { S.faults source.old ≤ S.faults source.new }
 {
     // Room for all at once: what is never written costs nothing, and what grows is copied.
-    let mut bytes = Vec::with_capacity(alloc, MOST).map_err(|_| ReadError::Memory)?;
+    let mut bytes = Vec::with_capacity(alloc, most).map_err(|_| ReadError::Memory)?;
     let mut piece = [0u8; PIECE];
-    while bytes.len() < MOST {
-        let room = (MOST - bytes.len()).min(PIECE);
+    while bytes.len() < most {
+        let room = (most - bytes.len()).min(PIECE);
         match source.read(&mut piece[..room]) {
             Ok(0) => return Ok(bytes),
             Ok(n) => {

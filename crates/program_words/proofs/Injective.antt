@@ -1,5 +1,5 @@
 -- The same words ask for one command.
-use Rattle.std.proofs.Common.{◌≡◌, ℕ, ◌^◌, ◌<◌, ◌≤◌, true, get_or, ◌&&◌, List, [], ◌∷◌, refl, ap, sym, ◌∙◌, arith, decimal}
+use Rattle.std.proofs.Common.{◌≡◌, ℕ, ◌+◌, ◌*◌, ◌^◌, ◌<◌, ◌≤◌, true, get_or, ◌&&◌, List, [], ◌∷◌, refl, ap, sym, ◌∙◌, arith, decimal}
 use Rattle.std.specs.Str.Parse.{digits_value}
 use Rattle.std.proofs.lemmas.Bool.Decides.{nat_tests}
 use Rattle.std.proofs.lemmas.Fmt.{decimal_is_IsNumeral}
@@ -7,7 +7,7 @@ use Rattle.program_words.specs.Commands.{Asks, form_words, is_command, is_count,
 use Rattle.program_words.specs.declared.command.Form.{Form}
 use Rattle.program_words.specs.declared.command.Form.TheVariants.{Plain, Wire, Json, Summary, Why, Html}
 use Rattle.program_words.specs.declared.command.Command.{Command}
-use Rattle.program_words.specs.declared.command.Command.TheVariants.{Replay, Make, Demo, Threads, Log}
+use Rattle.program_words.specs.declared.command.Command.TheVariants.{Replay, Make, Demo, Threads, Log, Check}
 
 few : (n : ℕ) → is_count n ≡ true → n < 2 ^ 64
 few n h = let k : n ≤ 256 = grind (arith, nat_tests) in omega arith
@@ -85,36 +85,68 @@ tail_same v w x y e = cc
 behind : (w : List ℕ) (x y : List (List ℕ)) → w ∷ x ≡ w ∷ y → x ≡ y
 behind w x y e = cc
 
-same : (c d : Command) → is_command c ≡ true → is_command d ≡ true → words_of c ≡ words_of d → c ≡ d
-same (Replay f) (Replay g) h k e = ap Replay (forms f g (behind _ _ _ e))
-same (Replay f) (Make m) h k e = let k : ◌≡◌ {A = ℕ} 114 109 = ap (letter 0) e in absurd (omega arith)
-same (Replay f) (Demo m) h k e = let k : ◌≡◌ {A = ℕ} 114 100 = ap (letter 0) e in absurd (omega arith)
-same (Make n) (Replay g) h k e = let k : ◌≡◌ {A = ℕ} 109 114 = ap (letter 0) e in absurd (omega arith)
-same (Make n) (Make m) h k e = ap Make (number n m h k (first _ _ (behind _ _ _ e)))
-same (Make n) (Demo m) h k e = let k : ◌≡◌ {A = ℕ} 109 100 = ap (letter 0) e in absurd (omega arith)
-same (Demo n) (Replay g) h k e = let k : ◌≡◌ {A = ℕ} 100 114 = ap (letter 0) e in absurd (omega arith)
-same (Demo n) (Make m) h k e = let k : ◌≡◌ {A = ℕ} 100 109 = ap (letter 0) e in absurd (omega arith)
-same (Demo n) (Demo m) h k e = ap Demo (number n m h k (first _ _ (behind _ _ _ e)))
-same (Replay f) (Threads j g) h k e = let k : ◌≡◌ {A = ℕ} 114 116 = ap (letter 0) e in absurd (omega arith)
-same (Make n) (Threads j g) h k e = let k : ◌≡◌ {A = ℕ} 109 116 = ap (letter 0) e in absurd (omega arith)
-same (Demo n) (Threads j g) h k e = let k : ◌≡◌ {A = ℕ} 100 116 = ap (letter 0) e in absurd (omega arith)
-same (Threads i f) (Replay g) h k e = let k : ◌≡◌ {A = ℕ} 116 114 = ap (letter 0) e in absurd (omega arith)
-same (Threads i f) (Make m) h k e = let k : ◌≡◌ {A = ℕ} 116 109 = ap (letter 0) e in absurd (omega arith)
-same (Threads i f) (Demo m) h k e = let k : ◌≡◌ {A = ℕ} 116 100 = ap (letter 0) e in absurd (omega arith)
-same (Replay f) Log h k e = let k : ◌≡◌ {A = ℕ} 114 108 = ap (letter 0) e in absurd (omega arith)
-same (Make n) Log h k e = let k : ◌≡◌ {A = ℕ} 109 108 = ap (letter 0) e in absurd (omega arith)
-same (Demo n) Log h k e = let k : ◌≡◌ {A = ℕ} 100 108 = ap (letter 0) e in absurd (omega arith)
-same (Threads i f) Log h k e = let k : ◌≡◌ {A = ℕ} 116 108 = ap (letter 0) e in absurd (omega arith)
-same Log (Replay g) h k e = let k : ◌≡◌ {A = ℕ} 108 114 = ap (letter 0) e in absurd (omega arith)
-same Log (Make m) h k e = let k : ◌≡◌ {A = ℕ} 108 109 = ap (letter 0) e in absurd (omega arith)
-same Log (Demo m) h k e = let k : ◌≡◌ {A = ℕ} 108 100 = ap (letter 0) e in absurd (omega arith)
-same Log (Threads j g) h k e = let k : ◌≡◌ {A = ℕ} 108 116 = ap (letter 0) e in absurd (omega arith)
-same Log Log h k e = refl
-same (Threads i f) (Threads j g) h k e =
+-- two letters of the first word tell which command it begins
+abbrev kind : Command → ℕ
+kind c = letter 0 (words_of c) * 256 + letter 2 (words_of c)
+
+abbrev kinds : List (List ℕ) → ℕ
+kinds ws = letter 0 ws * 256 + letter 2 ws
+
+is_replay : (d : Command) → kind d ≡ kind (Replay Plain) → (f : Form) × (d ≡ Replay f)
+is_replay (Replay f) e = (f, refl)
+is_replay d e = absurd (omega arith)
+
+is_make : (d : Command) → kind d ≡ kind (Make 0) → (n : ℕ) × (d ≡ Make n)
+is_make (Make n) e = (n, refl)
+is_make d e = absurd (omega arith)
+
+is_demo : (d : Command) → kind d ≡ kind (Demo 0) → (n : ℕ) × (d ≡ Demo n)
+is_demo (Demo n) e = (n, refl)
+is_demo d e = absurd (omega arith)
+
+is_threads : (d : Command) → kind d ≡ kind (Threads 0 Plain) → (h : ℕ) × (f : Form) × (d ≡ Threads h f)
+is_threads (Threads h f) e = (h, f, refl)
+is_threads d e = absurd (omega arith)
+
+is_log : (d : Command) → kind d ≡ kind Log → d ≡ Log
+is_log Log e = refl
+is_log d e = absurd (omega arith)
+
+is_check : (d : Command) → kind d ≡ kind Check → d ≡ Check
+is_check Check e = refl
+is_check d e = absurd (omega arith)
+
+replays : (f g : Form) → words_of (Replay f) ≡ words_of (Replay g) → Replay f ≡ Replay g
+replays f g e = ap Replay (forms f g (behind _ _ _ e))
+
+makes : (n m : ℕ) → is_count n ≡ true → is_count m ≡ true → words_of (Make n) ≡ words_of (Make m) → Make n ≡ Make m
+makes n m h k e = ap Make (number n m h k (first _ _ (behind _ _ _ e)))
+
+demos : (n m : ℕ) → is_count n ≡ true → is_count m ≡ true → words_of (Demo n) ≡ words_of (Demo m) → Demo n ≡ Demo m
+demos n m h k e = ap Demo (number n m h k (first _ _ (behind _ _ _ e)))
+
+threads : (i j : ℕ) (f g : Form) → is_command (Threads i f) ≡ true → is_command (Threads j g) ≡ true → words_of (Threads i f) ≡ words_of (Threads j g) → Threads i f ≡ Threads j g
+threads i j f g h k e =
     let rest = behind _ _ _ e in
     let helpers = helped i j (within f i h) (within g j k) (head_same _ _ _ _ rest) in
     let form = forms f g (tail_same _ _ _ _ rest) in
     cc
+
+same : (c d : Command) → is_command c ≡ true → is_command d ≡ true → words_of c ≡ words_of d → c ≡ d
+same (Replay f) d h k e =
+    let r = is_replay d (sym (ap kinds e)) in
+    replays f r.0 (e ∙ ap words_of r.1) ∙ sym r.1
+same (Make n) d h k e =
+    let r = is_make d (sym (ap kinds e)) in
+    makes n r.0 h (sym (ap is_command r.1) ∙ k) (e ∙ ap words_of r.1) ∙ sym r.1
+same (Demo n) d h k e =
+    let r = is_demo d (sym (ap kinds e)) in
+    demos n r.0 h (sym (ap is_command r.1) ∙ k) (e ∙ ap words_of r.1) ∙ sym r.1
+same (Threads i f) d h k e =
+    let r = is_threads d (sym (ap kinds e)) in
+    threads i r.0 f r.1 h (sym (ap is_command r.2) ∙ k) (e ∙ ap words_of r.2) ∙ sym r.2
+same Log d h k e = sym (is_log d (sym (ap kinds e)))
+same Check d h k e = sym (is_check d (sym (ap kinds e)))
 
 pub one_command : (ws : List (List ℕ)) (c d : Command) → Asks ws c → Asks ws d → c ≡ d
 one_command ws c d a b = same c d a.within b.within (sym a.words ∙ b.words)

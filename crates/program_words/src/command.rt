@@ -30,4 +30,6 @@ pub enum Command {
     Threads(u8, Form),
     /// List the log that is on the disk, and change nothing of it.
     Log,
+    /// Check the trace that is read, and write whether it is fine, or its first bad entry.
+    Check,
 }

@@ -18,6 +18,8 @@ const THREADS: &[u8] = b"threads";
 
 const LOG: &[u8] = b"log";
 
+const CHECK: &[u8] = b"check";
+
 const WIRE: &[u8] = b"--wire";
 
 const JSON: &[u8] = b"--json";
@@ -91,10 +93,11 @@ fn single_of(word: &[u8]) -> Option<Command>
     if word == REPLAY {
         return Some(Command::Replay(Form::Plain));
     }
-    if word == LOG {
-        return Some(Command::Log);
+    match word {
+        LOG => Some(Command::Log),
+        CHECK => Some(Command::Check),
+        _ => None,
     }
-    None
 }
 
 /// The command of two words.

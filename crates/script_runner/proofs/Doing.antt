@@ -16,7 +16,7 @@ use Rattle.program_io.specs.Judged.{IsJudged}
 use Rattle.program_io.specs.Refusal.{IsRunnable, Refuses}
 use Rattle.program_io.specs.Transfer.{IsPartWritten}
 use Rattle.program_io.specs.declared.exit.Exit.{Exit}
-use Rattle.program_io.specs.declared.exit.Exit.TheVariants.{BadScript, Fine, LogFault, Memory, NotALog, NotThreadable, ReadFault, Usage, WriteFault}
+use Rattle.program_io.specs.declared.exit.Exit.TheVariants.{BadScript, BadTrace, Fine, LogFault, Memory, NotALog, NotThreadable, ReadFault, Usage, WriteFault}
 use Rattle.program_io.specs.declared.way.Way.{Way}
 use Rattle.program_io.specs.declared.way.Way.TheVariants.{Replay, Threads}
 use Rattle.program_words.specs.declared.command.Form.{Form}
@@ -24,7 +24,7 @@ use Rattle.replay_runs.specs.Ending.{AreOwnLogs, IsLog}
 use Rattle.replay_runs.specs.LogRun.{MetNoFault}
 use Rattle.script_runner.specs.Program.{HasRun, IsRunBy}
 use Rattle.program_words.specs.declared.command.Command.{Command}
-use Rattle.program_words.specs.declared.command.Command.TheVariants.{Replay as AskReplay, Threads as AskThreads, Make as AskMake, Demo as AskDemo, Log as AskLog}
+use Rattle.program_words.specs.declared.command.Command.TheVariants.{Replay as AskReplay, Threads as AskThreads, Make as AskMake, Demo as AskDemo, Log as AskLog, Check as AskCheck}
 use Rattle.script_runner.specs.Promises.{Devices, Does, RunsScript, TellsFaults, Telling, devices}
 use Rattle.script_runner.proofs.Programs.{NeverBoth}
 use Rattle.script_runner.proofs.Refusals.{IsOfText, OneCause, OneScript, bad_answer, bad_never, do_answer, do_never, good_answer, made_bad, made_do, made_done, made_other, not_judged}
@@ -64,6 +64,7 @@ module _ {S K D : Type 0} (tell : Telling S K D) (w : Way) (f : Form) (k : ℕ) 
         done = λ good calm. good_answer either one w (tell.left old) x refuses good (λ e. calm.source (rose e));
         asked = λ e. along Usage e;
         unlisted = λ p e. along (NotALog p) e;
+        unchecked = λ n e. along (BadTrace n) e;
       }
     where
       along : (y : Exit) → x ≡ y → Refuses w (tell.left old) y
@@ -105,6 +106,7 @@ module _ {S K D : Type 0} (tell : Telling S K D) (w : Way) (f : Form) (k : ℕ) 
           done = λ good calm. elim only [ inl e ↦ absurd (calm.disk (rose e)) | inr e ↦ inr e ];
           asked = λ e. neither Usage e (λ l. cc) (λ m. cc);
           unlisted = λ p e. neither (NotALog p) e (λ l. cc) (λ m. cc);
+          unchecked = λ n e. neither (BadTrace n) e (λ l. cc) (λ m. cc);
         }
       where
         neither : (y : Exit) → x ≡ y → (LogFault ≡ y → ⊥) → (Memory ≡ y → ⊥) → ⊥
@@ -175,6 +177,7 @@ module _ {S K D : Type 0} (tell : Telling S K D) (w : Way) (f : Form) (k : ℕ) 
             done = λ good calm. made_done x answers (λ e. calm.sink (rose e));
             asked = λ e. other Usage e (λ k. cc) (λ k. cc) (λ k. cc);
             unlisted = λ p e. other (NotALog p) e (λ k. cc) (λ k. cc) (λ k. cc);
+            unchecked = λ n e. other (BadTrace n) e (λ k. cc) (λ k. cc) (λ k. cc);
           }
         where
           written : List Line → List Placed → Type 0
@@ -196,6 +199,7 @@ faults_of tell (AskThreads h f) k old x new does = does.faults
 faults_of tell (AskMake n) k old x new does = does.faults
 faults_of tell (AskDemo n) k old x new does = does.faults
 faults_of tell AskLog k old x new does = does.faults
+faults_of tell AskCheck k old x new does = does.faults
 
 -- where nothing is done, there is none
 pub no_faults : {S K D : Type 0} (tell : Telling S K D) (old : Devices S K D) → TellsFaults tell old Usage old

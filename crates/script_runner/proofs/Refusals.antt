@@ -9,7 +9,7 @@ use Rattle.script_calls.specs.Threadable.{IsThreadable}
 use Rattle.program_io.specs.Judged.{HasDoAt, IsJudged, first_do}
 use Rattle.program_io.specs.Refusal.{IsGoodFor, IsOnThreads, IsRunnable, Refuses}
 use Rattle.program_io.specs.declared.exit.Exit.{Exit}
-use Rattle.program_io.specs.declared.exit.Exit.TheVariants.{BadScript, Fine, LogFault, Memory, NotALog, NotThreadable, ReadFault, Usage, WriteFault}
+use Rattle.program_io.specs.declared.exit.Exit.TheVariants.{BadScript, BadTrace, Fine, LogFault, Memory, NotALog, NotThreadable, ReadFault, Usage, WriteFault}
 use Rattle.program_io.specs.declared.way.Way.{Way}
 use Rattle.program_io.specs.declared.way.Way.TheVariants.{Replay, Threads}
 use Rattle.script_runner.proofs.Programs.{NeverBoth}
@@ -53,6 +53,7 @@ bad_answer either cause w given Fine h n c b told bad = absurd h
 bad_answer either cause w given Usage h n c b told bad = absurd h
 bad_answer either cause w given LogFault h n c b told bad = absurd h
 bad_answer either cause w given (NotALog p) h n c b told bad = absurd h
+bad_answer either cause w given (BadTrace m) h n c b told bad = absurd h
 bad_answer either cause w given WriteFault h n c b told bad = absurd h
 
 pub do_answer : NeverBoth → OneScript → (w : Way) (given : Option (List ℕ)) (x : Exit) → Refuses w given x → (n : ℕ) → ForSome given (λ b. HasDoAt b n → (x ≡ NotThreadable n) ⊎ ((x ≡ ReadFault) ⊎ (x ≡ Memory)))
@@ -64,6 +65,7 @@ do_answer either one w given Fine h n b told at = absurd h
 do_answer either one w given Usage h n b told at = absurd h
 do_answer either one w given LogFault h n b told at = absurd h
 do_answer either one w given (NotALog p) h n b told at = absurd h
+do_answer either one w given (BadTrace m) h n b told at = absurd h
 do_answer either one w given WriteFault h n b told at = absurd h
 
 -- of an input that is good only a fault of the source, or want of memory
@@ -76,6 +78,7 @@ good_answer either one w given Fine h good calm = absurd h
 good_answer either one w given Usage h good calm = absurd h
 good_answer either one w given LogFault h good calm = absurd h
 good_answer either one w given (NotALog p) h good calm = absurd h
+good_answer either one w given (BadTrace m) h good calm = absurd h
 good_answer either one w given WriteFault h good calm = absurd h
 
 -- where a script came, none of both
@@ -86,17 +89,18 @@ pub do_never : OneScript → (w : Way) (given : Option (List ℕ)) (s : List Lin
 do_never one w given s read k n on b told at = never_do one w s b n on k (read b told) at
 
 -- The answers of a run whose script is good: none of the words, of the bytes, or of the source.
-pub sure_answer : (x : Exit) → (x ≡ Usage → ⊥) → ((p : ℕ) → x ≡ NotALog p → ⊥) → ((n : ℕ) (c : BadCause) → x ≡ BadScript n c → ⊥) → ((n : ℕ) → x ≡ NotThreadable n → ⊥) → (x ≡ ReadFault → ⊥)
+pub sure_answer : (x : Exit) → (x ≡ Usage → ⊥) → ((p : ℕ) → x ≡ NotALog p → ⊥) → ((n : ℕ) → x ≡ BadTrace n → ⊥) → ((n : ℕ) (c : BadCause) → x ≡ BadScript n c → ⊥) → ((n : ℕ) → x ≡ NotThreadable n → ⊥) → (x ≡ ReadFault → ⊥)
     → (x ≡ Fine) ⊎ ((x ≡ LogFault) ⊎ ((x ≡ WriteFault) ⊎ (x ≡ Memory)))
-sure_answer Fine usage unlisted bad undone read = inl refl
-sure_answer Usage usage unlisted bad undone read = absurd (usage refl)
-sure_answer (BadScript n c) usage unlisted bad undone read = absurd (bad n c refl)
-sure_answer (NotThreadable n) usage unlisted bad undone read = absurd (undone n refl)
-sure_answer ReadFault usage unlisted bad undone read = absurd (read refl)
-sure_answer LogFault usage unlisted bad undone read = inr (inl refl)
-sure_answer (NotALog p) usage unlisted bad undone read = absurd (unlisted p refl)
-sure_answer WriteFault usage unlisted bad undone read = inr (inr (inl refl))
-sure_answer Memory usage unlisted bad undone read = inr (inr (inr refl))
+sure_answer Fine usage unlisted unchecked bad undone read = inl refl
+sure_answer Usage usage unlisted unchecked bad undone read = absurd (usage refl)
+sure_answer (BadScript n c) usage unlisted unchecked bad undone read = absurd (bad n c refl)
+sure_answer (NotThreadable n) usage unlisted unchecked bad undone read = absurd (undone n refl)
+sure_answer ReadFault usage unlisted unchecked bad undone read = absurd (read refl)
+sure_answer LogFault usage unlisted unchecked bad undone read = inr (inl refl)
+sure_answer (NotALog p) usage unlisted unchecked bad undone read = absurd (unlisted p refl)
+sure_answer (BadTrace n) usage unlisted unchecked bad undone read = absurd (unchecked n refl)
+sure_answer WriteFault usage unlisted unchecked bad undone read = inr (inr (inl refl))
+sure_answer Memory usage unlisted unchecked bad undone read = inr (inr (inr refl))
 
 -- a replay isn't on threads
 pub not_on_threads : IsOnThreads Replay → ⊥
@@ -165,3 +169,11 @@ sure_unread x (inl a) e = cc
 sure_unread x (inr (inl a)) e = cc
 sure_unread x (inr (inr (inl a))) e = cc
 sure_unread x (inr (inr (inr a))) e = cc
+
+-- a check isn't asked in vain
+pub check_asked : (x : Exit) → (x ≡ Fine) ⊎ ((x ≡ ReadFault) ⊎ ((x ≡ WriteFault) ⊎ ((x ≡ Memory) ⊎ ((n : ℕ) × (x ≡ BadTrace n))))) → x ≡ Usage → ⊥
+check_asked x (inl a) e = cc
+check_asked x (inr (inl a)) e = cc
+check_asked x (inr (inr (inl a))) e = cc
+check_asked x (inr (inr (inr (inl a)))) e = cc
+check_asked x (inr (inr (inr (inr (n, a))))) e = cc

@@ -11,18 +11,23 @@ use Rattle.dtx_model.specs.Traces.{Placed}
 use Rattle.program_io.specs.Judged.{HasDoAt, IsJudged}
 use Rattle.program_io.specs.Listed.{HoldsSame, IsListed, IsListedInPart}
 use Rattle.program_io.specs.Refusal.{IsGoodFor, IsOnThreads}
+use Rattle.program_io.specs.TraceRead.{IsBadTraceLine, IsTraceWithin}
 use Rattle.program_io.specs.Transfer.{IsPartWritten}
+use Rattle.program_io.specs.Verdict.{verdict_text}
+use Rattle.program_io.specs.declared.checking.TheConstants.{TRACE_BYTES}
 use Rattle.program_io.specs.declared.exit.Exit.{Exit}
-use Rattle.program_io.specs.declared.exit.Exit.TheVariants.{BadScript, Fine, LogFault, Memory, NotALog, NotThreadable, ReadFault, Usage, WriteFault}
+use Rattle.program_io.specs.declared.exit.Exit.TheVariants.{BadScript, BadTrace, Fine, LogFault, Memory, NotALog, NotThreadable, ReadFault, Usage, WriteFault}
 use Rattle.program_io.specs.declared.way.Way.{Way}
 use Rattle.program_io.specs.declared.way.Way.TheVariants.{Replay as ReplayWay, Threads as ThreadsWay}
 use Rattle.program_words.specs.declared.command.Command.{Command}
-use Rattle.program_words.specs.declared.command.Command.TheVariants.{Demo, Log, Make, Replay, Threads}
+use Rattle.program_words.specs.declared.command.Command.TheVariants.{Check, Demo, Log, Make, Replay, Threads}
 use Rattle.program_words.specs.declared.command.Form.{Form}
 use Rattle.program_words.specs.declared.command.Form.TheVariants.{Summary}
 use Rattle.replay_runs.specs.Ending.{AreOwnLogs, IsLog}
 use Rattle.replay_runs.specs.LogRun.{MetNoFault}
 use Rattle.script_maker.specs.Gen.{gen}
+use Rattle.trace_checker.specs.Keeps.{IsChecked}
+use Rattle.trace_checker.specs.declared.checked.Checked.{Checked}
 use Rattle.script_runner.specs.Program.{HasNoLogLine, IsCutShort, IsRunBy, IsWritten}
 
 -- a source, a sink and a disk
@@ -118,6 +123,7 @@ pub record RunsScript {S K D : Type 0} (tell : Telling S K D) (w : Way) (f : For
   pub done : IsGoodFor w (tell.left old.source) → MetNoFaults tell old new → (exit ≡ Fine) ⊎ (exit ≡ Memory)
   pub asked : exit ≢ Usage
   pub unlisted : (p : ℕ) → exit ≢ NotALog p
+  pub unchecked : (n : ℕ) → exit ≢ BadTrace n
 
 -- `make N`: the made script goes to the sink, or a part of it, or nothing. Nothing is read, and the disk isn't touched.
 pub record MakesScript {S K D : Type 0} (tell : Telling S K D) (n : ℕ) (old : Devices S K D) (exit : Exit) (new : Devices S K D) : Type 0 where
@@ -153,6 +159,34 @@ pub record ListsLog {S K D : Type 0} (tell : Telling S K D) (old : Devices S K D
   pub size : tell.size new.disk ≡ tell.size old.disk
   pub faults : TellsFaults tell old exit new
 
+-- the input, where it is told, is the text of a trace, a verdict on that trace is true, and this holds of the verdict's line
+pub record HasVerdict (given : Option (List ℕ)) (holds : List ℕ → Type 0) : Type 0 where
+  pub trace : List Placed
+  pub verdict : Checked
+  pub read : ForSome given (λ b. IsTraceWithin TRACE_BYTES b trace)
+  pub checked : IsChecked trace verdict
+  pub gained : holds (verdict_text verdict)
+
+-- the input is the text of a trace that isn't too long
+abbrev pub IsGoodTrace : Option (List ℕ) → Type 0
+IsGoodTrace given = (b : List ℕ) × (T : List Placed) × (given ≡ Some b) × IsTraceWithin TRACE_BYTES b T
+
+-- `check`: the trace is read from the source, and whether it is fine, or its first bad entry and what that loses, goes to the sink. BadTrace(n) comes exactly where line n is the first that isn't a line of a trace there, or that goes beyond the longest
+-- trace, after the input was read to its end, or one byte past the longest trace. The disk isn't touched. Where the input is the text of a trace and nothing met a fault, it is done, unless memory runs out.
+pub record ChecksTrace {S K D : Type 0} (tell : Telling S K D) (old : Devices S K D) (exit : Exit) (new : Devices S K D) : Type 0 where
+  pub whole : exit ≡ Fine → HasVerdict (tell.left old.source) (λ text. ForSome (tell.written old.sink) (λ w. tell.written new.sink ≡ Some (w ++ text)))
+  pub cut_short : exit ≡ WriteFault → HasVerdict (tell.left old.source) (λ text. ForSome (tell.written old.sink) (λ w. IsPartWritten w text (tell.written new.sink)))
+  pub memory : exit ≡ Memory → (new.sink ≡ old.sink) ⊎ HasVerdict (tell.left old.source) (λ text. ForSome (tell.written old.sink) (λ w. IsPartWritten w text (tell.written new.sink)))
+  pub unwritten : (exit ≡ ReadFault) ⊎ ((n : ℕ) × (exit ≡ BadTrace n)) → new.sink ≡ old.sink
+  pub answers : (exit ≡ Fine) ⊎ ((exit ≡ ReadFault) ⊎ ((exit ≡ WriteFault) ⊎ ((exit ≡ Memory) ⊎ ((n : ℕ) × (exit ≡ BadTrace n)))))
+  pub read : exit ≡ Fine → ForSome (tell.left old.source) (λ b. tell.left new.source ≡ Some [])
+  pub judged : (n : ℕ) → exit ≡ BadTrace n → ForSome (tell.left old.source) (λ b. tell.left new.source ≡ Some (drop (TRACE_BYTES + 1) b))
+  pub bad : (n : ℕ) → exit ≡ BadTrace n → ForSome (tell.left old.source) (λ b. IsBadTraceLine TRACE_BYTES b n)
+  pub bad_refused : (n : ℕ) → ForSome (tell.left old.source) (λ b. IsBadTraceLine TRACE_BYTES b n → ComesUnlessUnread (BadTrace n) exit)
+  pub untouched : new.disk ≡ old.disk
+  pub faults : TellsFaults tell old exit new
+  pub done : IsGoodTrace (tell.left old.source) → MetNoFaults tell old new → (exit ≡ Fine) ⊎ (exit ≡ Memory)
+
 -- what the call does at a command, where the first k managers have an object
 abbrev pub Does : {S K D : Type 0} → Telling S K D → Command → ℕ → Devices S K D → Exit → Devices S K D → Type 0
 Does tell (Replay f) k = RunsScript tell ReplayWay f k
@@ -160,3 +194,4 @@ Does tell (Threads h f) k = RunsScript tell (ThreadsWay h) f k
 Does tell (Make n) k = MakesScript tell n
 Does tell (Demo n) k = ShowsDemo tell n k
 Does tell Log k = ListsLog tell
+Does tell Check k = ChecksTrace tell

@@ -2,12 +2,15 @@
 #![tactic(auto)]
 
 mod arrows;
+mod checks;
+mod found_fine;
 mod program;
 mod running;
 mod threads;
 
 pub use arrows::each_run_has_its_arrows;
 pub use coordinator_log::LOG_BYTES;
+pub use found_fine::each_run_is_found_fine;
 pub use program::run_program;
 pub use program_io::Exit;
 pub use replay_runs::run_replay;

@@ -16,6 +16,7 @@ ghost use Rattle.script_runner.specs.Program.{IsRunBy};
 ghost use Rattle.script_runner.specs.Promises.{Does, RunsScript, TellsFaults, WritesRun, devices, telling};
 
 use crate::arrows::each_run_has_its_arrows;
+use crate::checks::check_in;
 use crate::running::traced_anew;
 use dtx_values::Resource;
 use outside::{Disk, Gate, Sink, Source, SureSource};
@@ -135,6 +136,7 @@ fn run_command<S: Source, K: Sink, D: Disk + Send, G: Gate + Sync, R: Threads + 
         Command::Make(n) => (make_in(setting.alloc, n, sink), disk),
         Command::Demo(n) => demo_in(n, sink, disk, setting),
         Command::Log => list_in(setting.alloc, sink, disk),
+        Command::Check => check_in(setting.alloc, source, sink, disk),
     }
 }
 
@@ -147,13 +149,14 @@ fn run_command<S: Source, K: Sink, D: Disk + Send, G: Gate + Sync, R: Threads + 
 /// | `make N` | writes the made script of N transactions, N from 1 to 256 |
 /// | `demo N` | formats the log, replays that script, and writes the summary |
 /// | `log` | reads the log that is on the disk, changes nothing of it, and writes a line for each slot whose gate is open, and one that says how many there are |
+/// | `check` | reads a trace in the plain form from the source, and writes whether it is fine, or its first bad entry and what that loses |
 ///
 /// The object at place k of `resources`, from 0, is that of manager r(k + 1): it hears the notes of its manager's enlistments to which a reply is due, and its answers are the replies. Where the list has no object for a
 /// manager, and for volatiles, the script's plans reply. On threads the gate is called before each reply.
 ///
 /// It hands the disk back, which has at least [`LOG_BYTES`](crate::LOG_BYTES) bytes: [`Disk::len`] tells whether it has.
 ///
-/// The source is read to its end, or one byte past the longest script, before anything is judged. The disk is touched only where a script is run or the log is listed, and the sink only where
+/// The source is read to its end, or one byte past the longest script or the longest trace, before anything is judged. The disk is touched only where a script is run or the log is listed, and the sink only where
 /// the log was formatted or read, or a script is made. A fault is answered as the fault that it is, but for one of the disk after the log
 /// was formatted: that stops the log, which the trace says.
 pub fn run_program<S: Source, K: Sink, D: Disk + Send, G: Gate + Sync, R: Threads + Wait + Sync>(

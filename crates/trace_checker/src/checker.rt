@@ -6,6 +6,7 @@ ghost use Rattle.trace_checker.specs.Keeps.{IsChecked};
 use crate::book::Book;
 use crate::checked::{Checked, Why};
 use dtx_values::{Entry, Place, TxNo};
+use entry_lists::Trace;
 use std::alloc::{AllocError, Global};
 
 /// What is known of each transaction by the entries so far.
@@ -54,12 +55,12 @@ impl Checker {
 
 /// Checks a trace, oldest entry first: whether each transaction's history keeps what is promised of it, and else the first entry at
 /// which one doesn't.
-pub fn check_trace(alloc: Global, trace: &[(Place, Entry)]) -> Result<Checked, AllocError>
+pub fn check_trace(alloc: Global, trace: &Trace) -> Result<Checked, AllocError>
     ensures { IfOk result (IsChecked trace.now) }
 {
     let mut checker = Checker::new(alloc)?;
-    for (i, placed) in trace.iter().enumerate() {
-        let (at, x) = *placed;
+    for i in 0..trace.len() {
+        let (at, x) = trace.at(i);
         let loss = checker.follow(at, &x)?;
         match loss {
             Some(why) => return Ok(Checked::Bad(i as u64 + 1, why)),
@@ -73,7 +74,16 @@ pub fn check_trace(alloc: Global, trace: &[(Place, Entry)]) -> Result<Checked, A
 mod tests {
     use super::*;
     use dtx_values::{Conn, Dir, EnlNo, Message, Outcome, Party};
+    use entry_lists::PlacedEntries;
     use std::test::Fail;
+
+    fn trace_of(alloc: Global, entries: &[(Place, Entry)]) -> Result<Trace, AllocError> {
+        let mut placed = PlacedEntries::new(alloc);
+        for x in entries {
+            placed.push(*x)?;
+        }
+        Ok(Trace::new(placed))
+    }
 
     #[test]
     fn the_first_bad_entry_is_found(rt: HostRuntime) -> Result<(), Fail> {
@@ -93,8 +103,8 @@ mod tests {
             (&torn[..2], Checked::Fine),
             (&torn[..0], Checked::Fine),
         ];
-        for (trace, want) in cases {
-            let found = check_trace(rt.alloc(), trace)?;
+        for (entries, want) in cases {
+            let found = check_trace(rt.alloc(), &trace_of(rt.alloc(), entries)?)?;
             assert!(rt; found == want, "found {found:?}");
         }
         Ok(())

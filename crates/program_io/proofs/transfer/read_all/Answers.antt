@@ -9,23 +9,23 @@ use Rattle.program_io.proofs.transfer.read_all.Goals as goal
 pub returns-in-Ok-eq0-clause-read : goal.returns-in-Ok-eq0-clause-read
 returns-in-Ok-eq0-clause-read g c = λ b told.
     let end = c.in-Ok-eq0.ensures.finished _ (c.loop-piece.invariant.left b told) (c.in-Ok-eq0.field-0-test) in
-    all_was_read b c.loop-piece.bytes.items 1048577 (c.loop-piece.invariant.read b told) end (omega arith)
+    all_was_read b c.loop-piece.bytes.items c.args.most (c.loop-piece.invariant.read b told) end (omega arith)
 
 pub returns-in-Ok-eq0-clause-left : goal.returns-in-Ok-eq0-clause-left
 returns-in-Ok-eq0-clause-left g c = λ b told.
     let now = c.loop-piece.invariant.left b told in
     let end = c.in-Ok-eq0.ensures.finished _ now (c.in-Ok-eq0.field-0-test) in
-    let same = left_at_end b (length c.loop-piece.bytes.items) c.in-Ok-eq0.field-0 1048577 end (omega arith) in
+    let same = left_at_end b (length c.loop-piece.bytes.items) c.in-Ok-eq0.field-0 c.args.most end (omega arith) in
     c.in-Ok-eq0.ensures.taken _ now ∙ ap Some same
 
 pub returns-clause-read : goal.returns-clause-read
 returns-clause-read g c = λ b told.
-    let full : length c.loop-piece.bytes.items ≡ 1048577 = grind (arith, common_steps) in
+    let full : length c.loop-piece.bytes.items ≡ c.args.most = grind (arith, common_steps) in
     c.loop-piece.invariant.read b told ∙ ap (λ (n : ℕ). take n b) full
 
 pub returns-clause-left : goal.returns-clause-left
 returns-clause-left g c = λ b told.
-    let full : length c.loop-piece.bytes.items ≡ 1048577 = grind (arith, common_steps) in
+    let full : length c.loop-piece.bytes.items ≡ c.args.most = grind (arith, common_steps) in
     c.loop-piece.invariant.left b told ∙ ap (λ (n : ℕ). Some (drop n b)) full
 
 pub loop-piece-preserved : goal.loop-piece-preserved

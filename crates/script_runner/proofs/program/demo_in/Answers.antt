@@ -8,7 +8,7 @@ use Rattle.script_runner.proofs.program.demo_in.Goals as goal
 pub returns-clause-answers : goal.returns-clause-answers
 returns-clause-answers g c =
     let script = c.make_script.ensures.script in
-    sure_answer c.run_in.result.0 c.run_in.ensures.runs.asked c.run_in.ensures.runs.unlisted
+    sure_answer c.run_in.result.0 c.run_in.ensures.runs.asked c.run_in.ensures.runs.unlisted c.run_in.ensures.runs.unchecked
     (λ n cause e. c.reads_exactly.ensures.either (gen c.args.n) script.0 n cause script.1 (c.run_in.ensures.runs.input.bad n cause e (gen c.args.n) (ap Some (c.new-source.ensures ∙ c.in-Ok.ensures.text))))
     (λ n e. not_on_threads (c.run_in.ensures.runs.input.not_threadable n e).0)
     (λ e. let r = c.run_in.ensures.runs.faults.read_fault e in omega (arith, r))

@@ -3,7 +3,7 @@ use Rattle.std.proofs.Math.Nat.{le_refl}
 use Rattle.program_io.specs.declared.exit.Exit.TheVariants.{LogFault, ReadFault, Usage}
 use Rattle.program_words.specs.declared.command.Command.{Command}
 use Rattle.script_runner.specs.Promises.{Devices, Does, Telling, devices, telling}
-use Rattle.script_runner.proofs.Refusals.{list_asked, list_unread, made_done, made_other, sure_asked, sure_done, sure_unread}
+use Rattle.script_runner.proofs.Refusals.{check_asked, list_asked, list_unread, made_done, made_other, sure_asked, sure_done, sure_unread}
 use Rattle.script_runner.proofs.program.run_command.Goals as goal
 
 pub returns-in-Replay-clause-does : goal.returns-in-Replay-clause-does
@@ -98,3 +98,11 @@ returns-in-Demo-clause-asked g c e = sure_asked c.demo_in.result.0 c.demo_in.ens
 
 pub returns-in-Log-clause-asked : goal.returns-in-Log-clause-asked
 returns-in-Log-clause-asked g c e = list_asked c.list_in.result.0 c.list_in.ensures.answers e
+
+pub returns-in-Check-clause-does : goal.returns-in-Check-clause-does
+returns-in-Check-clause-does g c =
+    subst (λ (d : Command). Does (telling g.S.Source.left g.S.Source.faults g.K.Sink.written g.K.Sink.faults g.D.Disk.honest g.D.Disk.seen g.D.Disk.image g.D.Disk.size g.D.Disk.faults) d (vec_len c.args.setting.resources) (devices c.args.source.now c.args.sink.now c.args.disk) c.check_in.result.0 (devices c.check_in.new.source c.check_in.new.sink c.check_in.result.1))
+    (sym c.in-Check.is) c.check_in.ensures.checks
+
+pub returns-in-Check-clause-asked : goal.returns-in-Check-clause-asked
+returns-in-Check-clause-asked g c e = check_asked c.check_in.result.0 c.check_in.ensures.checks.answers e

@@ -18,7 +18,7 @@ returns-in-Ok-clause-run g c =
     subst (λ d. IsThreadsOf k from (g.D.Disk.faults d) g.D.Disk.honest (g.D.Disk.image d) s c.in-Ok.trace) (sym c.into_disk-disk.ensures.disk)
     (record {
       run = ran.run;
-      lawful = c.lawful.ensures g.D.Disk.honest true s k c.in-Ok.trace c.requires.script.script.named ran.run.history.caused (λ sound. ran.run.history.settled) ran.tied ran.unlike (λ h fresh. ran.unfilled h);
+      lawful = c.lawful.ensures g.D.Disk.honest true s c.in-Ok.trace c.requires.script.script.named (λ t. (ran.run.history.caused t).freely) (λ sound. ran.run.history.settled) ran.tied ran.unlike (λ h fresh. ran.unfilled h);
       log = ran.ended;
     })
 

@@ -1,0 +1,5 @@
+use Rattle.fine_texts.proofs.Fronts.{verdict_once}
+use Rattle.fine_texts.proofs.one_verdict.Goals as goal
+
+pub returns : goal.returns
+returns c = record { one = verdict_once }
