@@ -1,0 +1,13 @@
+pub mod BodyLines
+pub mod FormedLines
+pub mod FrontLines
+pub mod FrontTexts
+pub mod Goods
+pub mod KeyTables
+pub mod NameTables
+pub mod OneInput
+pub mod Refusing
+pub mod SameBodies
+pub mod SameFronts
+pub mod TableTexts
+pub mod UnknownWords
