@@ -1,0 +1,15 @@
+pub mod Makers
+pub mod Told
+pub mod Unacked
+pub mod Plans
+pub mod Keys
+pub mod Rows
+pub mod Hearing
+pub mod Puts
+pub mod Shown
+pub mod Facts
+pub mod Tables
+pub mod Willing
+pub mod Reached
+pub mod Loading
+pub mod Runs
