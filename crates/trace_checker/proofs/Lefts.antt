@@ -1,12 +1,11 @@
 -- Who is left of those that came: each is done exactly where none is left.
-use Rattle.std.proofs.Common.{◌≡◌, ℕ, Bool, true, false, cond, ◌==◌, ◌&&◌, ◌||◌, not, List, [], ◌∷◌, refl, ap, sym, ◌∙◌, arith}
+use Rattle.std.proofs.Common.{◌≡◌, ℕ, Bool, true, false, cond, ◌==◌, ◌&&◌, ◌||◌, not, List, [], ◌∷◌, refl, ap, sym, ◌∙◌}
 use Rattle.std.specs.List.{filter}
-use Rattle.std.proofs.lemmas.Bool.Decides.{nat_tests}
 use Rattle.dtx_model.specs.Words.{each, has}
 use Rattle.dtx_model.proofs.Bools.{and_both, and_never, not_true}
 use Rattle.trace_checker.specs.declared.left.Left.{Left}
 use Rattle.trace_checker.specs.Left.{IsLeft}
-use Rattle.trace_checker.proofs.Keys.{same_number}
+use Rattle.trace_checker.proofs.Keys.{same_is, same_number}
 
 -- the same names by other tests
 pub left_same : {came came' settled settled' : ℕ → Bool} (l : Left) → ((n : ℕ) → came n ≡ came' n) → ((n : ℕ) → settled n ≡ settled' n) → IsLeft came settled l → IsLeft came' settled' l
@@ -31,9 +30,6 @@ module _ {A : Type 0} (key : A → ℕ) (settled : ℕ → Bool) where
   all_settled (x ∷ xs) f =
       and_both (settled (key x)) (each (λ a. settled (key a)) xs) (here (key x == key x) (has (λ a. key x == key a) xs) (settled (key x)) (same_number (key x)) (f (key x)))
       (all_settled xs (λ n. later (n == key x) (has (λ a. n == key a) xs) (settled n) (f n)))
-
-  same_is : (n m : ℕ) → (n == m) ≡ true → n ≡ m
-  same_is n m e = grind (arith, nat_tests)
 
   not_done : (h d : Bool) → ((true || h) && not d) ≡ true → d ≡ false
   not_done h d f = not_true d f

@@ -1,4 +1,5 @@
 pub mod Keys
+pub mod Tables
 pub mod Lefts
 pub mod Marking
 pub mod Owning
@@ -8,6 +9,7 @@ pub mod Owned
 pub mod Messages
 pub mod Connections
 pub mod Losing
+pub mod Placing
 pub mod Wiring
 pub mod Sending
 pub mod Tracing

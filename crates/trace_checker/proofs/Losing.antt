@@ -1,5 +1,5 @@
 -- What a history loses with its newest entry.
-use Rattle.std.proofs.Common.{◌≡◌, Bool, true, false, ◌&&◌, ◌||◌, List, ◌∷◌, ap, ◌∙◌, refl}
+use Rattle.std.proofs.Common.{◌≡◌, Bool, true, false, ◌||◌, List, ◌∷◌, ap, ◌∙◌, refl}
 use Rattle.dtx_values.specs.declared.entry.Entry.{Entry}
 use Rattle.dtx_model.specs.Outcome.{is_first_veto, is_just, justified, vetoed}
 use Rattle.dtx_model.proofs.Bools.{and_both}

@@ -1,14 +1,16 @@
 -- The rows of the enlistments with one more entry.
-use Rattle.std.proofs.Common.{◌≡◌, ℕ, Bool, true, false, cond, ◌==◌, ◌&&◌, ◌||◌, not, List, [], ◌∷◌, Option, Some, None, refl, ap, subst, sym, ◌∙◌, arith}
+use Rattle.std.proofs.Common.{◌≡◌, ℕ, Bool, true, false, cond, ◌==◌, ◌&&◌, ◌||◌, List, ◌∷◌, length, ◌<◌, ◌≢◌, get_or, set, Option, Some, None, refl, ap, arith, subst, sym, ◌∙◌}
+use Rattle.std.proofs.lemmas.Bool.Decides.{nat_tests}
+use Rattle.std.proofs.lemmas.Grind.{get_or-set_at}
+use Rattle.std.proofs.lemmas.List.{get_or_default, get_or-set_other}
 use Rattle.dtx_values.specs.declared.entry.Entry.{Entry}
 use Rattle.dtx_values.specs.declared.entry.Entry.TheVariants.{Enlisted, Voted, Handed, OwnerAnswered, Sent, Got}
-use Rattle.dtx_values.specs.declared.message.Conn.TheVariants.{Begin, Voter, Enl, Again}
+use Rattle.dtx_values.specs.declared.message.Conn.TheVariants.{Enl}
 use Rattle.dtx_values.specs.declared.message.Dir.TheVariants.{Up, Down}
 use Rattle.dtx_values.specs.declared.message.Message.{Message}
 use Rattle.dtx_values.specs.declared.message.Message.TheVariants.{EnlistNo, EnlistOneAborted, EnlistOneCommitted, EnlistOneInDoubt, EnlistPrepared, EnlistReadonly, EnlistSingle}
 use Rattle.dtx_values.specs.declared.number.EnlNo.{EnlNo}
 use Rattle.dtx_values.specs.declared.words.Class.{Class}
-use Rattle.dtx_values.specs.declared.words.Outcome.{Outcome}
 use Rattle.dtx_values.specs.declared.words.Outcome.TheVariants.{Committed, InDoubt}
 use Rattle.dtx_values.specs.Class.{is_volatile}
 use Rattle.dtx_model.specs.Entries.{is_any_owner, is_hand, is_one_got, is_owner, is_single_sent, is_vote, is_vote_got, same_outcome}
@@ -16,13 +18,9 @@ use Rattle.dtx_model.specs.Outcome.{volatiles}
 use Rattle.dtx_model.specs.Words.{has}
 use Rattle.trace_checker.specs.declared.members.Member.{Member}
 use Rattle.trace_checker.specs.declared.members.Members.{Members}
-use Rattle.trace_checker.specs.Members.{IsMemberOf, IsMembersOf, about, is_one_message, or_fresh, is_vote_message, member, member_after}
+use Rattle.trace_checker.specs.Members.{IsMemberOf, IsMembersOf, about, fresh, is_one_message, is_vote_message, member, member_after}
 use Rattle.trace_checker.specs.Voters.{is_enlisted}
-use Rattle.trace_checker.proofs.Keys.{same_number}
-use Rattle.std.proofs.lemmas.Bool.Decides.{nat_tests}
-use Rattle.std.specs.BTreeMap.{get, is_at}
-use Rattle.std.specs.Cmp.{unsigned_tied}
-use Rattle.std.specs.Ordering.{nat_cmp}
+use Rattle.trace_checker.proofs.Keys.{same_is, same_number}
 
 and_true : (b : Bool) → b ≡ (b && true)
 and_true true = refl
@@ -225,36 +223,49 @@ others h _ e m n k = record {
   replied = k.replied;
 }
 
-same_is : (n m : ℕ) → (n == m) ≡ true → n ≡ m
-same_is n m e = grind (arith, nat_tests)
-
-at_key : (n m : ℕ) → is_at (nat_cmp n) m ≡ (m == n)
-at_key n m = unsigned_tied n m ∙ turned n m
-  where
-    turned : (n m : ℕ) → (n == m) ≡ (m == n)
-    turned n m = grind (arith, nat_tests)
-
 -- an entry that is about nobody
 pub members_idle : (h : List Entry) (x : Entry) (ms : Members) → about x ≡ None → IsMembersOf h ms → IsMembersOf (x ∷ h) ms
 members_idle h x ms a k = λ e. others h x e (member e ms) (ap (is_about e) a) (k e)
 
 -- the row that the entry is about is put, and the others stay
 pub members_more : (h : List Entry) (x : Entry) (old new : Members) (f : EnlNo) (key : ℕ) (row : Member) → about x ≡ Some f → key ≡ f.value → row ≡ member_after x (member f.value old)
-    → ((q : ℕ) → get nat_cmp new.rows q ≡ cond (is_at (nat_cmp key) q) (Some row) (get nat_cmp old.rows q)) → IsMembersOf h old → IsMembersOf (x ∷ h) new
+    → ((q : ℕ) → member q new ≡ cond (q == key) row (member q old)) → IsMembersOf h old → IsMembersOf (x ∷ h) new
 members_more h x old new f key row a w r u k = λ e. by e (e == f.value) refl
   where
+    now : (e : ℕ) (b : Bool) → (e == f.value) ≡ b → member e new ≡ cond b row (member e old)
+    now e b n = u e ∙ ap (λ b. cond b row (member e old)) (ap (λ j. e == j) w ∙ n)
+
     by : (e : ℕ) (b : Bool) → (e == f.value) ≡ b → IsMemberOf (x ∷ h) e (member e new)
     by e true n =
         let at : e ≡ f.value = same_is e f.value n in
-        let found : is_at (nat_cmp key) e ≡ true = ap (λ j. is_at (nat_cmp j) e) w ∙ (at_key f.value e ∙ n) in
-        let there : member e new ≡ member_after x (member f.value old) = ap or_fresh (u e ∙ ap (λ b. cond b (Some row) (get nat_cmp old.rows e)) found) ∙ r in
         let F : Option EnlNo → Type 0 = λ o. FollowsAt h x o (member f.value old) in
         let step : FollowsAt h x (Some f) (member f.value old) = subst F a (follows_at h x (member f.value old)) in
         let G : ℕ → Type 0 = λ n. IsMemberOf (x ∷ h) n (member_after x (member f.value old)) in
         let M : Member → Type 0 = λ m. IsMemberOf (x ∷ h) e m in
-        subst M (sym there) (subst G (sym at) (step (k f.value)))
+        subst M (sym (now e true n ∙ r)) (subst G (sym at) (step (k f.value)))
     by e false n =
-        let missed : is_at (nat_cmp key) e ≡ false = ap (λ j. is_at (nat_cmp j) e) w ∙ (at_key f.value e ∙ n) in
-        let stays : member e new ≡ member e old = ap or_fresh (u e ∙ ap (λ b. cond b (Some row) (get nat_cmp old.rows e)) missed) in
         let M : Member → Type 0 = λ m. IsMemberOf (x ∷ h) e m in
-        subst M (sym stays) (others h x e (member e old) (ap (is_about e) a ∙ n) (k e))
+        subst M (sym (now e false n)) (others h x e (member e old) (ap (is_about e) a ∙ n) (k e))
+
+-- a row is put in its place
+put_row : (rows : List Member) (n : ℕ) (row : Member) → n < length rows → (q : ℕ) → get_or (set rows n row) q fresh ≡ cond (q == n) row (get_or rows q fresh)
+put_row rows n row l q = by (q == n) refl
+  where
+    apart : (q == n) ≡ false → q ≢ n
+    apart e = grind (arith, nat_tests)
+
+    by : (b : Bool) → (q == n) ≡ b → get_or (set rows n row) q fresh ≡ cond b row (get_or rows q fresh)
+    by true e = get_or-set_at rows n q row fresh (same_is q n e) l
+    by false e = get_or-set_other rows n q row fresh (apart e)
+
+-- the rows reach as far as the one that the entry is about, which is changed in its place
+pub members_put : (h : List Entry) (x : Entry) (old new : Members) (rows : List Member) (f : EnlNo) (key : ℕ) (was row : Member) → about x ≡ Some f → key ≡ f.value → key < length rows
+    → ((q : ℕ) → get_or rows q fresh ≡ member q old) → was ≡ get_or rows key was → row ≡ member_after x was → new.rows.items ≡ set rows key row
+    → IsMembersOf h old → IsMembersOf (x ∷ h) new
+members_put h x old new rows f key was row a w l same r s put = members_more h x old new f key row a w (s ∙ ap (member_after x) before) after
+  where
+    before : was ≡ member f.value old
+    before = r ∙ (get_or_default rows key was fresh l ∙ (same key ∙ ap (λ n. member n old) w))
+
+    after : (q : ℕ) → member q new ≡ cond (q == key) row (member q old)
+    after q = ap (λ ms. get_or ms q fresh) put ∙ (put_row rows key row l q ∙ ap (cond (q == key) row) (same q))

@@ -4,7 +4,7 @@ use Rattle.dtx_values.specs.declared.entry.Entry.{Entry}
 use Rattle.dtx_values.specs.declared.number.EnlNo.{EnlNo}
 use Rattle.dtx_values.specs.declared.words.Class.{Class}
 use Rattle.dtx_values.specs.declared.words.Outcome.TheVariants.{Committed}
-use Rattle.dtx_model.specs.Entries.{is_hand, is_owner, is_promoted, is_sealed}
+use Rattle.dtx_model.specs.Entries.{is_hand, is_owner}
 use Rattle.dtx_model.specs.Outcome.{by_owner, by_seal, can_own, durables, is_empty, may_decide, owner_committed}
 use Rattle.dtx_model.specs.Words.{each, has}
 use Rattle.trace_checker.specs.declared.book.Book.{Book}

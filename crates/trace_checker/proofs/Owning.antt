@@ -1,15 +1,14 @@
 -- Who may own the commit, with one more enlistment.
-use Rattle.std.proofs.Common.{◌≡◌, ℕ, Bool, true, false, cond, ◌==◌, ◌&&◌, ◌||◌, not, List, [], ◌∷◌, refl, ap, subst, sym, ◌∙◌, arith}
+use Rattle.std.proofs.Common.{◌≡◌, ℕ, Bool, true, false, cond, ◌==◌, ◌&&◌, ◌||◌, List, [], ◌∷◌, refl, ap, subst, sym, ◌∙◌, arith}
 use Rattle.std.proofs.lemmas.Bool.Decides.{nat_tests}
 use Rattle.dtx_values.specs.declared.entry.Entry.{Entry}
 use Rattle.dtx_values.specs.declared.entry.Entry.TheVariants.{Enlisted}
 use Rattle.dtx_values.specs.declared.number.EnlNo.{EnlNo}
 use Rattle.dtx_values.specs.declared.words.Class.{Class}
 use Rattle.dtx_model.specs.Outcome.{can_own, durables}
-use Rattle.dtx_model.specs.Words.{each, has}
+use Rattle.dtx_model.specs.Words.{each}
 use Rattle.dtx_values.specs.Class.{is_volatile}
-use Rattle.trace_checker.specs.declared.owner.Lasting.{Lasting}
-use Rattle.trace_checker.specs.declared.owner.Lasting.TheVariants.{Nobody, One, Several}
+use Rattle.trace_checker.specs.declared.owner.Lasting.TheVariants.{One, Several}
 use Rattle.trace_checker.specs.declared.owner.Owner.{Owner}
 use Rattle.trace_checker.specs.Owner.{IsOwnerOf, named_by, named_with}
 

@@ -6,17 +6,20 @@ use Rattle.dtx_values.specs.declared.message.Conn.{Conn}
 use Rattle.dtx_values.specs.declared.message.Dir.{Dir}
 use Rattle.dtx_values.specs.declared.message.Dir.TheVariants.{Up, Down}
 use Rattle.dtx_values.specs.declared.message.Message.{Message}
-use Rattle.dtx_values.specs.Ends.{order_of, same_connection, same_direction}
+use Rattle.dtx_values.specs.Ends.{same_connection, same_direction}
 use Rattle.dtx_values.specs.Lines.{is_opening}
 use Rattle.dtx_model.specs.Wires.{ended_after, in_transit, is_ended, is_kept, is_open_wire, is_stopped, lost_after, lost_since, opened_with, opens, sent_behind, transit_after}
 use Rattle.dtx_model.proofs.Bools.{and_never}
+use Rattle.trace_checker.specs.declared.intact.Intact.{Intact}
 use Rattle.trace_checker.specs.declared.names.Names.{Names}
 use Rattle.trace_checker.specs.declared.ways.Ways.{Ways}
 use Rattle.trace_checker.specs.declared.wires.Wires.{Wires}
+use Rattle.trace_checker.specs.Connections.{number_of}
+use Rattle.trace_checker.specs.Intact.{is_intact_at}
 use Rattle.trace_checker.specs.Names.{has_name}
 use Rattle.trace_checker.specs.Ways.{ChangesWay, is_way_ended, messages}
 use Rattle.trace_checker.specs.Wires.{IsWiresOf, is_intact, is_opened, lost_in}
-use Rattle.trace_checker.proofs.Connections.{same_order}
+use Rattle.trace_checker.proofs.Connections.{same_number_of}
 use Rattle.trace_checker.proofs.Keys.{same_number}
 use Rattle.trace_checker.proofs.Wiring.{kept_end, now_on, same_key, seen_on}
 
@@ -38,7 +41,7 @@ transit_sent q c d r m h ms e = ap (λ b. cond b (opened_with d m (is_stopped h)
 
 -- the connection that is sent on is open where it was opened and is intact
 wire_is : (q c : Conn) (h : List Entry) (w : Wires) → same_connection q c ≡ true → IsWiresOf h w → is_open_wire q h ≡ (is_opened c w && is_intact c w)
-wire_is q c h w e k = ap is_kept (k.lost q) ∙ (ap (λ n. is_kept (cond (has_name n w.opened) (Some (not (has_name n w.intact))) None)) (same_key q c e) ∙ by (is_opened c w) (is_intact c w))
+wire_is q c h w e k = ap is_kept (k.lost q) ∙ (ap (λ n. is_kept (cond (has_name n w.opened) (Some (not (is_intact_at n w.intact))) None)) (same_key q c e) ∙ by (is_opened c w) (is_intact c w))
   where
     by : (a b : Bool) → is_kept (cond a (Some (not b)) None) ≡ (a && b)
     by true true = refl
@@ -46,11 +49,11 @@ wire_is q c h w e k = ap is_kept (k.lost q) ∙ (ap (λ n. is_kept (cond (has_na
     by false b = refl
 
 -- what is on the way in the direction of the message
-behind : (q c : Conn) (m : Message) (h : List Entry) (w : Wires) (ws : Ways) (ms : List Message) → IsWiresOf h w → (is_opened c w && is_intact c w) ≡ true → ms ≡ messages (order_of q) ws
-    → cond (same_connection q c && true) (sent_behind (is_open_wire q h) m ms) ms ≡ cond (same_connection q c) (messages (order_of c) ws ++ m ∷ []) (messages (order_of q) ws)
+behind : (q c : Conn) (m : Message) (h : List Entry) (w : Wires) (ws : Ways) (ms : List Message) → IsWiresOf h w → (is_opened c w && is_intact c w) ≡ true → ms ≡ messages (number_of q) ws
+    → cond (same_connection q c && true) (sent_behind (is_open_wire q h) m ms) ms ≡ cond (same_connection q c) (messages (number_of c) ws ++ m ∷ []) (messages (number_of q) ws)
 behind q c m h w ws ms k o e = by (same_connection q c) refl
   where
-    by : (s : Bool) → same_connection q c ≡ s → cond (s && true) (sent_behind (is_open_wire q h) m ms) ms ≡ cond s (messages (order_of c) ws ++ m ∷ []) (messages (order_of q) ws)
+    by : (s : Bool) → same_connection q c ≡ s → cond (s && true) (sent_behind (is_open_wire q h) m ms) ms ≡ cond s (messages (number_of c) ws ++ m ∷ []) (messages (number_of q) ws)
     by true f = ap (λ b. sent_behind b m ms) (wire_is q c h w f k ∙ o) ∙ ap (λ xs. xs ++ m ∷ []) (e ∙ ap (λ n. messages n ws) (same_key q c f))
     by false f = e
 
@@ -79,27 +82,27 @@ send_dropped h c d m w p o k = record {
 }
 
 pub send_up : (h : List Entry) (c : Conn) (m : Message) (w : Wires) (new : Ways) → is_opening c m ≡ false → (is_opened c w && is_intact c w) ≡ true
-    → ChangesWay (order_of c) (messages (order_of c) w.upward ++ m ∷ []) (is_way_ended (order_of c) w.upward) w.upward new → IsWiresOf h w → IsWiresOf (Sent c Up m ∷ h) (record w { upward = new })
+    → ChangesWay (number_of c) (messages (number_of c) w.upward ++ m ∷ []) (is_way_ended (number_of c) w.upward) w.upward new → IsWiresOf h w → IsWiresOf (Sent c Up m ∷ h) (record w { upward = new })
 send_up h c m w new p o ch k = record {
   stopped = k.stopped;
   lost = λ q. lost_sent q c Up m h (lost_since q h) (opens_no q c Up m p) ∙ k.lost q;
   upward = λ q. transit_sent q c Up Up m h (in_transit q Up h) (opens_no q c Up m p)
-      ∙ (behind q c m h w w.upward (in_transit q Up h) k o (k.upward q) ∙ sym (now_on c q (messages (order_of c) w.upward ++ m ∷ []) (is_way_ended (order_of c) w.upward) w.upward new ch));
+      ∙ (behind q c m h w w.upward (in_transit q Up h) k o (k.upward q) ∙ sym (now_on c q (messages (number_of c) w.upward ++ m ∷ []) (is_way_ended (number_of c) w.upward) w.upward new ch));
   downward = λ q. transit_sent q c Down Up m h (in_transit q Down h) (opens_no q c Up m p) ∙ (beside (same_connection q c) (is_open_wire q h) m (in_transit q Down h) ∙ k.downward q);
   ended_up = λ q u. ap (λ b. ended_after b (is_stopped h) (is_ended q Up h)) (opens_no q c Up m p)
-      ∙ (k.ended_up q u ∙ sym (seen_on c q (messages (order_of c) w.upward ++ m ∷ []) (is_way_ended (order_of c) w.upward) w.upward new ch ∙ kept_end c q w.upward));
+      ∙ (k.ended_up q u ∙ sym (seen_on c q (messages (number_of c) w.upward ++ m ∷ []) (is_way_ended (number_of c) w.upward) w.upward new ch ∙ kept_end c q w.upward));
   ended_down = λ q u. ap (λ b. ended_after b false (is_ended q Down h)) (opens_no q c Up m p) ∙ k.ended_down q u;
 }
 
 pub send_down : (h : List Entry) (c : Conn) (m : Message) (w : Wires) (new : Ways) → (is_opened c w && is_intact c w) ≡ true
-    → ChangesWay (order_of c) (messages (order_of c) w.downward ++ m ∷ []) (is_way_ended (order_of c) w.downward) w.downward new → IsWiresOf h w → IsWiresOf (Sent c Down m ∷ h) (record w { downward = new })
+    → ChangesWay (number_of c) (messages (number_of c) w.downward ++ m ∷ []) (is_way_ended (number_of c) w.downward) w.downward new → IsWiresOf h w → IsWiresOf (Sent c Down m ∷ h) (record w { downward = new })
 send_down h c m w new o ch k = record {
   stopped = k.stopped;
   lost = λ q. lost_sent q c Down m h (lost_since q h) refl ∙ k.lost q;
   upward = λ q. beside (same_connection q c) (is_open_wire q h) m (in_transit q Up h) ∙ k.upward q;
-  downward = λ q. behind q c m h w w.downward (in_transit q Down h) k o (k.downward q) ∙ sym (now_on c q (messages (order_of c) w.downward ++ m ∷ []) (is_way_ended (order_of c) w.downward) w.downward new ch);
+  downward = λ q. behind q c m h w w.downward (in_transit q Down h) k o (k.downward q) ∙ sym (now_on c q (messages (number_of c) w.downward ++ m ∷ []) (is_way_ended (number_of c) w.downward) w.downward new ch);
   ended_up = λ q u. k.ended_up q u;
-  ended_down = λ q u. k.ended_down q u ∙ sym (seen_on c q (messages (order_of c) w.downward ++ m ∷ []) (is_way_ended (order_of c) w.downward) w.downward new ch ∙ kept_end c q w.downward);
+  ended_down = λ q u. k.ended_down q u ∙ sym (seen_on c q (messages (number_of c) w.downward ++ m ∷ []) (is_way_ended (number_of c) w.downward) w.downward new ch ∙ kept_end c q w.downward);
 }
 
 -- A connection is opened.
@@ -115,9 +118,9 @@ pub record IsOpening (c : Conn) (m : Message) (st : Bool) (old new : Wires) : Ty
   pub stopped : new.stopped ≡ old.stopped
   pub opened : (q : Conn) → is_opened q new ≡ (same_connection q c || is_opened q old)
   pub intact : (q : Conn) → is_intact q new ≡ cond (same_connection q c) (not st) (is_intact q old)
-  pub upward : (q : Conn) → messages (order_of q) new.upward ≡ cond (same_connection q c) (opened_with Up m st) (messages (order_of q) old.upward)
-  pub ended_up : (q : Conn) → is_way_ended (order_of q) new.upward ≡ cond (same_connection q c) st (is_way_ended (order_of q) old.upward)
-  pub downward : ChangesWay (order_of c) [] false old.downward new.downward
+  pub upward : (q : Conn) → messages (number_of q) new.upward ≡ cond (same_connection q c) (opened_with Up m st) (messages (number_of q) old.upward)
+  pub ended_up : (q : Conn) → is_way_ended (number_of q) new.upward ≡ cond (same_connection q c) st (is_way_ended (number_of q) old.upward)
+  pub downward : ChangesWay (number_of c) [] false old.downward new.downward
 
 pub open_more : (h : List Entry) (c : Conn) (m : Message) (st : Bool) (w new : Wires) → is_opening c m ≡ true → w.stopped ≡ st → IsOpening c m st w new → IsWiresOf h w → IsWiresOf (Sent c Up m ∷ h) new
 open_more h c m st w new y e g k = record {
@@ -149,19 +152,19 @@ open_more h c m st w new y e g k = record {
         by true a b o f = ap Some (is ∙ twice st)
         by false a b o f = f
 
-    up : (q : Conn) (s : Bool) → cond s (opened_with Up m (is_stopped h)) (cond (s && true) (sent_behind (is_open_wire q h) m (in_transit q Up h)) (in_transit q Up h)) ≡ cond s (opened_with Up m st) (messages (order_of q) w.upward)
+    up : (q : Conn) (s : Bool) → cond s (opened_with Up m (is_stopped h)) (cond (s && true) (sent_behind (is_open_wire q h) m (in_transit q Up h)) (in_transit q Up h)) ≡ cond s (opened_with Up m st) (messages (number_of q) w.upward)
     up q true = ap (opened_with Up m) is
     up q false = k.upward q
 
-    down : (q : Conn) (s : Bool) → cond s [] (cond (s && false) (sent_behind (is_open_wire q h) m (in_transit q Down h)) (in_transit q Down h)) ≡ cond s [] (messages (order_of q) w.downward)
+    down : (q : Conn) (s : Bool) → cond s [] (cond (s && false) (sent_behind (is_open_wire q h) m (in_transit q Down h)) (in_transit q Down h)) ≡ cond s [] (messages (number_of q) w.downward)
     down q true = refl
     down q false = k.downward q
 
-    end_up : (q : Conn) (s : Bool) → same_connection q c ≡ s → is_opened q new ≡ true → ended_after s (is_stopped h) (is_ended q Up h) ≡ cond s st (is_way_ended (order_of q) w.upward)
+    end_up : (q : Conn) (s : Bool) → same_connection q c ≡ s → is_opened q new ≡ true → ended_after s (is_stopped h) (is_ended q Up h) ≡ cond s st (is_way_ended (number_of q) w.upward)
     end_up q true f u = is
     end_up q false f u = k.ended_up q (sym (g.opened q ∙ ap (λ s. s || is_opened q w) f) ∙ u)
 
-    end_down : (q : Conn) (s : Bool) → same_connection q c ≡ s → is_opened q new ≡ true → ended_after s false (is_ended q Down h) ≡ cond s false (is_way_ended (order_of q) w.downward)
+    end_down : (q : Conn) (s : Bool) → same_connection q c ≡ s → is_opened q new ≡ true → ended_after s false (is_ended q Down h) ≡ cond s false (is_way_ended (number_of q) w.downward)
     end_down q true f u = refl
     end_down q false f u = k.ended_down q (sym (g.opened q ∙ ap (λ s. s || is_opened q w) f) ∙ u)
 
@@ -185,18 +188,18 @@ opened_up k m old mid new f g = record { messages = λ q. g.messages q ∙ by q 
     end q true e = f.ended k ∙ ap (λ b. cond b false (is_way_ended k old)) (same_number k)
     end q false e = f.ended q ∙ ap (λ b. cond b false (is_way_ended q old)) e
 
-pub opening : (c : Conn) (m : Message) (st : Bool) (w : Wires) (k : ℕ) (opened intact : Names) (upward downward : Ways) → k ≡ order_of c
-    → ((n : ℕ) → has_name n opened ≡ ((n == k) || has_name n w.opened)) → ((n : ℕ) → has_name n intact ≡ cond (n == k) (not st) (has_name n w.intact))
+pub opening : (c : Conn) (m : Message) (st : Bool) (w : Wires) (k : ℕ) (opened : Names) (intact : Intact) (upward downward : Ways) → k ≡ number_of c
+    → ((n : ℕ) → has_name n opened ≡ ((n == k) || has_name n w.opened)) → ((n : ℕ) → is_intact_at n intact ≡ cond (n == k) (not st) (is_intact_at n w.intact))
     → ChangesWay k (opened_with Up m st) st w.upward upward → ChangesWay k [] false w.downward downward
     → IsOpening c m st w (record { stopped = w.stopped; opened = opened; intact = intact; upward = upward; downward = downward })
 opening c m st w k opened intact upward downward e o i u d = record {
   stopped = refl;
-  opened = λ q. o (order_of q) ∙ ap (λ b. b || has_name (order_of q) w.opened) (key q);
-  intact = λ q. i (order_of q) ∙ ap (λ b. cond b (not st) (has_name (order_of q) w.intact)) (key q);
-  upward = λ q. u.messages (order_of q) ∙ ap (λ b. cond b (opened_with Up m st) (messages (order_of q) w.upward)) (key q);
-  ended_up = λ q. u.ended (order_of q) ∙ ap (λ b. cond b st (is_way_ended (order_of q) w.upward)) (key q);
+  opened = λ q. o (number_of q) ∙ ap (λ b. b || has_name (number_of q) w.opened) (key q);
+  intact = λ q. i (number_of q) ∙ ap (λ b. cond b (not st) (is_intact_at (number_of q) w.intact)) (key q);
+  upward = λ q. u.messages (number_of q) ∙ ap (λ b. cond b (opened_with Up m st) (messages (number_of q) w.upward)) (key q);
+  ended_up = λ q. u.ended (number_of q) ∙ ap (λ b. cond b st (is_way_ended (number_of q) w.upward)) (key q);
   downward = let N : ℕ → Type 0 = λ n. ChangesWay n [] false w.downward downward in subst N e d;
 }
   where
-    key : (q : Conn) → (order_of q == k) ≡ same_connection q c
-    key q = ap (λ n. order_of q == n) e ∙ same_order q c
+    key : (q : Conn) → (number_of q == k) ≡ same_connection q c
+    key q = ap (λ n. number_of q == n) e ∙ same_number_of q c

@@ -1,6 +1,8 @@
 pub mod Keeps
 pub mod Names
+pub mod Intact
 pub mod Left
+pub mod Waiting
 pub mod Voters
 pub mod Marks
 pub mod Heard
@@ -8,6 +10,7 @@ pub mod Owner
 pub mod Members
 pub mod Doubts
 pub mod Ways
+pub mod Connections
 pub mod Wires
 pub mod Kept
 pub mod Loss

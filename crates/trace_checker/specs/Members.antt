@@ -1,7 +1,5 @@
 -- The rows of the enlistments.
-use Rattle.std.specs.Prelude.{◌≡◌, ℕ, Bool, true, false, ◌==◌, ◌||◌, List, Option, Some, None}
-use Rattle.std.specs.BTreeMap.{get}
-use Rattle.std.specs.Ordering.{nat_cmp}
+use Rattle.std.specs.Prelude.{◌≡◌, ℕ, Bool, true, false, ◌||◌, List, Option, Some, None, slice_index_or}
 use Rattle.dtx_values.specs.declared.entry.Entry.{Entry}
 use Rattle.dtx_values.specs.declared.entry.Entry.TheVariants.{Enlisted, Voted, Handed, OwnerAnswered, Sent, Got}
 use Rattle.dtx_values.specs.declared.message.Conn.TheVariants.{Enl}
@@ -30,14 +28,13 @@ pub record IsMemberOf (h : List Entry) (e : ℕ) (m : Member) : Type 0 where
   pub single : m.single ≡ has (is_single_sent e) h
   pub replied : m.replied ≡ has (is_one_got e) h
 
--- the row that is there, or one of which nothing is known
-abbrev pub or_fresh : Option Member → Member
-or_fresh (Some m) = m
-or_fresh None = record { volatile = false; voted = false; heard = false; handed = false; answered = false; committed = false; unsure = false; single = false; replied = false }
+-- nothing is known of an enlistment
+abbrev pub fresh : Member
+fresh = record { volatile = false; voted = false; heard = false; handed = false; answered = false; committed = false; unsure = false; single = false; replied = false }
 
--- the row of this enlistment
+-- the row of this enlistment; past the end of the rows nothing is known
 abbrev pub member : ℕ → Members → Member
-member e ms = or_fresh (get nat_cmp ms.rows e)
+member e ms = slice_index_or ms.rows.items e fresh
 
 -- each row says what the history shows of its enlistment
 abbrev pub IsMembersOf : List Entry → Members → Type 0

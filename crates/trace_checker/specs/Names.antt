@@ -1,9 +1,7 @@
 -- Sets of names.
-use Rattle.std.specs.Prelude.{ℕ, Bool}
-use Rattle.std.specs.BTreeSet.{contains}
-use Rattle.std.specs.Ordering.{nat_cmp}
+use Rattle.std.specs.Prelude.{ℕ, Bool, false, slice_index_or}
 use Rattle.trace_checker.specs.declared.names.Names.{Names}
 
 -- the set has this name
 abbrev pub has_name : ℕ → Names → Bool
-has_name n s = contains nat_cmp s.numbers n
+has_name n s = slice_index_or s.there.items n false

@@ -2,9 +2,9 @@
 ghost use Rattle.std.specs.Prelude.{◌≡◌, ◌&&◌, ◌||◌, not, List, [], ◌∷◌, OnOk};
 ghost use Rattle.trace_checker.specs.Members.{about};
 
+use crate::table::{item_at, reach};
 use dtx_values::{Conn, Dir, EnlNo, Entry, Message, Outcome};
 use std::alloc::{AllocError, Global};
-use std::collections::BTreeMap;
 
 /// What the history shows of an enlistment.
 #[derive(Clone, Copy, PartialEq, Eq, Debug)]
@@ -98,10 +98,10 @@ impl Member {
     }
 }
 
-/// The rows of the enlistments, by number. One is found by halving.
+/// The rows of the enlistments, by number. Of one past their end nothing is known.
 #[derive(Drop)]
 pub struct Members {
-    rows: BTreeMap<u32, Member>,
+    rows: Vec<Member>,
 }
 
 impl Members {
@@ -113,7 +113,7 @@ impl Members {
         ensures { IsMembersOf [] result }
     {
         Members {
-            rows: BTreeMap::new(alloc),
+            rows: Vec::new(alloc),
         }
     }
 
@@ -128,10 +128,7 @@ impl Members {
     pub fn at(&self, n: u32) -> Member
         ensures { result ≡ member n self.now }
     {
-        match self.rows.get(&n) {
-            Some(row) => *row,
-            None => Member::FRESH,
-        }
+        item_at(&self.rows, n, Member::FRESH)
     }
 
     /// Notes the entry.
@@ -139,9 +136,10 @@ impl Members {
         ensures { OnOk result ((h : List Entry) → IsMembersOf h self.old → IsMembersOf (x.now ∷ h) self.new) }
     {
         if let Some(e) = about(x) {
-            let mut row = self.of(e);
+            let n = e.get();
+            reach(&mut self.rows, n, Member::FRESH)?;
+            let row = &mut self.rows[n as usize];
             row.follow(x);
-            self.rows.insert(e.get(), row)?;
         }
         Ok(())
     }

@@ -1,25 +1,32 @@
 //! What is on the way in one direction, connection by connection.
-ghost use Rattle.std.specs.Prelude.{◌≡◌, ◌≢◌, ℕ, ◌==◌, ◌++◌, ◌↔◌, [], ◌∷◌, false, true, take, if◌then◌else◌, IsTrue, OnOk};
+ghost use Rattle.std.specs.Prelude.{◌≡◌, ◌≢◌, ℕ, ◌==◌, ◌++◌, ◌↔◌, [], ◌∷◌, false, true, take, if◌then◌else◌, IfNone, IfOk, IfSome, IsTrue, None, OnOk};
+ghost use Rattle.std.specs.Option.{option_map};
 ghost use Rattle.dtx_model.specs.Outcome.{is_empty};
 ghost use Rattle.dtx_model.specs.Wires.{is_next, without_first};
 
+use crate::table::{item_at, put_at};
 use dtx_values::Message;
 use std::alloc::{AllocError, Global};
-use std::collections::{BTreeMap, VecDeque};
+use std::collections::VecDeque;
 
 /// What is on the way on one connection in one direction.
 #[derive(Drop)]
 struct Way {
+    /// The number of its connection.
+    number: u32,
     /// The first to come first.
     messages: VecDeque<Message>,
     /// Whether the side to which it leads saw the end since it was opened, or never sees one.
     ended: bool,
 }
 
-/// The ways of one direction, by the number of the connection in their order. Where no row stands, nothing is on the way and no end comes.
+/// The ways of one direction, by the number of the connection. Where no row stands, nothing is on the way and no end comes.
 #[derive(Drop)]
 pub struct Ways {
-    rows: BTreeMap<u32, Way>,
+    /// The place of each way's row. Where the row at that place is of another way, or there is none, the way has no row.
+    places: Vec<u32>,
+    /// The rows as they came, so that only the ways that are used take room.
+    rows: Vec<Way>,
     alloc: Global,
 }
 
@@ -32,15 +39,40 @@ fn is_same(m: Message, n: Message) -> bool
 }
 
 impl Ways {
-    ghost use Rattle.trace_checker.specs.Ways.{ChangesWay, is_way_ended, messages};
+    ghost use Rattle.trace_checker.specs.Ways.{AreSame, ChangesWay, IsPlaceOf, is_way_ended, messages, way};
 
-    /// Nothing is on the way.
+    /// Nothing is on the way, and no end comes.
     pub fn new(alloc: Global) -> Ways
         ensures messages { (k : ℕ) → messages k result ≡ [] }
+        ensures ended { (k : ℕ) → is_way_ended k result ≡ true }
     {
         Ways {
-            rows: BTreeMap::new(alloc),
+            places: Vec::new(alloc),
+            rows: Vec::new(alloc),
             alloc,
+        }
+    }
+
+    /// The place of way k's row.
+    fn find(&self, k: u32) -> Option<usize>
+        ensures some { IfSome result (λ p. IsPlaceOf k p self.now) }
+        ensures none { IfNone result (way k self.now ≡ None) }
+    {
+        let p = item_at(&self.places, k, 0) as usize;
+        if p < self.rows.len() && self.rows[p].number == k {
+            Some(p)
+        } else {
+            None
+        }
+    }
+
+    /// The row of way k.
+    fn way(&self, k: u32) -> Option<&Way>
+        ensures { option_map (λ w. w.now) result ≡ way k self.now }
+    {
+        match self.find(k) {
+            Some(p) => Some(&self.rows[p]),
+            None => None,
         }
     }
 
@@ -48,7 +80,7 @@ impl Ways {
     pub fn is_next(&self, k: u32, m: Message) -> bool
         ensures { IsTrue result ↔ is_next m (messages k self.now) }
     {
-        match self.rows.get(&k) {
+        match self.way(k) {
             Some(way) => match way.messages.front() {
                 Some(n) => is_same(m, *n),
                 None => false,
@@ -61,7 +93,7 @@ impl Ways {
     pub fn is_empty(&self, k: u32) -> bool
         ensures { result ≡ is_empty (messages k self.now) }
     {
-        match self.rows.get(&k) {
+        match self.way(k) {
             Some(way) => way.messages.is_empty(),
             None => true,
         }
@@ -71,36 +103,43 @@ impl Ways {
     pub fn is_ended(&self, k: u32) -> bool
         ensures { result ≡ is_way_ended k self.now }
     {
-        match self.rows.get(&k) {
+        match self.way(k) {
             Some(way) => way.ended,
             None => true,
         }
     }
 
-    /// Takes the row of way k out.
-    fn take(&mut self, k: u32) -> Way
-        ensures messages { result.messages.items ≡ messages k self.old }
-        ensures ended { result.ended ≡ is_way_ended k self.old }
-        ensures rest { ChangesWay k [] true self.old self.new }
+    /// The place of way k's row, which is made where there is none. It begins with room for one message: on most ways there is never
+    /// more than one.
+    fn reach(&mut self, k: u32) -> Result<usize, AllocError>
+        ensures there { IfOk result (λ p. IsPlaceOf k p self.new) }
+        ensures same { OnOk result (AreSame self.old self.new) }
     {
-        match self.rows.remove(&k) {
-            Some(way) => way,
-            None => Way {
-                messages: VecDeque::new(self.alloc),
-                ended: true,
-            },
+        if let Some(p) = self.find(k) {
+            return Ok(p);
         }
+        let p = self.rows.len();
+        let Ok(place) = u32::try_from(p) else {
+            return Err(AllocError);
+        };
+        let messages = VecDeque::with_capacity(self.alloc, 1)?;
+        put_at(&mut self.places, k, 0, place)?;
+        self.rows.push(Way {
+            number: k,
+            messages,
+            ended: true,
+        })?;
+        Ok(p)
     }
 
     /// Way k begins with nothing on it.
     pub fn open(&mut self, k: u32) -> Result<(), AllocError>
         ensures { OnOk result (ChangesWay k [] false self.old self.new) }
     {
-        let way = Way {
-            messages: VecDeque::new(self.alloc),
-            ended: false,
-        };
-        self.rows.insert(k, way)?;
+        let p = self.reach(k)?;
+        let way = &mut self.rows[p];
+        way.messages.clear();
+        way.ended = false;
         Ok(())
     }
 
@@ -108,7 +147,11 @@ impl Ways {
     pub fn close(&mut self, k: u32)
         ensures { ChangesWay k [] true self.old self.new }
     {
-        let _ = self.rows.remove(&k);
+        if let Some(p) = self.find(k) {
+            let way = &mut self.rows[p];
+            way.messages.clear();
+            way.ended = true;
+        }
     }
 
     /// The same of each way.
@@ -123,39 +166,39 @@ impl Ways {
     pub fn send(&mut self, k: u32, m: Message) -> Result<(), AllocError>
         ensures { OnOk result (ChangesWay k (messages k self.old ++ m ∷ []) (is_way_ended k self.old) self.old self.new) }
     {
-        let mut way = self.take(k);
+        let p = self.reach(k)?;
+        let way = &mut self.rows[p];
         way.messages.push_back(m)?;
-        self.rows.insert(k, way)?;
         Ok(())
     }
 
     /// The first message on way k comes.
-    pub fn get(&mut self, k: u32) -> Result<(), AllocError>
-        ensures { OnOk result (ChangesWay k (without_first (messages k self.old)) (is_way_ended k self.old) self.old self.new) }
+    pub fn get(&mut self, k: u32)
+        ensures { ChangesWay k (without_first (messages k self.old)) (is_way_ended k self.old) self.old self.new }
     {
-        let mut way = self.take(k);
-        let _ = way.messages.pop_front();
-        self.rows.insert(k, way)?;
-        Ok(())
+        if let Some(p) = self.find(k) {
+            let way = &mut self.rows[p];
+            let _ = way.messages.pop_front();
+        }
     }
 
     /// A loss keeps so many messages on way k.
-    pub fn keep(&mut self, k: u32, kept: usize) -> Result<(), AllocError>
-        ensures { OnOk result (ChangesWay k (take kept (messages k self.old)) (is_way_ended k self.old) self.old self.new) }
+    pub fn keep(&mut self, k: u32, kept: usize)
+        ensures { ChangesWay k (take kept (messages k self.old)) (is_way_ended k self.old) self.old self.new }
     {
-        let mut way = self.take(k);
-        way.messages.truncate(kept);
-        self.rows.insert(k, way)?;
-        Ok(())
+        if let Some(p) = self.find(k) {
+            let way = &mut self.rows[p];
+            way.messages.truncate(kept);
+        }
     }
 
     /// The end of way k is seen.
-    pub fn end(&mut self, k: u32) -> Result<(), AllocError>
-        ensures { OnOk result (ChangesWay k (messages k self.old) true self.old self.new) }
+    pub fn end(&mut self, k: u32)
+        ensures { ChangesWay k (messages k self.old) true self.old self.new }
     {
-        let mut way = self.take(k);
-        way.ended = true;
-        self.rows.insert(k, way)?;
-        Ok(())
+        if let Some(p) = self.find(k) {
+            let way = &mut self.rows[p];
+            way.ended = true;
+        }
     }
 }

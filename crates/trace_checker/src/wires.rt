@@ -5,23 +5,38 @@ ghost use Rattle.dtx_values.specs.declared.entry.Entry.TheVariants.{Sent, Got, C
 ghost use Rattle.dtx_values.specs.declared.message.Dir.TheVariants.{Up};
 ghost use Rattle.dtx_values.specs.declared.message.Message.{Message as AMessage};
 ghost use Rattle.dtx_values.specs.Lines.{has_line, is_opening};
-ghost use Rattle.dtx_values.specs.Ends.{order_of, same_direction};
+ghost use Rattle.dtx_values.specs.Ends.{same_direction};
 ghost use Rattle.dtx_model.specs.Wires.{MayCross};
+ghost use Rattle.trace_checker.specs.Connections.{number_of};
 
+use crate::intact::Intact;
 use crate::names::Names;
 use crate::ways::Ways;
 use dtx_values::{Conn, Dir, Entry, Message, has_line, is_opening};
 use std::alloc::{AllocError, Global};
+
+/// The number of connection c in tables: b, v, and two for each enlistment, of its own connection and of the one on which it came
+/// back. So the tables are short where the enlistments' numbers are low.
+fn number(c: Conn) -> u32
+    ensures { result ≡ number_of c }
+{
+    match c {
+        Conn::Begin => 0,
+        Conn::Voter => 1,
+        Conn::Enl(e) => 2 * e.get(),
+        Conn::Again(e) => 2 * e.get() + 1,
+    }
+}
 
 /// What the connections of a transaction carry.
 #[derive(Drop)]
 pub struct Wires {
     /// The coordinator stands stopped.
     stopped: bool,
-    /// The connections that were opened, by their numbers in order.
+    /// The connections that were opened, by number.
     opened: Names,
     /// Those that aren't lost since.
-    intact: Names,
+    intact: Intact,
     upward: Ways,
     downward: Ways,
 }
@@ -36,7 +51,7 @@ impl Wires {
         Wires {
             stopped: false,
             opened: Names::new(alloc),
-            intact: Names::new(alloc),
+            intact: Intact::new(alloc),
             upward: Ways::new(alloc),
             downward: Ways::new(alloc),
         }
@@ -56,7 +71,7 @@ impl Wires {
     fn is_open(&self, c: Conn) -> bool
         ensures { result ≡ (is_opened c self.now && is_intact c self.now) }
     {
-        self.opened.contains(c.order()) && self.intact.contains(c.order())
+        self.opened.contains(number(c)) && self.intact.contains(number(c))
     }
 
     /// Whether the end of connection c may be seen on the side to which d leads.
@@ -64,7 +79,7 @@ impl Wires {
         ensures { result ≡ may_end_in c d self.now }
     {
         let ways = self.ways(d);
-        let k = c.order();
+        let k = number(c);
         self.opened.contains(k) && !self.intact.contains(k) && ways.is_empty(k) && !ways.is_ended(k)
     }
 
@@ -73,7 +88,7 @@ impl Wires {
         ensures { (h : List AnEntry) → IsWiresOf h self.now → (result ≡ true) ↔ MayCross h x.now }
     {
         match *x {
-            Entry::Got(c, d, m) => self.ways(d).is_next(c.order(), m),
+            Entry::Got(c, d, m) => self.ways(d).is_next(number(c), m),
             Entry::Down(c, d) => self.may_end(c, d),
             _ => true,
         }
@@ -83,7 +98,7 @@ impl Wires {
     fn open(&mut self, c: Conn, m: Message) -> Result<(), AllocError>
         ensures { OnOk result ((h : List AnEntry) → is_opening c m ≡ true → IsWiresOf h self.old → IsWiresOf (Sent c Up m ∷ h) self.new) }
     {
-        let k = c.order();
+        let k = number(c);
         self.opened.add(k)?;
         self.downward.open(k)?;
         if self.stopped {
@@ -104,7 +119,7 @@ impl Wires {
         if !self.is_open(c) {
             return Ok(());
         }
-        let k = c.order();
+        let k = number(c);
         match d {
             Dir::Up => self.upward.send(k, m),
             Dir::Down => self.downward.send(k, m),
@@ -112,33 +127,33 @@ impl Wires {
     }
 
     /// The next message comes on connection c.
-    fn get(&mut self, c: Conn, d: Dir) -> Result<(), AllocError>
-        ensures { OnOk result ((h : List AnEntry) (m : AMessage) → has_line c d m ≡ true → IsWiresOf h self.old → IsWiresOf (Got c d m ∷ h) self.new) }
+    fn get(&mut self, c: Conn, d: Dir)
+        ensures { (h : List AnEntry) (m : AMessage) → has_line c d m ≡ true → IsWiresOf h self.old → IsWiresOf (Got c d m ∷ h) self.new }
     {
         match d {
-            Dir::Up => self.upward.get(c.order()),
-            Dir::Down => self.downward.get(c.order()),
+            Dir::Up => self.upward.get(number(c)),
+            Dir::Down => self.downward.get(number(c)),
         }
     }
 
     /// The end of connection c is seen on the side to which d leads.
-    fn end(&mut self, c: Conn, d: Dir) -> Result<(), AllocError>
-        ensures { OnOk result ((h : List AnEntry) → IsWiresOf h self.old → IsWiresOf (Down c d ∷ h) self.new) }
+    fn end(&mut self, c: Conn, d: Dir)
+        ensures { (h : List AnEntry) → IsWiresOf h self.old → IsWiresOf (Down c d ∷ h) self.new }
     {
         match d {
-            Dir::Up => self.upward.end(c.order()),
-            Dir::Down => self.downward.end(c.order()),
+            Dir::Up => self.upward.end(number(c)),
+            Dir::Down => self.downward.end(number(c)),
         }
     }
 
     /// Connection c is lost, and so many messages are kept in each direction.
-    fn cut(&mut self, c: Conn, up: usize, down: usize) -> Result<(), AllocError>
-        ensures { OnOk result ((h : List AnEntry) → IsWiresOf h self.old → IsWiresOf (Cut c up down ∷ h) self.new) }
+    fn cut(&mut self, c: Conn, up: usize, down: usize)
+        ensures { (h : List AnEntry) → IsWiresOf h self.old → IsWiresOf (Cut c up down ∷ h) self.new }
     {
-        let k = c.order();
+        let k = number(c);
         self.intact.remove(k);
-        self.upward.keep(k, up)?;
-        self.downward.keep(k, down)
+        self.upward.keep(k, up);
+        self.downward.keep(k, down);
     }
 
     /// Each connection is lost, and the coordinator sees no end of it any more.
@@ -148,6 +163,18 @@ impl Wires {
         self.stopped = true;
         self.intact.clear();
         self.upward.close_all();
+    }
+
+    /// The message is got on connection c. One that has no line is the loss of the connection, and its end on this side.
+    fn come(&mut self, c: Conn, d: Dir, m: Message)
+        ensures { (h : List AnEntry) → IsWiresOf h self.old → IsWiresOf (Got c d m ∷ h) self.new }
+    {
+        if has_line(c, d, m) {
+            self.get(c, d);
+        } else {
+            self.cut(c, 0, 0);
+            self.end(c, d);
+        }
     }
 
     /// Notes the entry.
@@ -163,15 +190,17 @@ impl Wires {
                 }
             }
             Entry::Got(c, d, m) => {
-                if has_line(c, d, m) {
-                    self.get(c, d)
-                } else {
-                    self.cut(c, 0, 0)?;
-                    self.end(c, d)
-                }
+                self.come(c, d, m);
+                Ok(())
             }
-            Entry::Cut(c, up, down) => self.cut(c, up as usize, down as usize),
-            Entry::Down(c, d) => self.end(c, d),
+            Entry::Cut(c, up, down) => {
+                self.cut(c, up as usize, down as usize);
+                Ok(())
+            }
+            Entry::Down(c, d) => {
+                self.end(c, d);
+                Ok(())
+            }
             Entry::Stopped => {
                 self.stop();
                 Ok(())

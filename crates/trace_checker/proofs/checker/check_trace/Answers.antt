@@ -1,4 +1,4 @@
-use Rattle.std.proofs.Common.{◌<◌, List, arith, length, take, refl, subst, sym}
+use Rattle.std.proofs.Common.{◌<◌, List, arith, length, take, refl, subst}
 use Rattle.dtx_model.specs.Traces.{Placed}
 use Rattle.trace_checker.specs.Checking.{IsCheckerOf}
 use Rattle.trace_checker.specs.Keeps.{Loses}

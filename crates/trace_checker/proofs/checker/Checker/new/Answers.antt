@@ -1,4 +1,4 @@
-use Rattle.std.proofs.Common.{ℕ, ◌+◌, ◌<◌, ◌≤◌, ◌-◌, ◌++◌, ◌∷◌, [], List, get_or, subst, sym, arith, vec_len}
+use Rattle.std.proofs.Common.{◌+◌, ◌<◌, ◌-◌, [], List, get_or, subst, sym, arith, vec_len}
 use Rattle.trace_checker.specs.declared.book.Book.{Book}
 use Rattle.trace_checker.specs.Kept.{IsBookOf}
 use Rattle.trace_checker.proofs.Tracing.{blank_more, none_kept}

@@ -1,0 +1,49 @@
+//! Tables by number. At a number past its end a table has its blank, which the caller knows.
+ghost use Rattle.std.specs.Prelude.{◌≡◌, ◌<◌, ◌++◌, ◌==◌, ℕ, if◌then◌else◌, length, replicate, OnErr, OnOk, slice_index_or};
+
+use std::alloc::AllocError;
+
+/// What a table has at a number.
+#[inline(always)]
+pub fn item_at<T: Copy>(items: &[T], n: u32, blank: T) -> T
+    ensures { result ≡ slice_index_or items.now n blank }
+{
+    let place = n as usize;
+    if place < items.len() {
+        items[place]
+    } else {
+        blank
+    }
+}
+
+/// Makes a table longer, with blanks, where it ends before a number.
+#[inline(always)]
+#[tactic(auto, using(crate::proofs::Tables::blank_last))]
+pub fn reach<T: Copy>(items: &mut Vec<T>, n: u32, blank: T) -> Result<(), AllocError>
+    ensures grown { (k : ℕ) × (items.new.items ≡ items.old.items ++ replicate k blank) }
+    ensures same { (k : ℕ) → slice_index_or items.new.items k blank ≡ slice_index_or items.old.items k blank }
+    ensures room { OnOk result (n < length items.new.items) }
+{
+    let place = n as usize;
+    if place < items.len() {
+        return Ok(());
+    }
+    if place == items.len() {
+        items.push(blank)?;
+        return Ok(());
+    }
+    items.resize(place + 1, blank)?;
+    Ok(())
+}
+
+/// Puts an item at a number of a table.
+#[inline(always)]
+pub fn put_at<T: Copy>(items: &mut Vec<T>, n: u32, blank: T, item: T) -> Result<(), AllocError>
+    ensures put { OnOk result ((k : ℕ) → slice_index_or items.new.items k blank
+        ≡ (if k == n then item else slice_index_or items.old.items k blank)) }
+    ensures memory { OnErr result ((k : ℕ) → slice_index_or items.new.items k blank ≡ slice_index_or items.old.items k blank) }
+{
+    reach(items, n, blank)?;
+    items[n as usize] = item;
+    Ok(())
+}
