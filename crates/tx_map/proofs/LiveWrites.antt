@@ -122,3 +122,11 @@ refusal-none p k ws e = by (has_voted p ws) (find (is_of_another p k) ws) (nat_l
     by true o many e = absurd (cc e)
     by false (Some w) many e = absurd (cc e)
     by false None many e = refl
+
+-- nor a vote of the pair
+pub refusal-voted : (p : Pair) (k : ℕ) (ws : List LiveWrite) → put_refusal p k ws ≡ None → has_voted p ws ≡ false
+refusal-voted p k ws e = by (has_voted p ws) e
+  where
+    by : (v : Bool) → cond v (Some (Over p.0 p.1)) (refused_by (find (is_of_another p k) ws) (nat_le KEYS (other_keys p k ws))) ≡ None → v ≡ false
+    by true e = absurd (cc e)
+    by false e = refl

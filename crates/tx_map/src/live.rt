@@ -1,62 +1,51 @@
-//! The live writes: which a pair has, its vote, and how they end.
-ghost use Rattle.std.specs.Prelude.{◌≡◌, find, map, vec_capacity};
-ghost use Rattle.tx_map.specs.Live.{has_live, others, write_key};
+//! The live writes: where a put goes, a pair's vote, and how they end.
+ghost use Rattle.std.specs.Prelude.{◌≡◌, Some, None, IfErr, IfOk, OnOk, map, vec_capacity};
+ghost use Rattle.tx_map.specs.Live.{others, write_key};
 ghost use Rattle.tx_map.specs.Notes.{marked};
-ghost use Rattle.tx_map.specs.Order.{IsRising};
-ghost use Rattle.tx_map.specs.Puts.{has_voted, is_of_another, other_keys, put_refusal};
+ghost use Rattle.tx_map.specs.Order.{IsAt, IsGapFor, IsRising};
+ghost use Rattle.tx_map.specs.Pairs.{AreTallied};
+ghost use Rattle.tx_map.specs.Puts.{put_refusal};
 
-use crate::order::find_by_key;
+use crate::order::search;
+use crate::pairs::{Tallies, tally};
 use crate::refusal::{KEYS, MapRefusal};
 use crate::write::LiveWrite;
 use dtx_values::{EnlNo, TxNo};
 
-/// Whether the pair has a live write.
-pub fn has_live(live: &[LiveWrite], t: TxNo, e: EnlNo) -> bool
-    ensures { result ≡ has_live (t, e) live.now }
+/// Where a put of the key goes: to the place of the pair's own write of it, or of one that it would add. Else why the put is refused.
+pub fn place(
+    live: &[LiveWrite],
+    pairs: &Tallies,
+    t: TxNo,
+    e: EnlNo,
+    key: u32,
+) -> Result<Result<usize, usize>, MapRefusal>
+    requires rises { IsRising write_key live.now }
+    requires tallied { AreTallied live.now pairs.now }
+    ensures refused { IfErr result (λ r. put_refusal (t, e) key live.now ≡ Some r) }
+    ensures allowed { OnOk result (put_refusal (t, e) key live.now ≡ None) }
+    ensures own { IfOk result (λ at. IfOk at (IsAt write_key live.now key)) }
+    ensures new { IfOk result (λ at. IfErr at (IsGapFor write_key live.now key)) }
 {
-    live.iter().any(|w| w.is_of(t, e))
-}
-
-/// Whether the pair voted since a live write.
-fn has_voted(live: &[LiveWrite], t: TxNo, e: EnlNo) -> bool
-    ensures { result ≡ has_voted (t, e) live.now }
-{
-    live.iter().any(|w| w.is_of(t, e) && w.voted)
-}
-
-/// How many other keys the pair has live writes of.
-fn other_keys(live: &[LiveWrite], t: TxNo, e: EnlNo, key: u32) -> usize
-    ensures { result ≡ other_keys (t, e) key live.now }
-{
-    live.iter()
-        .filter(|w| w.is_of(t, e) && w.key != key)
-        .count()
-}
-
-/// Another pair's live write of the key.
-fn other_write(live: &[LiveWrite], t: TxNo, e: EnlNo, key: u32) -> Option<LiveWrite>
-    requires { IsRising write_key live.now }
-    ensures { result ≡ find (is_of_another (t, e) key) live.now }
-{
-    let w = find_by_key(live, key)?;
-    if w.is_of(t, e) { None } else { Some(w) }
-}
-
-/// Why a put is refused, but for memory.
-pub fn refusal(live: &[LiveWrite], t: TxNo, e: EnlNo, key: u32) -> Option<MapRefusal>
-    requires { IsRising write_key live.now }
-    ensures { result ≡ put_refusal (t, e) key live.now }
-{
-    if has_voted(live, t, e) {
-        return Some(MapRefusal::Over(t, e));
+    let tally = tally(pairs, t, e);
+    if tally.voted {
+        return Err(MapRefusal::Over(t, e));
     }
-    if let Some(w) = other_write(live, t, e, key) {
-        return Some(MapRefusal::Busy(w.transaction, w.enlistment));
+    let at = search(live, key);
+    let others = match at {
+        Ok(at) => {
+            let w = live[at];
+            if !w.is_of(t, e) {
+                return Err(MapRefusal::Busy(w.transaction, w.enlistment));
+            }
+            tally.keys - 1
+        }
+        Err(_) => tally.keys,
+    };
+    if others >= KEYS {
+        return Err(MapRefusal::TooMany(KEYS));
     }
-    if other_keys(live, t, e, key) >= KEYS {
-        return Some(MapRefusal::TooMany(KEYS));
-    }
-    None
+    Ok(at)
 }
 
 /// The write, marked as voted where it is the pair's.

@@ -1,19 +1,22 @@
 //! The map.
-ghost use Rattle.std.specs.Prelude.{◌≡◌, ◌≤◌, [], IfErr, OnErr, OnOk, length, vec_capacity};
+ghost use Rattle.std.specs.Prelude.{◌≡◌, ◌≤◌, false, [], None, IfErr, OnErr, OnOk, length, vec_capacity};
 ghost use Rattle.std.specs.List.{insert};
 ghost use Rattle.tx_map.specs.Live.{base_at, entry_key, get_at};
 ghost use Rattle.tx_map.specs.Room.{HasRoom};
 ghost use Rattle.tx_map.specs.Notes.{after_note, vote_of};
 ghost use Rattle.tx_map.specs.Order.{IsRising};
-ghost use Rattle.tx_map.specs.Puts.{after_put, put_error, put_refusal};
+ghost use Rattle.tx_map.specs.Pairs.{AreTallied};
+ghost use Rattle.tx_map.specs.Puts.{after_put, has_voted, put_error, put_refusal};
 
-use crate::live::{forget, has_live, mark, refusal};
+use crate::live::{forget, mark, place};
 use crate::merge::merge;
-use crate::order::{find_by_key, search};
+use crate::order::find_by_key;
+use crate::pairs::{Tallies, forget_tally, keep_tally, mark_tally, tally};
 use crate::refusal::MapRefusal;
 use crate::write::{LiveWrite, MapEntry};
 use dtx_values::{EnlNo, Note, Reply, Resource, TxNo, Vote};
 use std::alloc::{AllocError, Global};
+use std::collections::BTreeMap;
 use std::marker::Model;
 use std::mem;
 
@@ -22,6 +25,8 @@ use std::mem;
 pub struct TxMap {
     base: Vec<MapEntry>,
     live: Vec<LiveWrite>,
+    /// What a put has to know of a pair's live writes.
+    pairs: Tallies,
     /// Empty, with room for the next base: Commit takes no memory.
     spare: Vec<MapEntry>,
 }
@@ -38,29 +43,39 @@ impl Model for TxMap {
     ghost invariant = { IsKept };
 }
 
-/// Adds the write at its place, once there is room for a base with all live writes, and for the next one.
+/// Adds the write at its place, and counts it, once there is room for a base with all live writes, and for the next one.
 fn add(
     base: &mut Vec<MapEntry>,
     spare: &mut Vec<MapEntry>,
     live: &mut Vec<LiveWrite>,
+    pairs: &mut Tallies,
     at: usize,
     write: LiveWrite,
 ) -> Result<(), AllocError>
-    requires { at ≤ length live.old.items }
+    requires at { at ≤ length live.old.items }
+    requires tallied { AreTallied live.old.items pairs.old }
+    requires not_voted { has_voted (write.transaction, write.enlistment) live.old.items ≡ false }
+    requires new { write.voted ≡ false }
     ensures base { base.new.items ≡ base.old.items }
     ensures spare { spare.new.items ≡ spare.old.items }
     ensures base_room { vec_capacity base.old ≤ vec_capacity base.new }
     ensures spare_room { vec_capacity spare.old ≤ vec_capacity spare.new }
     ensures live { OnOk result (live.new.items ≡ insert live.old.items at write) }
     ensures unchanged { OnErr result (live.new.items ≡ live.old.items) }
+    ensures tallied { AreTallied live.new.items pairs.new }
     ensures made { OnOk result (HasRoom base.new.items live.new.items (vec_capacity base.new)) }
     ensures next { OnOk result (HasRoom base.new.items live.new.items (vec_capacity spare.new)) }
 {
     let writes = live.len() + 1;
     base.reserve(writes)?;
     spare.reserve(base.len() + writes)?;
-    live.insert(at, write)?;
-    Ok(())
+    live.reserve(1)?;
+    let keys = tally(pairs, write.transaction, write.enlistment).keys + 1;
+    keep_tally(pairs, write.transaction, write.enlistment, keys)?;
+    match live.insert(at, write) {
+        Ok(()) => Ok(()),
+        Err(_) => unreachable!(),
+    }
 }
 
 impl TxMap {
@@ -72,6 +87,7 @@ impl TxMap {
         TxMap {
             base: Vec::new(alloc),
             live: Vec::new(alloc),
+            pairs: BTreeMap::new(alloc),
             spare: Vec::new(alloc),
         }
     }
@@ -117,9 +133,7 @@ impl TxMap {
         ensures allowed { OnOk result (put_refusal (t, e) key self.old.live ≡ None) }
         ensures written { OnOk result (self.new ≡ after_put (t, e) key value self.old) }
     {
-        if let Some(r) = refusal(&self.live, t, e, key) {
-            return Err(r);
-        }
+        let at = place(&self.live, &self.pairs, t, e, key)?;
         let write = LiveWrite {
             transaction: t,
             enlistment: e,
@@ -127,9 +141,16 @@ impl TxMap {
             value,
             voted: false,
         };
-        match search(&self.live, key) {
+        match at {
             Ok(at) => self.live[at] = write,
-            Err(at) => match add(&mut self.base, &mut self.spare, &mut self.live, at, write) {
+            Err(at) => match add(
+                &mut self.base,
+                &mut self.spare,
+                &mut self.live,
+                &mut self.pairs,
+                at,
+                write,
+            ) {
                 Ok(()) => {}
                 Err(_) => return Err(MapRefusal::Memory),
             },
@@ -142,13 +163,12 @@ impl TxMap {
         ensures vote { result ≡ vote_of (t, e) self.old }
         ensures marked { self.new ≡ after_note self.old (t, e) Note.Prepare }
     {
-        let vote = if has_live(&self.live, t, e) {
+        mark(&mut self.live, t, e);
+        if mark_tally(&mut self.pairs, t, e) {
             Vote::Yes
         } else {
             Vote::Done
-        };
-        mark(&mut self.live, t, e);
-        vote
+        }
     }
 
     /// Moves the pair's live writes into the base.
@@ -159,6 +179,7 @@ impl TxMap {
         mem::swap(&mut self.base, &mut self.spare);
         self.spare.clear();
         forget(&mut self.live, t, e);
+        forget_tally(&mut self.pairs, t, e);
     }
 
     /// Drops the pair's live writes.
@@ -166,6 +187,7 @@ impl TxMap {
         ensures { self.new ≡ after_note self.old (t, e) Note.Rollback }
     {
         forget(&mut self.live, t, e);
+        forget_tally(&mut self.pairs, t, e);
     }
 }
 
