@@ -1,10 +1,12 @@
-mod Tables
-mod Finding
+pub mod Tables
+mod Rising
+pub mod Finding
+mod Under
 mod Files
 mod Loops
 mod Again
 mod Marked
 mod Turning
 mod Refusing
-mod Giving
+pub mod Giving
 mod Noting

@@ -1,13 +1,13 @@
 -- The loops over the writes of a record, read and written, and over the slots of a store.
-use Rattle.std.proofs.Common.{◌≡◌, ℕ, suc, ◌-◌, ◌+◌, ◌*◌, ◌≤◌, ◌<◌, Bool, true, false, eqb, nat_lt, List, [], ◌∷◌, ◌++◌, length, get_or, take, drop, Result, Ok, Err, Option, Some, None, refl, sym, ap, ◌∙◌, arith}
+use Rattle.std.proofs.Common.{◌≡◌, ℕ, suc, ◌-◌, ◌+◌, ◌*◌, ◌≤◌, ◌<◌, Bool, true, false, List, [], ◌∷◌, ◌++◌, length, get_or, take, drop, Result, Ok, Err, Option, Some, None, refl, sym, ap, ◌∙◌, arith}
 use Rattle.std.proofs.lemmas.Bool.Decides.{nat_tests}
 use Rattle.std.proofs.lemmas.List.{append-nil, at_drop_more, drop_all, take_more, flat_map_more}
 use Rattle.std.specs.Prelude.{is_some, find}
 use Rattle.std.specs.List.{flat_map}
 use Rattle.slotted.proofs.Fronts.{regroup, with_front}
 use Rattle.kv_resource.specs.Bytes.{KvRecord, are_spelled, is_above, number32, number64, write_bytes, writes_at}
-use Rattle.kv_resource.specs.Store.{above_highest, get_in, open_records, place_in, with_write, with_writes}
-use Rattle.kv_resource.proofs.Tables.{get_here, get_other, spelled_of, spelled_parts}
+use Rattle.kv_resource.specs.Store.{above_highest, open_records}
+use Rattle.kv_resource.proofs.Tables.{spelled_of, spelled_parts}
 
 -- ---- reading
 
@@ -67,53 +67,6 @@ spelled_push before (x ∷ ws) w e a kf vf =
 -- the bytes of one more write
 pub write_more : (f : List ℕ) (ws : Writes) (i : ℕ) (d : ℕ × ℕ) → i < length ws → (f ++ flat_map write_bytes (take i ws)) ++ write_bytes (get_or ws i d) ≡ f ++ flat_map write_bytes (take (i + 1) ws)
 write_more f ws i d lt = flat_map_more write_bytes f (take i ws) (get_or ws i d) ∙ ap (λ (l : Writes). f ++ flat_map write_bytes l) (sym (take_more ws i d lt))
-
--- ---- the place of a write
-
-pub place_passed : (k : ℕ) (ws : Writes) (i : ℕ) (d : ℕ × ℕ) → i < length ws → (get_or ws i d).0 < k → place_in k (drop i ws) ≡ suc (place_in k (drop (i + 1) ws))
-place_passed k ws i d lt less =
-    let test : nat_lt (get_or ws i d).0 k ≡ true = grind (arith, nat_tests) in
-    at_drop_more (place_in k) ws i d lt ∙ (rw test refl)
-
-pub place_here : (k : ℕ) (ws : Writes) (i : ℕ) (d : ℕ × ℕ) → i < length ws → k ≤ (get_or ws i d).0 → place_in k (drop i ws) ≡ 0
-place_here k ws i d lt le =
-    let test : nat_lt (get_or ws i d).0 k ≡ false = grind (arith, nat_tests) in
-    at_drop_more (place_in k) ws i d lt ∙ (rw test refl)
-
-pub place_past : (k : ℕ) (ws : Writes) (i : ℕ) → length ws ≤ i → place_in k (drop i ws) ≡ 0
-place_past k ws i le = ap (place_in k) (drop_all i ws le)
-
--- ---- the value after writes
-
--- what the rest of the writes gives from here on
-pub record IsValueBefore (key : ℕ) (all t : Writes) (rest : Writes) (value : Option ℕ) : Type 0 where
-  pub table : Writes
-  pub has : get_in key table ≡ value
-  pub rest_is : with_writes rest table ≡ with_writes all t
-
-pub value_here : (key : ℕ) (all t ws : Writes) (i : ℕ) (d : ℕ × ℕ) (value : Option ℕ) → i < length ws → key ≡ (get_or ws i d).0 → IsValueBefore key all t (drop i ws) value
-    → IsValueBefore key all t (drop (i + 1) ws) (Some (get_or ws i d).1)
-value_here key all t ws i d value lt same v =
-    let w : ℕ × ℕ = get_or ws i d in
-    record {
-      table = with_write w.0 w.1 v.table;
-      has = ap (λ (k : ℕ). get_in k (with_write w.0 w.1 v.table)) same ∙ get_here w.0 w.1 v.table;
-      rest_is = sym (at_drop_more (λ (l : Writes). with_writes l v.table) ws i d lt) ∙ v.rest_is;
-    }
-
-pub value_there : (key : ℕ) (all t ws : Writes) (i : ℕ) (d : ℕ × ℕ) (value : Option ℕ) → i < length ws → (key ≡ (get_or ws i d).0 → ⊥) → IsValueBefore key all t (drop i ws) value
-    → IsValueBefore key all t (drop (i + 1) ws) value
-value_there key all t ws i d value lt other v =
-    let w : ℕ × ℕ = get_or ws i d in
-    let test : eqb key w.0 ≡ false = grind (arith, nat_tests) in
-    record {
-      table = with_write w.0 w.1 v.table;
-      has = get_other key w.0 w.1 v.table test ∙ v.has;
-      rest_is = sym (at_drop_more (λ (l : Writes). with_writes l v.table) ws i d lt) ∙ v.rest_is;
-    }
-
-pub value_done : (key : ℕ) (all t ws : Writes) (i : ℕ) (value : Option ℕ) → length ws ≤ i → IsValueBefore key all t (drop i ws) value → value ≡ get_in key (with_writes all t)
-value_done key all t ws i value le v = sym v.has ∙ ap (get_in key) (ap (λ (l : Writes). with_writes l v.table) (sym (drop_all i ws le)) ∙ v.rest_is)
 
 -- ---- the first that passes
 

@@ -1,38 +1,10 @@
--- What a key has after writes, and where a write goes among others.
+-- Where a write goes among others.
 use Rattle.std.specs.Prelude.{insert}
-use Rattle.std.proofs.Common.{◌≡◌, inl, inr, ℕ, suc, ◌≤◌, ◌<◌, Bool, true, false, ◌&&◌, eqb, nat_lt, List, [], ◌∷◌, length, get_or, set, Option, Some, None, refl, sym, ap, ◌∙◌, arith}
+use Rattle.std.proofs.Common.{◌≡◌, inl, inr, ℕ, suc, ◌≤◌, ◌<◌, Bool, true, false, ◌&&◌, eqb, nat_lt, List, [], ◌∷◌, length, get_or, set, Option, Some, refl, sym, ap, ◌∙◌, arith}
 use Rattle.std.proofs.lemmas.Bool.{cases_Bool}
 use Rattle.std.proofs.lemmas.Bool.Decides.{nat_tests}
 use Rattle.kv_resource.specs.Bytes.{are_spelled, is_above}
-use Rattle.kv_resource.specs.Store.{get_in, place_in, with_write, wrote_key}
-
--- a key has what was written to it
-pub get_here : (k v : ℕ) (t : List (ℕ × ℕ)) → get_in k (with_write k v t) ≡ Some v
-get_here k v [] = let here : eqb k k ≡ true = grind (arith, nat_tests) in rw here refl
-get_here k v (w ∷ t) =
-    let here : eqb k k ≡ true = grind (arith, nat_tests) in
-    elim (cases_Bool (nat_lt w.0 k)) [
-      | inl below ↦ let other : eqb k w.0 ≡ false = grind (arith, nat_tests) in rw (below, other) (get_here k v t)
-      | inr above ↦ elim (cases_Bool (eqb w.0 k)) [
-        | inl same ↦ rw (above, same, here) refl
-        | inr other ↦ rw (above, other, here) refl
-      ]
-    ]
-
--- and another key has what it had
-pub get_other : (j k v : ℕ) (t : List (ℕ × ℕ)) → eqb j k ≡ false → get_in j (with_write k v t) ≡ get_in j t
-get_other j k v [] not = rw not refl
-get_other j k v (w ∷ t) not =
-    elim (cases_Bool (nat_lt w.0 k)) [
-      | inl below ↦ elim (cases_Bool (eqb j w.0)) [
-        | inl here ↦ rw (below, here) refl
-        | inr other ↦ rw (below, other) (get_other j k v t not)
-      ]
-      | inr above ↦ elim (cases_Bool (eqb w.0 k)) [
-        | inl same ↦ let other : eqb j w.0 ≡ false = grind (arith, nat_tests) in rw (above, same, not, other) refl
-        | inr other ↦ rw (above, other, not) refl
-      ]
-    ]
+use Rattle.kv_resource.specs.Store.{place_in, with_write, wrote_key}
 
 -- a write goes to its place, in place of one to the same key
 pub write_over : (k v : ℕ) (ws : List (ℕ × ℕ)) (d : ℕ × ℕ) → place_in k ws < length ws → (get_or ws (place_in k ws) d).0 ≡ k → set ws (place_in k ws) (k, v) ≡ with_write k v ws
@@ -90,11 +62,6 @@ spelled_parts before w ws e = parts (is_above before w.0) (nat_lt w.0 4294967296
 pub spelled_of : (before : Option ℕ) (w : ℕ × ℕ) (ws : List (ℕ × ℕ)) → is_above before w.0 ≡ true → nat_lt w.0 4294967296 ≡ true → nat_lt w.1 18446744073709551616 ≡ true → are_spelled (Some w.0) ws ≡ true
     → are_spelled before (w ∷ ws) ≡ true
 spelled_of before w ws a b c d = rw (a, b, c, d) refl
-
--- behind a key that rises above another, what is spelled is spelled behind the other
-above_less : (j k : ℕ) (before : Option ℕ) → is_above before j ≡ true → j < k → is_above before k ≡ true
-above_less j k None e lt = refl
-above_less j k (Some b) e lt = grind (arith, nat_tests)
 
 -- writes stay spelled with one more
 pub write_spelled : (before : Option ℕ) (k v : ℕ) (ws : List (ℕ × ℕ)) → is_above before k ≡ true → k < 4294967296 → v < 18446744073709551616 → are_spelled before ws ≡ true → are_spelled before (with_write k v ws) ≡ true

@@ -1,5 +1,6 @@
 pub mod Bytes
 pub mod Store
+pub mod Table
 pub mod Refusals
 pub mod Notes
 pub mod Images

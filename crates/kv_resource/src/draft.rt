@@ -1,8 +1,8 @@
 //! What an enlistment wrote.
-ghost use Rattle.std.specs.Prelude.{◌≡◌, ◌≤◌, ◌<◌, ◌⊎◌, ℕ, List, [], ◌∷◌, length, nat_lt, ◌||◌, true, None, IsTrue};
+ghost use Rattle.std.specs.Prelude.{◌≡◌, ◌≤◌, ◌<◌, ◌⊎◌, [], ◌∷◌, length, nat_lt, ◌||◌, true, None, IsTrue};
 ghost use Rattle.arrayvec.specs.ArrayVec.{array_vec_len};
 ghost use Rattle.kv_resource.specs.Bytes.{are_spelled};
-ghost use Rattle.kv_resource.specs.Store.{get_in, is_draft_of, place_in, with_write, with_writes, wrote_key};
+ghost use Rattle.kv_resource.specs.Store.{is_draft_of, place_in, with_write, wrote_key};
 
 use crate::layout::KEYS;
 use arrayvec::ArrayVec;
@@ -101,19 +101,6 @@ impl Draft {
         ensures { self.new ≡ record { transaction = self.old.transaction; enlistment = self.old.enlistment; writes = with_write key value self.old.writes } }
     {
         put_write(&mut self.writes, key, value);
-    }
-
-    /// What the key has after these writes, where it had this before.
-    pub fn value_after(&self, key: u32, before: Option<u64>) -> Option<u64>
-        ensures { (t : List (ℕ × ℕ)) → get_in key t ≡ before → result ≡ get_in key (with_writes self.now.writes t) }
-    {
-        let mut value = before;
-        for w in self.writes.as_slice() {
-            if key == w.0 {
-                value = Some(w.1);
-            }
-        }
-        value
     }
 }
 

@@ -16,11 +16,12 @@ use crate::doubts::InDoubt;
 use crate::draft::Draft;
 use crate::drafts::{busy_draft, draft_at};
 use crate::layout::{KEYS, KV_BYTES};
-use crate::opening::{close_all, read_all, slot_room, store_head};
+use crate::opening::{close_all, read_all, row_room, slot_room, store_head};
 use crate::record::Record;
 use crate::refusal::KvRefusal;
+use crate::rows::{fill, value_in};
 use crate::slots::{
-    busy_slot, is_marked, mark_slot, next_slot, slot_of, unmarked_slot_of, value_of,
+    busy_slot, is_marked, mark_slot, next_slot, put_marked, slot_of, unmarked_slot_of,
 };
 use dtx_values::{EnlNo, Note, Outcome, Reply, Resource, TxNo, Vote};
 use outside::{Disk, Failed};
@@ -34,23 +35,28 @@ use std::marker::Model;
 ///
 /// What was put for an enlistment is a draft until its Prepare, or its Hand, writes it. Until a call of its disk fails, the slots in memory are those on the disk, and each image
 /// that a crash can leave has the same records. Then the store is stopped for good: it calls its disk no more, and takes no put. After its making no call but `put` takes memory.
+///
+/// Its table is in memory too, the keys rising, so that a key is found by halving. Room for each row that its slots may ever have is taken at its making.
 #[derive(Drop)]
 pub struct Kv<D: Disk> {
     disk: D,
     slots: Vec<Option<Record>>,
     drafts: Vec<Draft>,
+    table: Vec<(u32, u64)>,
     stopped: bool,
 }
 
 impl<D: Disk> Model for Kv<D> {
     ghost use Rattle.kv_resource.specs.Images.{IsKept};
+    ghost use Rattle.std.specs.Prelude.{vec_capacity};
     ghost use Rattle.kv_resource.specs.Store.{KvMemory, KvState};
+    ghost use Rattle.kv_resource.specs.Table.{IsTabled};
 
     ghost Value = { KvState D };
 
     ghost view = { λ k. record { disk = k.disk; memory = record { slots = k.slots.items; drafts = k.drafts.items; stopped = k.stopped } } };
 
-    ghost invariant = { λ k. IsKept D.honest (D.seen k.disk) (D.image k.disk) (D.size k.disk) (record { slots = k.slots.items; drafts = k.drafts.items; stopped = k.stopped }) };
+    ghost invariant = { λ k. IsKept D.honest (D.seen k.disk) (D.image k.disk) (D.size k.disk) (record { slots = k.slots.items; drafts = k.drafts.items; stopped = k.stopped }) × IsTabled k.table.items (vec_capacity k.table) k.slots.items };
 }
 
 impl<D: Disk> Kv<D> {
@@ -76,6 +82,10 @@ impl<D: Disk> Kv<D> {
             Ok(slots) => slots,
             Err(_) => return Err((KvRefusal::Memory, disk)),
         };
+        let table = match row_room(alloc) {
+            Ok(table) => table,
+            Err(_) => return Err((KvRefusal::Memory, disk)),
+        };
         let blanks = match zeros(alloc, KV_BYTES as usize) {
             Ok(blanks) => blanks,
             Err(_) => return Err((KvRefusal::Memory, disk)),
@@ -89,6 +99,7 @@ impl<D: Disk> Kv<D> {
             disk,
             slots,
             drafts: Vec::new(alloc),
+            table,
             stopped: false,
         })
     }
@@ -120,17 +131,25 @@ impl<D: Disk> Kv<D> {
             Ok(slots) => slots,
             Err(_) => return Err((KvRefusal::Memory, disk)),
         };
+        let mut table = match row_room(alloc) {
+            Ok(table) => table,
+            Err(_) => return Err((KvRefusal::Memory, disk)),
+        };
         match disk.sync() {
             Ok(()) => (),
             Err(_) => return Err((KvRefusal::Fault, disk)),
         }
         match read_all(&mut disk, &mut slots) {
-            Ok(()) => Ok(Kv {
-                disk,
-                slots,
-                drafts: Vec::new(alloc),
-                stopped: false,
-            }),
+            Ok(()) => {
+                fill(&mut table, &slots);
+                Ok(Kv {
+                    disk,
+                    slots,
+                    drafts: Vec::new(alloc),
+                    table,
+                    stopped: false,
+                })
+            }
             Err(e) => Err((e, disk)),
         }
     }
@@ -182,11 +201,18 @@ impl<D: Disk> Kv<D> {
         }
     }
 
-    /// What the key has in the table: what the marked records wrote, in order of slots.
+    /// What the key has in the table: what the marked records wrote, in order of slots. It is found by halving.
     pub fn get(&self, key: u32) -> Option<u64>
         ensures { result ≡ get_in key (table_of (open_records self.now.memory.slots)) }
     {
-        value_of(&self.slots, key)
+        value_in(&self.table, key)
+    }
+
+    /// The table: a row for each key, the keys rising, with the value that [`get`](Kv::get) finds.
+    pub fn table(&self) -> &[(u32, u64)]
+        ensures { result.now ≡ table_of (open_records self.now.memory.slots) }
+    {
+        &self.table
     }
 
     /// The enlistments in doubt, in order of slots: they prepared, and have neither committed nor rolled back.
@@ -205,6 +231,7 @@ impl<D: Disk> Kv<D> {
             disk,
             slots: _,
             drafts: _,
+            table: _,
             stopped: _,
         } = self;
         disk
@@ -240,7 +267,10 @@ impl<D: Disk> Kv<D> {
     {
         let result = mark(&mut self.disk, k);
         match result {
-            Ok(()) => mark_slot(&mut self.slots, k),
+            Ok(()) => {
+                put_marked(&mut self.table, &self.slots, k);
+                mark_slot(&mut self.slots, k);
+            }
             Err(_) => self.stopped = true,
         }
         result

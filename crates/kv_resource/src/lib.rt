@@ -24,6 +24,7 @@ mod opening;
 mod reading;
 mod record;
 mod refusal;
+mod rows;
 mod slots;
 mod writing;
 

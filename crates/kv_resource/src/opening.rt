@@ -1,11 +1,11 @@
 //! Reads a store from a disk.
-ghost use Rattle.std.specs.Prelude.{◌≡◌, ◌⊎◌, ◌≤◌, ◌++◌, ℕ, [], length, map, replicate, take, vec_capacity, IfErr, IfOk, OnOk, IsErrOf, IsTrue, Err, Ok, None};
+ghost use Rattle.std.specs.Prelude.{◌≡◌, ◌⊎◌, ◌≤◌, ◌*◌, ◌++◌, ℕ, [], length, map, replicate, take, vec_capacity, IfErr, IfOk, OnOk, IsErrOf, IsTrue, Err, Ok, None};
 ghost use Rattle.outside.specs.Disk.{AreWithin};
 ghost use Rattle.outside.specs.Faults.{Rose};
 ghost use Rattle.slotted.specs.Slotted.{formed};
 ghost use Rattle.kv_resource.specs.Bytes.{kv_has, kv_head, kv_slots};
 
-use crate::layout::{KV_BYTES, LETTERS};
+use crate::layout::{KEYS, KV_BYTES, LETTERS};
 use crate::reading::read_slot;
 use crate::record::Record;
 use crate::refusal::KvRefusal;
@@ -23,6 +23,18 @@ pub fn slot_room(alloc: Global) -> Result<Vec<Option<Record>>, AllocError>
     ensures room { IfOk result (λ v. vec_capacity v ≡ SLOTS) }
 {
     Vec::with_capacity(alloc, SLOTS)
+}
+
+/// Room for the rows of a store: for all that its slots may ever have.
+///
+/// # Errors
+///
+/// Where no memory was left.
+pub fn row_room(alloc: Global) -> Result<Vec<(u32, u64)>, AllocError>
+    ensures empty { IfOk result (λ v. v.items ≡ []) }
+    ensures room { IfOk result (λ v. vec_capacity v ≡ KEYS * SLOTS) }
+{
+    Vec::with_capacity(alloc, KEYS * SLOTS)
 }
 
 /// Closes each slot.

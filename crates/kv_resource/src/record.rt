@@ -1,10 +1,13 @@
 //! A record: a draft that is on the disk.
-ghost use Rattle.std.specs.Prelude.{◌≡◌, ◌&&◌, not, ℕ, List, true, ◌∷◌, []};
+ghost use Rattle.std.specs.Prelude.{◌≡◌, ◌+◌, ◌≤◌, ◌&&◌, not, true, vec_capacity, vec_len};
 ghost use Rattle.kv_resource.specs.Bytes.{with_mark};
 ghost use Rattle.kv_resource.specs.Notes.{record_with};
-ghost use Rattle.kv_resource.specs.Store.{get_in, is_busy_record, is_record_of, is_unmarked_of, table_onto};
+ghost use Rattle.kv_resource.specs.Store.{is_busy_record, is_record_of, is_unmarked_of};
+ghost use Rattle.kv_resource.specs.Table.{IsRising, is_marked_write, with_writes_under};
 
 use crate::draft::Draft;
+use crate::layout::KEYS;
+use crate::rows::put_rows;
 use dtx_values::{EnlNo, TxNo};
 use std::marker::Model;
 
@@ -77,14 +80,22 @@ impl Record {
         !self.marked && !self.draft.is_of(t, e) && self.draft.has(key)
     }
 
-    /// What the key has after this record, where it had this before.
-    pub fn value_after(&self, key: u32, before: Option<u64>) -> Option<u64>
-        ensures { (t : List (ℕ × ℕ)) → get_in key t ≡ before → result ≡ get_in key (table_onto t (self.now ∷ [])) }
+    /// Whether it is marked, and wrote the key.
+    pub fn is_marked_write(&self, key: u32) -> bool
+        ensures { result ≡ is_marked_write key self.now }
     {
-        if self.marked {
-            self.draft.value_after(key, before)
-        } else {
-            before
-        }
+        self.marked && self.draft.has(key)
+    }
+
+    /// Puts what it wrote to the rows, but for keys that a marked record of the later slots wrote. There is room for it.
+    pub fn put_rows(&self, rows: &mut Vec<(u32, u64)>, later: &[Option<Record>])
+        requires rises { IsRising rows.old.items }
+        requires room { vec_len rows.old + KEYS ≤ vec_capacity rows.old }
+        ensures items { rows.new.items ≡ with_writes_under later.now self.now.writes rows.old.items }
+        ensures rises { IsRising rows.new.items }
+        ensures few { vec_len rows.new ≤ vec_len rows.old + KEYS }
+        ensures capacity { vec_capacity rows.old ≤ vec_capacity rows.new }
+    {
+        put_rows(rows, self.draft.writes(), later);
     }
 }

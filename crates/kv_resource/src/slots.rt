@@ -1,8 +1,10 @@
 //! The slots of a store in memory.
-ghost use Rattle.std.specs.Prelude.{◌≡◌, ◌≤◌, length, find, position, set, ◌<◌, slice_index_or, None, Some, true};
+ghost use Rattle.std.specs.Prelude.{◌≡◌, ◌≤◌, length, find, position, set, ◌<◌, slice_index_or, vec_capacity, None, Some, true, IsTrue};
 ghost use Rattle.std.specs.Option.{option_map};
 ghost use Rattle.kv_resource.specs.Bytes.{KvRecord, with_mark};
-ghost use Rattle.kv_resource.specs.Store.{get_in, is_busy_record, is_record_of, is_unmarked_of, next_slot, numbers_of, on_open, open_records, pair_of_record, table_of};
+ghost use Rattle.dtx_model.specs.Words.{has};
+ghost use Rattle.kv_resource.specs.Store.{is_busy_record, is_record_of, is_unmarked, is_unmarked_of, next_slot, numbers_of, on_open, open_records, pair_of_record};
+ghost use Rattle.kv_resource.specs.Table.{IsTabled, is_marked_write};
 
 use crate::record::Record;
 use dtx_values::{EnlNo, TxNo};
@@ -57,6 +59,18 @@ pub fn mark_slot(slots: &mut [Option<Record>], k: usize)
     }
 }
 
+/// Puts the rows of slot k, whose record is about to be marked, under those of the slots after it.
+pub fn put_marked(rows: &mut Vec<(u32, u64)>, slots: &[Option<Record>], k: usize)
+    requires slot { k < length slots.now }
+    requires unmarked { IsTrue (on_open is_unmarked (slice_index_or slots.now k None)) }
+    requires tabled { IsTabled rows.old.items (vec_capacity rows.old) slots.now }
+    ensures { (r : KvRecord) → slice_index_or slots.now k None ≡ Some r → IsTabled rows.new.items (vec_capacity rows.new) (set slots.now k (Some (with_mark true r))) }
+{
+    if let Some(r) = &slots[k] {
+        r.put_rows(rows, &slots[k + 1..]);
+    }
+}
+
 /// The first other enlistment that is in doubt and wrote the key.
 pub fn busy_slot(slots: &[Option<Record>], t: TxNo, e: EnlNo, key: u32) -> Option<(TxNo, EnlNo)>
     ensures { option_map numbers_of result ≡ option_map pair_of_record (find (is_busy_record (t.value, e.value) key) (open_records slots.now)) }
@@ -71,17 +85,11 @@ pub fn busy_slot(slots: &[Option<Record>], t: TxNo, e: EnlNo, key: u32) -> Optio
     None
 }
 
-/// What the key has in the table.
-pub fn value_of(slots: &[Option<Record>], key: u32) -> Option<u64>
-    ensures { result ≡ get_in key (table_of (open_records slots.now)) }
+/// Whether a marked record of these slots wrote the key.
+pub fn is_overwritten(slots: &[Option<Record>], key: u32) -> bool
+    ensures { result ≡ has (on_open (is_marked_write key)) slots.now }
 {
-    let mut value = None;
-    for slot in slots {
-        if let Some(r) = slot {
-            value = r.value_after(key, value);
-        }
-    }
-    value
+    slots.iter().any(|s| is_marked_write(s, key))
 }
 
 // Whether a slot is open, with a record of this enlistment.
@@ -90,6 +98,16 @@ fn is_of(slot: &Option<Record>, t: TxNo, e: EnlNo) -> bool
 {
     match slot {
         Some(r) => r.is_of(t, e),
+        None => false,
+    }
+}
+
+// Whether a slot is open, with a marked record that wrote the key.
+fn is_marked_write(slot: &Option<Record>, key: u32) -> bool
+    ensures { result ≡ on_open (is_marked_write key) slot.now }
+{
+    match slot {
+        Some(r) => r.is_marked_write(key),
         None => false,
     }
 }

@@ -3,4 +3,4 @@ use Rattle.kv_resource.proofs.Files.{kv_file}
 use Rattle.kv_resource.proofs.kv.Kv.into_disk.Goals as goal
 
 pub returns-clause-images : goal.returns-clause-images
-returns-clause-images g c = rw (← c.self.view_is) (λ h up. file_agrees kv_file _ _ _ (c.self.invariant.stored h up))
+returns-clause-images g c = rw (← c.self.view_is) (λ h up. file_agrees kv_file _ _ _ (c.self.invariant.0.stored h up))

@@ -22,7 +22,7 @@ close-requires-clause-unmarked g c =
     let old = c.args.self.now in
     let p : Pair = (c.args.t.value, c.args.e.value) in
     let dropped = c.drop_draft.ensures in
-    let mid = subst (λ (s : KvState g.row.D.Denot). IsKept g.D.Disk.honest (g.D.Disk.seen s.disk) (g.D.Disk.image s.disk) (g.D.Disk.size s.disk) s.memory) (c.self.view_is ∙ dropped) c.self.invariant in
+    let mid = subst (λ (s : KvState g.row.D.Denot). IsKept g.D.Disk.honest (g.D.Disk.seen s.disk) (g.D.Disk.image s.disk) (g.D.Disk.size s.disk) s.memory) (c.self.view_is ∙ dropped) c.self.invariant.0 in
     let kept : IsKept g.D.Disk.honest (g.D.Disk.seen old.disk) (g.D.Disk.image old.disk) (g.D.Disk.size old.disk) old.memory = record { stored = mid.stored; whole = mid.whole; room = mid.room; many = mid.many } in
     let slots = ap (λ s. s.memory.slots) (c.self.view_is ∙ dropped) in
     let stopped = ap (λ s. s.memory.stopped) (c.self.view_is ∙ dropped) in
@@ -36,7 +36,7 @@ returns-in_default g c =
     let old = c.args.self.now in
     let p : Pair = (c.args.t.value, c.args.e.value) in
     let dropped = c.drop_draft.ensures in
-    let mid = subst (λ (s : KvState g.row.D.Denot). IsKept g.D.Disk.honest (g.D.Disk.seen s.disk) (g.D.Disk.image s.disk) (g.D.Disk.size s.disk) s.memory) (c.self.view_is ∙ dropped) c.self.invariant in
+    let mid = subst (λ (s : KvState g.row.D.Denot). IsKept g.D.Disk.honest (g.D.Disk.seen s.disk) (g.D.Disk.image s.disk) (g.D.Disk.size s.disk) s.memory) (c.self.view_is ∙ dropped) c.self.invariant.0 in
     let kept : IsKept g.D.Disk.honest (g.D.Disk.seen old.disk) (g.D.Disk.image old.disk) (g.D.Disk.size old.disk) old.memory = record { stored = mid.stored; whole = mid.whole; room = mid.room; many = mid.many } in
     let slots = ap (λ s. s.memory.slots) (c.self.view_is ∙ dropped) in
     let stopped = ap (λ s. s.memory.stopped) (c.self.view_is ∙ dropped) in
@@ -49,7 +49,7 @@ returns-then-self g c =
     let old = c.args.self.now in
     let p : Pair = (c.args.t.value, c.args.e.value) in
     let dropped = c.drop_draft.ensures in
-    let mid = subst (λ (s : KvState g.row.D.Denot). IsKept g.D.Disk.honest (g.D.Disk.seen s.disk) (g.D.Disk.image s.disk) (g.D.Disk.size s.disk) s.memory) (c.self.view_is ∙ dropped) c.self.invariant in
+    let mid = subst (λ (s : KvState g.row.D.Denot). IsKept g.D.Disk.honest (g.D.Disk.seen s.disk) (g.D.Disk.image s.disk) (g.D.Disk.size s.disk) s.memory) (c.self.view_is ∙ dropped) c.self.invariant.0 in
     let kept : IsKept g.D.Disk.honest (g.D.Disk.seen old.disk) (g.D.Disk.image old.disk) (g.D.Disk.size old.disk) old.memory = record { stored = mid.stored; whole = mid.whole; room = mid.room; many = mid.many } in
     let slots = ap (λ s. s.memory.slots) (c.self.view_is ∙ dropped) in
     let stopped = ap (λ s. s.memory.stopped) (c.self.view_is ∙ dropped) in
@@ -62,7 +62,7 @@ returns g c =
     let old = c.args.self.now in
     let p : Pair = (c.args.t.value, c.args.e.value) in
     let dropped = c.drop_draft.ensures in
-    let mid = subst (λ (s : KvState g.row.D.Denot). IsKept g.D.Disk.honest (g.D.Disk.seen s.disk) (g.D.Disk.image s.disk) (g.D.Disk.size s.disk) s.memory) (c.self.view_is ∙ dropped) c.self.invariant in
+    let mid = subst (λ (s : KvState g.row.D.Denot). IsKept g.D.Disk.honest (g.D.Disk.seen s.disk) (g.D.Disk.image s.disk) (g.D.Disk.size s.disk) s.memory) (c.self.view_is ∙ dropped) c.self.invariant.0 in
     let kept : IsKept g.D.Disk.honest (g.D.Disk.seen old.disk) (g.D.Disk.image old.disk) (g.D.Disk.size old.disk) old.memory = record { stored = mid.stored; whole = mid.whole; room = mid.room; many = mid.many } in
     let slots = ap (λ s. s.memory.slots) (c.self.view_is ∙ dropped) in
     let stopped = ap (λ s. s.memory.stopped) (c.self.view_is ∙ dropped) in
