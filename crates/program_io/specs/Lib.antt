@@ -1,4 +1,5 @@
 pub mod FormText
+pub mod InputRead
 pub mod Judged
 pub mod Listed
 pub mod Refusal

@@ -7,7 +7,7 @@ use Rattle.program_words.specs.Commands.{Asks, form_words, is_command, is_count,
 use Rattle.program_words.specs.declared.command.Form.{Form}
 use Rattle.program_words.specs.declared.command.Form.TheVariants.{Plain, Wire, Json, Summary, Why, Html}
 use Rattle.program_words.specs.declared.command.Command.{Command}
-use Rattle.program_words.specs.declared.command.Command.TheVariants.{Replay, Make, Demo, Threads, Log, Check}
+use Rattle.program_words.specs.declared.command.Command.TheVariants.{Replay, Make, Demo, Threads, Log, Check, Store, Map}
 
 few : (n : ℕ) → is_count n ≡ true → n < 2 ^ 64
 few n h = let k : n ≤ 256 = grind (arith, nat_tests) in omega arith
@@ -116,6 +116,14 @@ is_check : (d : Command) → kind d ≡ kind Check → d ≡ Check
 is_check Check e = refl
 is_check d e = absurd (omega arith)
 
+is_store : (d : Command) → kind d ≡ kind Store → d ≡ Store
+is_store Store e = refl
+is_store d e = absurd (omega arith)
+
+is_map : (d : Command) → kind d ≡ kind Map → d ≡ Map
+is_map Map e = refl
+is_map d e = absurd (omega arith)
+
 replays : (f g : Form) → words_of (Replay f) ≡ words_of (Replay g) → Replay f ≡ Replay g
 replays f g e = ap Replay (forms f g (behind _ _ _ e))
 
@@ -147,6 +155,8 @@ same (Threads i f) d h k e =
     threads i r.0 f r.1 h (sym (ap is_command r.2) ∙ k) (e ∙ ap words_of r.2) ∙ sym r.2
 same Log d h k e = sym (is_log d (sym (ap kinds e)))
 same Check d h k e = sym (is_check d (sym (ap kinds e)))
+same Store d h k e = sym (is_store d (sym (ap kinds e)))
+same Map d h k e = sym (is_map d (sym (ap kinds e)))
 
 pub one_command : (ws : List (List ℕ)) (c d : Command) → Asks ws c → Asks ws d → c ≡ d
 one_command ws c d a b = same c d a.within b.within (sym a.words ∙ b.words)

@@ -3,7 +3,7 @@ use Rattle.std.specs.Prelude.{ℕ, ◌≡◌, Bool, true, false, nat_le, ◌&&�
 use Rattle.program_words.specs.declared.command.Form.{Form}
 use Rattle.program_words.specs.declared.command.Form.TheVariants.{Plain, Wire, Json, Summary, Why, Html}
 use Rattle.program_words.specs.declared.command.Command.{Command}
-use Rattle.program_words.specs.declared.command.Command.TheVariants.{Replay, Make, Demo, Threads, Log, Check}
+use Rattle.program_words.specs.declared.command.Command.TheVariants.{Replay, Make, Demo, Threads, Log, Check, Store, Map}
 
 -- the words that ask for a form
 abbrev pub form_words : Form → List (List ℕ)
@@ -22,6 +22,8 @@ words_of (Demo n) = codes "demo" ∷ decimal n ∷ []
 words_of (Threads h f) = codes "threads" ∷ decimal h ∷ form_words f
 words_of Log = codes "log" ∷ []
 words_of Check = codes "check" ∷ []
+words_of Store = codes "store" ∷ []
+words_of Map = codes "map" ∷ []
 
 -- so many transactions can be made: from 1 to 256
 abbrev pub is_count : ℕ → Bool
@@ -45,6 +47,8 @@ is_command (Demo n) = is_count n
 is_command (Threads h f) = is_form_on_threads f && is_helpers h
 is_command Log = true
 is_command Check = true
+is_command Store = true
+is_command Map = true
 
 -- the words ask for this command
 pub record Asks (ws : List (List ℕ)) (c : Command) : Type 0 where

@@ -32,4 +32,8 @@ pub enum Command {
     Log,
     /// Check the trace that is read, and write whether it is fine, or its first bad entry.
     Check,
+    /// Put the values that are read into a key store, replay the script after them with the store as manager r1, and write the store's table.
+    Store,
+    /// The same with a map in memory, which answers for all volatiles.
+    Map,
 }

@@ -20,6 +20,10 @@ const LOG: &[u8] = b"log";
 
 const CHECK: &[u8] = b"check";
 
+const STORE: &[u8] = b"store";
+
+const MAP: &[u8] = b"map";
+
 const WIRE: &[u8] = b"--wire";
 
 const JSON: &[u8] = b"--json";
@@ -96,6 +100,8 @@ fn single_of(word: &[u8]) -> Option<Command>
     match word {
         LOG => Some(Command::Log),
         CHECK => Some(Command::Check),
+        STORE => Some(Command::Store),
+        MAP => Some(Command::Map),
         _ => None,
     }
 }

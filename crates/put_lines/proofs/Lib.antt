@@ -4,6 +4,7 @@ pub mod FrontLines
 pub mod FrontTexts
 pub mod Goods
 pub mod KeyTables
+pub mod LongerInputs
 pub mod NameTables
 pub mod OneInput
 pub mod Refusing

@@ -1,8 +1,8 @@
 -- What the top call promises of a run of a script holds at each of the three places where one ends: where no script came that can be run, where the run gave no trace, and where its text was written, or a part of it.
-use Rattle.std.proofs.Common.{◌≡◌, ℕ, ◌≤◌, ◌⊎◌, inl, inr, IsTrue, false, List, [], ◌++◌, drop, Option, Some, refl, sym, subst, ◌∙◌, ◌+◌}
+use Rattle.std.proofs.Common.{◌≡◌, ℕ, ◌≤◌, ◌⊎◌, inl, inr, arith, IsTrue, false, List, [], ◌++◌, drop, Some, refl, sym, subst, ◌∙◌, ◌+◌}
 use Rattle.std.proofs.Math.Nat.{le_refl}
 use Rattle.std.specs.Option.{ForSome}
-use Rattle.std.specs.Prelude.{true, Result, Ok, Err, IfErr, IfOk, IsErrOf}
+use Rattle.std.specs.Prelude.{true}
 use Rattle.outside.specs.Faults.{Rose}
 use Rattle.dtx_values.specs.declared.limits.TheConstants.{SCRIPT_BYTES}
 use Rattle.dtx_values.specs.declared.script.Line.{Line}
@@ -24,7 +24,7 @@ use Rattle.replay_runs.specs.Ending.{AreOwnLogs, IsLog}
 use Rattle.replay_runs.specs.LogRun.{MetNoFault}
 use Rattle.script_runner.specs.Program.{HasRun, IsRunBy}
 use Rattle.program_words.specs.declared.command.Command.{Command}
-use Rattle.program_words.specs.declared.command.Command.TheVariants.{Replay as AskReplay, Threads as AskThreads, Make as AskMake, Demo as AskDemo, Log as AskLog, Check as AskCheck}
+use Rattle.program_words.specs.declared.command.Command.TheVariants.{Replay as AskReplay, Threads as AskThreads, Make as AskMake, Demo as AskDemo, Log as AskLog, Check as AskCheck, Store as AskStore, Map as AskMap}
 use Rattle.script_runner.specs.Promises.{Devices, Does, RunsScript, TellsFaults, Telling, devices}
 use Rattle.script_runner.proofs.Programs.{NeverBoth}
 use Rattle.script_runner.proofs.Refusals.{IsOfText, OneCause, OneScript, bad_answer, bad_never, do_answer, do_never, good_answer, made_bad, made_do, made_done, made_other, not_judged}
@@ -200,6 +200,8 @@ faults_of tell (AskMake n) k old x new does = does.faults
 faults_of tell (AskDemo n) k old x new does = does.faults
 faults_of tell AskLog k old x new does = does.faults
 faults_of tell AskCheck k old x new does = does.faults
+faults_of tell AskStore k old x new does = (does (record { value = 1; in_range = (omega arith, omega arith) }) refl).faults
+faults_of tell AskMap k old x new does = does.faults
 
 -- where nothing is done, there is none
 pub no_faults : {S K D : Type 0} (tell : Telling S K D) (old : Devices S K D) → TellsFaults tell old Usage old

@@ -1,7 +1,7 @@
 -- The records of the log after a replay are those of the script's transactions.
-use Rattle.std.proofs.Common.{◌≡◌, ℕ, zero, suc, ◌+◌, ◌-◌, ◌<◌, ◌≤◌, ◌⊎◌, inl, inr, Bool, true, false, ◌&&◌, ◌||◌, IsTrue, List, [], ◌∷◌, ◌++◌, filter, length, take, Option, Some, None, arith, cond, refl, ap, sym, ◌∙◌, subst}
+use Rattle.std.proofs.Common.{◌≡◌, ℕ, zero, suc, ◌+◌, ◌-◌, ◌<◌, ◌≤◌, ◌⊎◌, inl, inr, Bool, true, false, ◌||◌, List, [], ◌∷◌, ◌++◌, filter, length, take, Option, Some, None, arith, refl, ap, sym, ◌∙◌, subst}
 use Rattle.std.specs.List.{range_with_len}
-use Rattle.std.specs.Prelude.{◌==◌, slice_get, Ok, if◌then◌else◌}
+use Rattle.std.specs.Prelude.{◌==◌, slice_get, if◌then◌else◌}
 use Rattle.std.proofs.lemmas.Bool.{or_right}
 use Rattle.std.proofs.lemmas.Bool.Decides.{nat_tests}
 use Rattle.dtx_values.specs.declared.call.Call.{Call}
@@ -12,15 +12,15 @@ use Rattle.dtx_values.specs.declared.number.TxNo.{TxNo}
 use Rattle.dtx_values.specs.declared.script.Line.{Line}
 use Rattle.dtx_model.specs.declared.waiting.EnteredCall.{EnteredCall}
 use Rattle.dtx_model.specs.Acts.{act_entries}
-use Rattle.dtx_model.specs.AtLog.{is_known, is_log_up}
+use Rattle.dtx_model.specs.AtLog.{is_known}
 use Rattle.dtx_model.specs.Caused.{FreelyCaused, IsCallOf, MayCome, Ran, is_begin_sent}
 use Rattle.dtx_model.specs.Contexts.{calls_by, lines_before}
 use Rattle.dtx_model.specs.Coordinated.{coordinate, may_free, may_log}
 use Rattle.dtx_model.specs.Grammar.{IsScript, OfTransaction, is_made}
-use Rattle.dtx_model.specs.Log.{CommitRecord, is_record_of, log_has}
+use Rattle.dtx_model.specs.Log.{CommitRecord, is_record_of}
 use Rattle.dtx_model.specs.Observed.{observe}
 use Rattle.dtx_model.specs.Promotes.{identifier_of}
-use Rattle.dtx_model.specs.Steps.{Step, Acts, Calls, Coordinates, Delivers, Replies, Restarts, Stops, after}
+use Rattle.dtx_model.specs.Steps.{Step, Acts, Calls, Coordinates, Delivers, Replies, Restarts, Stops}
 use Rattle.dtx_model.specs.Traces.{Placed, history}
 use Rattle.dtx_model.specs.Words.{all_of, each, has, kth, onto, past_of, put}
 use Rattle.dtx_model.specs.Replies.{due_of}
@@ -33,7 +33,7 @@ use Rattle.tx_cells.specs.Board.{transactions_of}
 use Rattle.tx_cells.specs.LogCell.{AreOwn, is_own}
 use Rattle.turn_parts.specs.Runs.{EachHolds}
 use Rattle.thread_runs.specs.Run.{EndsOnThreads}
-use Rattle.replay_runs.specs.Ending.{AreOfTransactions, AreOwnLogs, IsLogOf, MayBeRecorded}
+use Rattle.replay_runs.specs.Ending.{AreOwnLogs, IsLogOf, MayBeRecorded}
 
 -- Records of a run's transactions are of a script's transactions: a number among those that pass lies in the range.
 abbrev InRange : (p : ℕ → Bool) (n a : ℕ) → Type 0

@@ -1,30 +1,26 @@
 -- From what the parts of the top call say to what it promises.
-use Rattle.std.proofs.Common.{◌≡◌, ℕ, Bool, ◌&&◌, IsTrue, ◌≤◌, ◌⊎◌, inl, inr, false, List, [], length, take, drop, filter, Option, Some, None, ap, refl, sym, ◌∙◌, subst, arith}
+use Rattle.std.proofs.Common.{◌≡◌, ℕ, Bool, ◌&&◌, IsTrue, ◌⊎◌, inl, inr, List, [], filter, None, ap, refl, sym, ◌∙◌, subst}
 use Rattle.std.proofs.Math.Bool.{and-true}
-use Rattle.std.proofs.Math.ListN.{drop_of_length-le}
-use Rattle.std.proofs.lemmas.List.{length-take, take_all}
-use Rattle.std.specs.Option.{ForSome}
 use Rattle.std.specs.Prelude.{Result, Ok, Err, IfOk}
 use Rattle.outside.specs.Faults.{Rose}
 use Rattle.dtx_values.specs.declared.script.Line.{Line}
 use Rattle.dtx_values.specs.declared.script.BadCause.{BadCause}
-use Rattle.dtx_model.specs.AtLog.{has_log_line, is_log_up}
+use Rattle.dtx_model.specs.AtLog.{is_log_up}
 use Rattle.dtx_model.specs.Faults.{Bad}
 use Rattle.dtx_model.specs.Grammar.{Reads}
 use Rattle.dtx_model.specs.Log.{CommitRecord, is_record_of, log_has}
 use Rattle.dtx_model.specs.Outcome.{is_empty}
-use Rattle.dtx_model.specs.Promotes.{identifier_of}
 use Rattle.dtx_model.specs.Traces.{Placed}
-use Rattle.dtx_model.specs.Words.{has, past_of}
+use Rattle.dtx_model.specs.Words.{past_of}
 use Rattle.coordinator_log.specs.Crash.{AllHold}
 use Rattle.coordinator_log.specs.Slots.{open_records}
 use Rattle.coordinator_log.specs.State.{LogState}
 use Rattle.tx_world.specs.AtLog.{AreLogs}
 use Rattle.turn_parts.specs.Runs.{EachHolds}
-use Rattle.replay_runs.specs.Ending.{AreOfTransactions, AreOwnLogs, AreRecorded, EndsAs, HasNone, IsLog, IsLogOf, MayBeRecorded}
+use Rattle.replay_runs.specs.Ending.{AreOfTransactions, AreOwnLogs, AreRecorded, EndsAs, IsLog, IsLogOf, MayBeRecorded}
 use Rattle.replay_runs.specs.LogRun.{AreForeignSame, IsForeignKept, LogGoes, LogStays, MetNoFault}
 use Rattle.replay_runs.specs.Lawful.{IsLawful}
-use Rattle.script_runner.specs.Program.{HasNoLogLine, IsReplayOf}
+use Rattle.script_runner.specs.Program.{IsReplayOf}
 use Rattle.replay_runs.specs.Run.{IsRunOf}
 
 -- where a log has no record, each image that has its records has none

@@ -1,5 +1,5 @@
 -- The answer where no script to be run came of the source is the only one that fits.
-use Rattle.std.proofs.Common.{◌≡◌, ℕ, ◌⊎◌, inl, inr, List, Option, Some, ap, refl, sym, ◌∙◌, subst}
+use Rattle.std.proofs.Common.{◌≡◌, ℕ, ◌⊎◌, inl, inr, List, Option, Some, refl, sym, ◌∙◌, subst}
 use Rattle.std.specs.Option.{ForSome}
 use Rattle.dtx_values.specs.declared.script.BadCause.{BadCause}
 use Rattle.dtx_values.specs.declared.script.Line.{Line}
@@ -11,7 +11,7 @@ use Rattle.program_io.specs.Refusal.{IsGoodFor, IsOnThreads, IsRunnable, Refuses
 use Rattle.program_io.specs.declared.exit.Exit.{Exit}
 use Rattle.program_io.specs.declared.exit.Exit.TheVariants.{BadScript, BadTrace, Fine, LogFault, Memory, NotALog, NotThreadable, ReadFault, Usage, WriteFault}
 use Rattle.program_io.specs.declared.way.Way.{Way}
-use Rattle.program_io.specs.declared.way.Way.TheVariants.{Replay, Threads}
+use Rattle.program_io.specs.declared.way.Way.TheVariants.{Replay}
 use Rattle.script_runner.proofs.Programs.{NeverBoth}
 use Rattle.program_io.proofs.Threadable.{some_do}
 

@@ -1,5 +1,5 @@
 -- What the top call promises of a check holds where no trace came of the source, and where what was found of it was written, or a part of it.
-use Rattle.std.proofs.Common.{◌≡◌, ℕ, ◌⊎◌, inl, inr, List, [], ◌++◌, drop, Option, Some, refl, sym, subst, ◌∙◌, ◌+◌}
+use Rattle.std.proofs.Common.{◌≡◌, ℕ, ◌⊎◌, inl, inr, List, [], ◌++◌, drop, Option, Some, refl, subst, ◌+◌}
 use Rattle.std.proofs.Math.Nat.{le_refl}
 use Rattle.std.specs.Option.{ForSome}
 use Rattle.outside.specs.Faults.{Rose}

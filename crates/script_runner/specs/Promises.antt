@@ -1,10 +1,11 @@
--- What the top call promises of each command. `tell` is what the source, the sink and the disk tell of themselves; `old` is how the call found the three, and `new` how it left them.
-use Rattle.std.specs.Prelude.{ℕ, ◌+◌, ◌≡◌, ◌≢◌, ◌≤◌, ◌⊎◌, ◌++◌, Bool, List, [], drop, Err, Option, Some, IsTrue}
+-- What the top call promises of each command.
+use Rattle.std.specs.Prelude.{ℕ, ◌+◌, ◌≡◌, ◌≢◌, ◌⊎◌, ◌++◌, List, [], drop, Err, Option, Some, IsTrue}
 use Rattle.std.specs.Option.{ForSome}
-use Rattle.outside.specs.Faults.{Rose}
 use Rattle.dtx_values.specs.declared.limits.TheConstants.{SCRIPT_BYTES}
+use Rattle.dtx_values.specs.declared.number.RmNo.{RmNo}
 use Rattle.dtx_values.specs.declared.script.BadCause.{BadCause}
 use Rattle.dtx_values.specs.declared.script.Line.{Line}
+use Rattle.dtx_model.specs.Caused.{Manager, Volatiles}
 use Rattle.dtx_model.specs.Faults.{Bad}
 use Rattle.dtx_model.specs.Log.{log_has}
 use Rattle.dtx_model.specs.Traces.{Placed}
@@ -20,7 +21,7 @@ use Rattle.program_io.specs.declared.exit.Exit.TheVariants.{BadScript, BadTrace,
 use Rattle.program_io.specs.declared.way.Way.{Way}
 use Rattle.program_io.specs.declared.way.Way.TheVariants.{Replay as ReplayWay, Threads as ThreadsWay}
 use Rattle.program_words.specs.declared.command.Command.{Command}
-use Rattle.program_words.specs.declared.command.Command.TheVariants.{Check, Demo, Log, Make, Replay, Threads}
+use Rattle.program_words.specs.declared.command.Command.TheVariants.{Check, Demo, Log, Make, Map, Replay, Store, Threads}
 use Rattle.program_words.specs.declared.command.Form.{Form}
 use Rattle.program_words.specs.declared.command.Form.TheVariants.{Summary}
 use Rattle.replay_runs.specs.Ending.{AreOwnLogs, IsLog}
@@ -28,58 +29,9 @@ use Rattle.replay_runs.specs.LogRun.{MetNoFault}
 use Rattle.script_maker.specs.Gen.{gen}
 use Rattle.trace_checker.specs.Keeps.{IsChecked}
 use Rattle.trace_checker.specs.declared.checked.Checked.{Checked}
+pub use Rattle.script_runner.specs.Devices.{ComesUnlessUnread, Devices, MetNoFaults, Telling, TellsFaults, devices, telling}
 use Rattle.script_runner.specs.Program.{HasNoLogLine, IsCutShort, IsRunBy, IsWritten}
-
--- a source, a sink and a disk
-pub record Devices (S K D : Type 0) : Type 0 where
-  pub source : S
-  pub sink : K
-  pub disk : D
-
-abbrev pub devices : {S K D : Type 0} → S → K → D → Devices S K D
-devices s k d = record { source = s; sink = k; disk = d }
-
--- What they tell: the bytes that are left to read, and those that were written, where they are told; whether the disk is honest, what a read of it gives, what a crash may leave, its length; and the count of faults of each.
-pub record Telling (S K D : Type 0) : Type 1 where
-  pub left : S → Option (List ℕ)
-  pub source_faults : S → ℕ
-  pub written : K → Option (List ℕ)
-  pub sink_faults : K → ℕ
-  pub honest : Bool
-  pub seen : D → List ℕ
-  pub image : D → List ℕ → Type 0
-  pub size : D → ℕ
-  pub disk_faults : D → ℕ
-
-abbrev pub telling : {S K D : Type 0} → (S → Option (List ℕ)) → (S → ℕ) → (K → Option (List ℕ)) → (K → ℕ)
-    → Bool → (D → List ℕ) → (D → List ℕ → Type 0) → (D → ℕ) → (D → ℕ) → Telling S K D
-telling left source_faults written sink_faults honest seen image size disk_faults = record {
-  left = left;
-  source_faults = source_faults;
-  written = written;
-  sink_faults = sink_faults;
-  honest = honest;
-  seen = seen;
-  image = image;
-  size = size;
-  disk_faults = disk_faults;
-}
-
--- no count of faults rose
-pub record MetNoFaults {S K D : Type 0} (tell : Telling S K D) (old new : Devices S K D) : Type 0 where
-  pub source : MetNoFault tell.source_faults old.source new.source
-  pub disk : MetNoFault tell.disk_faults old.disk new.disk
-  pub sink : MetNoFault tell.sink_faults old.sink new.sink
-
--- Which faults an answer tells of. The disk's are those while the log was formatted or read for its listing. The answer that names a fault came where that count rose. Where it names none of the source's or the sink's, that count is as it was; where it names
--- none of the disk's, that count didn't fall.
-pub record TellsFaults {S K D : Type 0} (tell : Telling S K D) (old : Devices S K D) (exit : Exit) (new : Devices S K D) : Type 0 where
-  pub read_fault : exit ≡ ReadFault → Rose (tell.source_faults old.source) (tell.source_faults new.source)
-  pub log_fault : exit ≡ LogFault → Rose (tell.disk_faults old.disk) (tell.disk_faults new.disk)
-  pub write_fault : exit ≡ WriteFault → Rose (tell.sink_faults old.sink) (tell.sink_faults new.sink)
-  pub read_smooth : exit ≢ ReadFault → tell.source_faults new.source ≡ tell.source_faults old.source
-  pub log_grows : exit ≢ LogFault → tell.disk_faults old.disk ≤ tell.disk_faults new.disk
-  pub write_smooth : exit ≢ WriteFault → tell.sink_faults new.sink ≡ tell.sink_faults old.sink
+use Rattle.script_runner.specs.Tables.{RunsTable}
 
 -- The runs that the call may have done, this way, with this many managers that have an object: over the disk as it was, to the disk as it is.
 abbrev pub IsRunOver : {S K D : Type 0} → Telling S K D → Way → ℕ → Devices S K D → Devices S K D → List Line → List Placed → Type 0
@@ -91,10 +43,6 @@ pub record WritesRun {K : Type 0} (written : K → Option (List ℕ)) (P : List 
   pub cut_short : exit ≡ WriteFault → IsCutShort P f given (written old) (written new)
   pub memory : exit ≡ Memory → (new ≡ old) ⊎ IsCutShort P f given (written old) (written new)
   pub unwritten : (exit ≡ ReadFault) ⊎ ((exit ≡ LogFault) ⊎ IsJudged exit) → new ≡ old
-
--- the answer is this one, but where the source met a fault or memory ran out
-abbrev pub ComesUnlessUnread : Exit → Exit → Type 0
-ComesUnlessUnread wanted exit = (exit ≡ wanted) ⊎ ((exit ≡ ReadFault) ⊎ (exit ≡ Memory))
 
 -- How the input is judged. BadScript(n, c) comes exactly where line n is the first bad one and c its first cause, NotThreadable(n) exactly where threads were asked for and line n is the first `do` of the script; both after the input was read to its end, or one
 -- byte past the longest script.
@@ -195,3 +143,5 @@ Does tell (Make n) k = MakesScript tell n
 Does tell (Demo n) k = ShowsDemo tell n k
 Does tell Log k = ListsLog tell
 Does tell Check k = ChecksTrace tell
+Does tell Store k = λ old exit new. (r : RmNo) → r.value ≡ 1 → RunsTable tell (Manager r) old exit new
+Does tell Map k = RunsTable tell Volatiles

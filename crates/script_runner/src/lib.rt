@@ -6,6 +6,8 @@ mod checks;
 mod found_fine;
 mod program;
 mod running;
+mod table;
+mod tables;
 mod threads;
 
 pub use arrows::each_run_has_its_arrows;

@@ -3,6 +3,9 @@ ghost use Rattle.std.specs.Prelude.{◌≡◌, ◌≢◌, ◌⊎◌, ◌↔◌, 
 ghost use Rattle.std.specs.Option.{ForSome};
 ghost use Rattle.std.specs.String.{string_bytes};
 ghost use Rattle.outside.specs.Faults.{Rose};
+ghost use Rattle.dtx_values.specs.declared.number.RmNo.{RmNo};
+ghost use Rattle.dtx_model.specs.Caused.{Manager};
+ghost use Rattle.heard_notes.specs.Whose.{whose};
 ghost use Rattle.coordinator_log.specs.declared.layout.TheConstants.{LOG_BYTES};
 ghost use Rattle.program_io.specs.Transfer.{IsPartWritten};
 ghost use Rattle.program_io.specs.declared.way.Way.{Way};
@@ -18,7 +21,9 @@ ghost use Rattle.script_runner.specs.Promises.{Does, RunsScript, TellsFaults, Wr
 use crate::arrows::each_run_has_its_arrows;
 use crate::checks::check_in;
 use crate::running::traced_anew;
-use dtx_values::Resource;
+use crate::tables::table_in;
+use dtx_values::{Resource, RmNo};
+use heard_notes::Of;
 use outside::{Disk, Gate, Sink, Source, SureSource};
 use program_io::{Exit, Way, list_in, script_from, written, written_in};
 use program_words::{Command, Form, command_of};
@@ -111,6 +116,16 @@ fn demo_in<K: Sink, D: Disk + Send, G: Gate + Sync, R: Threads + Wait + Sync>(
     run_in(way, Form::Summary, &mut source, sink, disk, setting)
 }
 
+/// The enlistments of manager r1.
+fn of_first_manager() -> Of
+    ensures { (r : RmNo) → r.value ≡ 1 → whose result ≡ Manager r }
+{
+    match RmNo::new(1) {
+        Some(first) => Of::Manager(first),
+        None => unreachable!(),
+    }
+}
+
 /// Does what a command says.
 fn run_command<S: Source, K: Sink, D: Disk + Send, G: Gate + Sync, R: Threads + Wait + Sync>(
     command: Command,
@@ -137,6 +152,8 @@ fn run_command<S: Source, K: Sink, D: Disk + Send, G: Gate + Sync, R: Threads + 
         Command::Demo(n) => demo_in(n, sink, disk, setting),
         Command::Log => list_in(setting.alloc, sink, disk),
         Command::Check => check_in(setting.alloc, source, sink, disk),
+        Command::Store => table_in(setting.alloc, of_first_manager(), source, sink, disk),
+        Command::Map => table_in(setting.alloc, Of::Volatiles, source, sink, disk),
     }
 }
 
@@ -150,13 +167,15 @@ fn run_command<S: Source, K: Sink, D: Disk + Send, G: Gate + Sync, R: Threads + 
 /// | `demo N` | formats the log, replays that script, and writes the summary |
 /// | `log` | reads the log that is on the disk, changes nothing of it, and writes a line for each slot whose gate is open, and one that says how many there are |
 /// | `check` | reads a trace in the plain form from the source, and writes whether it is fine, or its first bad entry and what that loses |
+/// | `store` | reads puts and a script from the source, formats the log, replays the script over a new key store that has the puts and hears the notes of manager r1's enlistments, and writes the rows that are in it at the end |
+/// | `map` | the same over a map in memory that hears the notes of all volatiles |
 ///
 /// The object at place k of `resources`, from 0, is that of manager r(k + 1): it hears the notes of its manager's enlistments to which a reply is due, and its answers are the replies. Where the list has no object for a
-/// manager, and for volatiles, the script's plans reply. On threads the gate is called before each reply.
+/// manager, and for volatiles, the script's plans reply. On threads the gate is called before each reply. `store` and `map` don't use the list: for who hasn't the table as object, the plans reply.
 ///
 /// It hands the disk back, which has at least [`LOG_BYTES`](crate::LOG_BYTES) bytes: [`Disk::len`] tells whether it has.
 ///
-/// The source is read to its end, or one byte past the longest script or the longest trace, before anything is judged. The disk is touched only where a script is run or the log is listed, and the sink only where
+/// The source is read to its end, or one byte past the longest script, input or trace, before anything is judged. The disk is touched only where a script is run or the log is listed, and the sink only where
 /// the log was formatted or read, or a script is made. A fault is answered as the fault that it is, but for one of the disk after the log
 /// was formatted: that stops the log, which the trace says.
 pub fn run_program<S: Source, K: Sink, D: Disk + Send, G: Gate + Sync, R: Threads + Wait + Sync>(

@@ -1,5 +1,4 @@
 use Rattle.std.proofs.Common.{ℕ, List, Some, ap, arith, refl, subst, ◌∙◌}
-use Rattle.std.proofs.lemmas.Grind.{common_steps}
 use Rattle.dtx_model.specs.Grammar.{Reads}
 use Rattle.script_maker.specs.Gen.{gen}
 use Rattle.script_runner.proofs.Refusals.{not_on_threads, sure_answer}

@@ -1,9 +1,12 @@
-use Rattle.std.proofs.Common.{◌≡◌, refl, subst, sym, vec_len}
+use Rattle.std.proofs.Common.{refl, subst, sym, vec_len}
 use Rattle.std.proofs.Math.Nat.{le_refl}
 use Rattle.program_io.specs.declared.exit.Exit.TheVariants.{LogFault, ReadFault, Usage}
 use Rattle.program_words.specs.declared.command.Command.{Command}
-use Rattle.script_runner.specs.Promises.{Devices, Does, Telling, devices, telling}
+use Rattle.script_runner.specs.Promises.{Does, devices, telling}
+use Rattle.script_runner.specs.Tables.{RunsTable}
+use Rattle.dtx_model.specs.Caused.{Of}
 use Rattle.script_runner.proofs.Refusals.{check_asked, list_asked, list_unread, made_done, made_other, sure_asked, sure_done, sure_unread}
+use Rattle.script_runner.proofs.Tabled.{table_asked}
 use Rattle.script_runner.proofs.program.run_command.Goals as goal
 
 pub returns-in-Replay-clause-does : goal.returns-in-Replay-clause-does
@@ -106,3 +109,22 @@ returns-in-Check-clause-does g c =
 
 pub returns-in-Check-clause-asked : goal.returns-in-Check-clause-asked
 returns-in-Check-clause-asked g c e = check_asked c.check_in.result.0 c.check_in.ensures.checks.answers e
+
+pub returns-in-Store-clause-does : goal.returns-in-Store-clause-does
+returns-in-Store-clause-does g c =
+    let tell = telling g.S.Source.left g.S.Source.faults g.K.Sink.written g.K.Sink.faults g.D.Disk.honest g.D.Disk.seen g.D.Disk.image g.D.Disk.size g.D.Disk.faults in
+    let old = devices c.args.source.now c.args.sink.now c.args.disk in
+    let new = devices c.table_in.new.source c.table_in.new.sink c.table_in.result.1 in
+    subst (λ (d : Command). Does tell d (vec_len c.args.setting.resources) old c.table_in.result.0 new)
+    (sym c.in-Store.is) (λ r first. subst (λ (o : Of). RunsTable tell o old c.table_in.result.0 new) (c.of_first_manager.ensures r first) c.table_in.ensures.runs)
+
+pub returns-in-Map-clause-does : goal.returns-in-Map-clause-does
+returns-in-Map-clause-does g c =
+    subst (λ (d : Command). Does (telling g.S.Source.left g.S.Source.faults g.K.Sink.written g.K.Sink.faults g.D.Disk.honest g.D.Disk.seen g.D.Disk.image g.D.Disk.size g.D.Disk.faults) d (vec_len c.args.setting.resources) (devices c.args.source.now c.args.sink.now c.args.disk) c.table_in-in-Map.result.0 (devices c.table_in-in-Map.new.source c.table_in-in-Map.new.sink c.table_in-in-Map.result.1))
+    (sym c.in-Map.is) c.table_in-in-Map.ensures.runs
+
+pub returns-in-Store-clause-asked : goal.returns-in-Store-clause-asked
+returns-in-Store-clause-asked g c e = table_asked c.table_in.result.0 c.table_in.ensures.runs.answers e
+
+pub returns-in-Map-clause-asked : goal.returns-in-Map-clause-asked
+returns-in-Map-clause-asked g c e = table_asked c.table_in-in-Map.result.0 c.table_in-in-Map.ensures.runs.answers e

@@ -1,0 +1,16 @@
+pub mod Pairs
+pub mod Acts
+pub mod Effects
+pub mod Lasting
+pub mod Dues
+pub mod Laws
+pub mod Standing
+pub mod Following
+pub mod Drafts
+pub mod Writes
+pub mod Table
+pub mod Loading
+pub mod Start
+pub mod Willing
+pub mod Reached
+pub mod Runs
