@@ -1,5 +1,4 @@
 pub mod Keys
-pub mod Tables
 pub mod Lefts
 pub mod Marking
 pub mod Owning

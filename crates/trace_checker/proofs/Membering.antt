@@ -16,11 +16,33 @@ use Rattle.dtx_values.specs.Class.{is_volatile}
 use Rattle.dtx_model.specs.Entries.{is_any_owner, is_hand, is_one_got, is_owner, is_single_sent, is_vote, is_vote_got, same_outcome}
 use Rattle.dtx_model.specs.Outcome.{volatiles}
 use Rattle.dtx_model.specs.Words.{has}
+use Rattle.trace_checker.specs.declared.members.Ballot.{Ballot}
+use Rattle.trace_checker.specs.declared.members.Dealings.{Dealings}
 use Rattle.trace_checker.specs.declared.members.Member.{Member}
 use Rattle.trace_checker.specs.declared.members.Members.{Members}
-use Rattle.trace_checker.specs.Members.{IsMemberOf, IsMembersOf, about, fresh, is_one_message, is_vote_message, member, member_after}
+use Rattle.trace_checker.specs.Members.{IsMemberOf, IsMembersOf, ballot, ballot_after, blank, dealer, dealings, dealings_after, is_one_message, is_vote_message, member, none, voter, whole}
 use Rattle.trace_checker.specs.Voters.{is_enlisted}
 use Rattle.trace_checker.proofs.Keys.{same_is, same_number}
+
+-- the enlistment that the entry is about
+abbrev about : Entry → Option EnlNo
+about (Enlisted e c) = Some e
+about (Voted e v) = Some e
+about (Handed e) = Some e
+about (OwnerAnswered e o) = Some e
+about (Sent (Enl e) Down EnlistSingle) = Some e
+about (Got (Enl e) Up m) = Some e
+about _ = None
+
+-- what is known of an enlistment, with an entry that is about it
+abbrev member_after : Entry → Member → Member
+member_after (Enlisted e c) m = record m { volatile = is_volatile c || m.volatile }
+member_after (Voted e v) m = record m { voted = true }
+member_after (Handed e) m = record m { handed = true }
+member_after (OwnerAnswered e o) m = record m { answered = true; committed = same_outcome Committed o || m.committed; unsure = same_outcome InDoubt o || m.unsure }
+member_after (Sent c d x) m = record m { single = true }
+member_after (Got c d x) m = record m { heard = is_vote_message x || m.heard; replied = is_one_message x || m.replied }
+member_after _ m = m
 
 and_true : (b : Bool) → b ≡ (b && true)
 and_true true = refl
@@ -224,11 +246,20 @@ others h _ e m n k = record {
 }
 
 -- an entry that is about nobody
-pub members_idle : (h : List Entry) (x : Entry) (ms : Members) → about x ≡ None → IsMembersOf h ms → IsMembersOf (x ∷ h) ms
-members_idle h x ms a k = λ e. others h x e (member e ms) (ap (is_about e) a) (k e)
+nobody : (x : Entry) → voter x ≡ None → dealer x ≡ None → about x ≡ None
+nobody (Enlisted e c) v d = v
+nobody (Voted e c) v d = v
+nobody (Handed e) v d = d
+nobody (OwnerAnswered e o) v d = d
+nobody (Sent (Enl e) Down EnlistSingle) v d = d
+nobody (Got (Enl e) Up m) v d = d
+nobody _ v d = refl
+
+pub members_idle : (h : List Entry) (x : Entry) (ms : Members) → voter x ≡ None → dealer x ≡ None → IsMembersOf h ms → IsMembersOf (x ∷ h) ms
+members_idle h x ms v d k = λ e. others h x e (member e ms) (ap (is_about e) (nobody x v d)) (k e)
 
 -- the row that the entry is about is put, and the others stay
-pub members_more : (h : List Entry) (x : Entry) (old new : Members) (f : EnlNo) (key : ℕ) (row : Member) → about x ≡ Some f → key ≡ f.value → row ≡ member_after x (member f.value old)
+members_more : (h : List Entry) (x : Entry) (old new : Members) (f : EnlNo) (key : ℕ) (row : Member) → about x ≡ Some f → key ≡ f.value → row ≡ member_after x (member f.value old)
     → ((q : ℕ) → member q new ≡ cond (q == key) row (member q old)) → IsMembersOf h old → IsMembersOf (x ∷ h) new
 members_more h x old new f key row a w r u k = λ e. by e (e == f.value) refl
   where
@@ -248,24 +279,74 @@ members_more h x old new f key row a w r u k = λ e. by e (e == f.value) refl
         subst M (sym (now e false n)) (others h x e (member e old) (ap (is_about e) a ∙ n) (k e))
 
 -- a row is put in its place
-put_row : (rows : List Member) (n : ℕ) (row : Member) → n < length rows → (q : ℕ) → get_or (set rows n row) q fresh ≡ cond (q == n) row (get_or rows q fresh)
-put_row rows n row l q = by (q == n) refl
+put_row : {A : Type 0} (d : A) (rows : List A) (n : ℕ) (row : A) → n < length rows → (q : ℕ) → get_or (set rows n row) q d ≡ cond (q == n) row (get_or rows q d)
+put_row d rows n row l q = by (q == n) refl
   where
     apart : (q == n) ≡ false → q ≢ n
     apart e = grind (arith, nat_tests)
 
-    by : (b : Bool) → (q == n) ≡ b → get_or (set rows n row) q fresh ≡ cond b row (get_or rows q fresh)
-    by true e = get_or-set_at rows n q row fresh (same_is q n e) l
-    by false e = get_or-set_other rows n q row fresh (apart e)
+    by : (b : Bool) → (q == n) ≡ b → get_or (set rows n row) q d ≡ cond b row (get_or rows q d)
+    by true e = get_or-set_at rows n q row d (same_is q n e) l
+    by false e = get_or-set_other rows n q row d (apart e)
 
--- the rows reach as far as the one that the entry is about, which is changed in its place
-pub members_put : (h : List Entry) (x : Entry) (old new : Members) (rows : List Member) (f : EnlNo) (key : ℕ) (was row : Member) → about x ≡ Some f → key ≡ f.value → key < length rows
-    → ((q : ℕ) → get_or rows q fresh ≡ member q old) → was ≡ get_or rows key was → row ≡ member_after x was → new.rows.items ≡ set rows key row
+-- the row that stood there, where the table was made to reach as far
+row_before : {A : Type 0} (d : A) (rows old : List A) (f key : ℕ) (was : A) → key ≡ f → key < length rows → ((q : ℕ) → get_or rows q d ≡ get_or old q d) → was ≡ get_or rows key was → was ≡ get_or old f d
+row_before d rows old f key was w l same r = r ∙ (get_or_default rows key was d l ∙ (same key ∙ ap (λ n. get_or old n d) w))
+
+-- an entry that changes a ballot
+of_voter : (x : Entry) (f : EnlNo) → voter x ≡ Some f → about x ≡ Some f
+of_voter (Enlisted e c) f k = k
+of_voter (Voted e v) f k = k
+of_voter _ f k = absurd cc
+
+with_ballot : (x : Entry) (f : EnlNo) (b : Ballot) (d : Dealings) → voter x ≡ Some f → whole (ballot_after x b) d ≡ member_after x (whole b d)
+with_ballot (Enlisted e c) f b d k = refl
+with_ballot (Voted e v) f b d k = refl
+with_ballot _ f b d k = absurd cc
+
+pub ballot_put : (h : List Entry) (x : Entry) (old new : Members) (rows : List Ballot) (f : EnlNo) (key : ℕ) (was row : Ballot) → voter x ≡ Some f → key ≡ f.value → key < length rows
+    → ((q : ℕ) → get_or rows q blank ≡ ballot q old) → was ≡ get_or rows key was → row ≡ ballot_after x was → new.ballots.items ≡ set rows key row → ((q : ℕ) → dealings q new ≡ dealings q old)
     → IsMembersOf h old → IsMembersOf (x ∷ h) new
-members_put h x old new rows f key was row a w l same r s put = members_more h x old new f key row a w (s ∙ ap (member_after x) before) after
+ballot_put h x old new rows f key was row a w l same r s put rest = members_more h x old new f key (whole row (dealings f.value old)) (of_voter x f a) w noted after
   where
-    before : was ≡ member f.value old
-    before = r ∙ (get_or_default rows key was fresh l ∙ (same key ∙ ap (λ n. member n old) w))
+    noted : whole row (dealings f.value old) ≡ member_after x (member f.value old)
+    noted = ap (λ b. whole b (dealings f.value old)) (s ∙ ap (ballot_after x) (row_before blank rows old.ballots.items f.value key was w l same r)) ∙ with_ballot x f (ballot f.value old) (dealings f.value old) a
 
-    after : (q : ℕ) → member q new ≡ cond (q == key) row (member q old)
-    after q = ap (λ ms. get_or ms q fresh) put ∙ (put_row rows key row l q ∙ ap (cond (q == key) row) (same q))
+    by : (q : ℕ) (b : Bool) → (q == key) ≡ b → whole (cond b row (ballot q old)) (dealings q old) ≡ cond b (whole row (dealings f.value old)) (member q old)
+    by q true e = ap (λ n. whole row (dealings n old)) (same_is q key e ∙ w)
+    by q false e = refl
+
+    after : (q : ℕ) → member q new ≡ cond (q == key) (whole row (dealings f.value old)) (member q old)
+    after q = ap (λ b. whole b (dealings q new)) (ap (λ rows. get_or rows q blank) put ∙ (put_row blank rows key row l q ∙ ap (cond (q == key) row) (same q)))
+        ∙ (ap (whole (cond (q == key) row (ballot q old))) (rest q) ∙ by q (q == key) refl)
+
+-- an entry that changes dealings
+of_dealer : (x : Entry) (f : EnlNo) → dealer x ≡ Some f → about x ≡ Some f
+of_dealer (Handed e) f k = k
+of_dealer (OwnerAnswered e o) f k = k
+of_dealer (Sent (Enl e) Down EnlistSingle) f k = k
+of_dealer (Got (Enl e) Up m) f k = k
+of_dealer _ f k = absurd cc
+
+with_dealings : (x : Entry) (f : EnlNo) (b : Ballot) (d : Dealings) → dealer x ≡ Some f → whole b (dealings_after x d) ≡ member_after x (whole b d)
+with_dealings (Handed e) f b d k = refl
+with_dealings (OwnerAnswered e o) f b d k = refl
+with_dealings (Sent (Enl e) Down EnlistSingle) f b d k = refl
+with_dealings (Got (Enl e) Up m) f b d k = refl
+with_dealings _ f b d k = absurd cc
+
+pub dealings_put : (h : List Entry) (x : Entry) (old new : Members) (rows : List Dealings) (f : EnlNo) (key : ℕ) (was row : Dealings) → dealer x ≡ Some f → key ≡ f.value → key < length rows
+    → ((q : ℕ) → get_or rows q none ≡ dealings q old) → was ≡ get_or rows key was → row ≡ dealings_after x was → new.dealings.items ≡ set rows key row → ((q : ℕ) → ballot q new ≡ ballot q old)
+    → IsMembersOf h old → IsMembersOf (x ∷ h) new
+dealings_put h x old new rows f key was row a w l same r s put rest = members_more h x old new f key (whole (ballot f.value old) row) (of_dealer x f a) w noted after
+  where
+    noted : whole (ballot f.value old) row ≡ member_after x (member f.value old)
+    noted = ap (whole (ballot f.value old)) (s ∙ ap (dealings_after x) (row_before none rows old.dealings.items f.value key was w l same r)) ∙ with_dealings x f (ballot f.value old) (dealings f.value old) a
+
+    by : (q : ℕ) (b : Bool) → (q == key) ≡ b → whole (ballot q old) (cond b row (dealings q old)) ≡ cond b (whole (ballot f.value old) row) (member q old)
+    by q true e = ap (λ n. whole (ballot n old) row) (same_is q key e ∙ w)
+    by q false e = refl
+
+    after : (q : ℕ) → member q new ≡ cond (q == key) (whole (ballot f.value old) row) (member q old)
+    after q = ap (whole (ballot q new)) (ap (λ rows. get_or rows q none) put ∙ (put_row none rows key row l q ∙ ap (cond (q == key) row) (same q)))
+        ∙ (ap (λ b. whole b (cond (q == key) row (dealings q old))) (rest q) ∙ by q (q == key) refl)

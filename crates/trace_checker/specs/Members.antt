@@ -12,6 +12,8 @@ use Rattle.dtx_values.specs.Class.{is_volatile}
 use Rattle.dtx_model.specs.Entries.{is_any_owner, is_hand, is_one_got, is_owner, is_single_sent, is_vote, is_vote_got, same_outcome}
 use Rattle.dtx_model.specs.Outcome.{volatiles}
 use Rattle.dtx_model.specs.Words.{has}
+use Rattle.trace_checker.specs.declared.members.Ballot.{Ballot}
+use Rattle.trace_checker.specs.declared.members.Dealings.{Dealings}
 use Rattle.trace_checker.specs.declared.members.Member.{Member}
 use Rattle.trace_checker.specs.declared.members.Members.{Members}
 use Rattle.trace_checker.specs.Voters.{is_enlisted}
@@ -28,27 +30,45 @@ pub record IsMemberOf (h : List Entry) (e : ℕ) (m : Member) : Type 0 where
   pub single : m.single ≡ has (is_single_sent e) h
   pub replied : m.replied ≡ has (is_one_got e) h
 
--- nothing is known of an enlistment
-abbrev pub fresh : Member
-fresh = record { volatile = false; voted = false; heard = false; handed = false; answered = false; committed = false; unsure = false; single = false; replied = false }
+-- no volatile, and no vote
+abbrev pub blank : Ballot
+blank = record { volatile = false; voted = false }
 
--- the row of this enlistment; past the end of the rows nothing is known
+-- no dealings
+abbrev pub none : Dealings
+none = record { heard = false; handed = false; answered = false; committed = false; unsure = false; single = false; replied = false }
+
+-- all that is known of an enlistment, by its two rows
+abbrev pub whole : Ballot → Dealings → Member
+whole b d = record { volatile = b.volatile; voted = b.voted; heard = d.heard; handed = d.handed; answered = d.answered; committed = d.committed; unsure = d.unsure; single = d.single; replied = d.replied }
+
+-- the rows of this enlistment; past the end of a table nothing is known
+abbrev pub ballot : ℕ → Members → Ballot
+ballot e ms = slice_index_or ms.ballots.items e blank
+
+abbrev pub dealings : ℕ → Members → Dealings
+dealings e ms = slice_index_or ms.dealings.items e none
+
 abbrev pub member : ℕ → Members → Member
-member e ms = slice_index_or ms.rows.items e fresh
+member e ms = whole (ballot e ms) (dealings e ms)
 
 -- each row says what the history shows of its enlistment
 abbrev pub IsMembersOf : List Entry → Members → Type 0
 IsMembersOf h ms = (e : ℕ) → IsMemberOf h e (member e ms)
 
--- the enlistment that the entry is about
-abbrev pub about : Entry → Option EnlNo
-about (Enlisted e c) = Some e
-about (Voted e v) = Some e
-about (Handed e) = Some e
-about (OwnerAnswered e o) = Some e
-about (Sent (Enl e) Down EnlistSingle) = Some e
-about (Got (Enl e) Up m) = Some e
-about _ = None
+-- the enlistment whose ballot the entry changes
+abbrev pub voter : Entry → Option EnlNo
+voter (Enlisted e c) = Some e
+voter (Voted e v) = Some e
+voter _ = None
+
+-- the enlistment whose dealings the entry changes
+abbrev pub dealer : Entry → Option EnlNo
+dealer (Handed e) = Some e
+dealer (OwnerAnswered e o) = Some e
+dealer (Sent (Enl e) Down EnlistSingle) = Some e
+dealer (Got (Enl e) Up m) = Some e
+dealer _ = None
 
 -- PREPARED, NO or READONLY
 abbrev pub is_vote_message : Message → Bool
@@ -64,16 +84,20 @@ is_one_message EnlistOneAborted = true
 is_one_message EnlistOneInDoubt = true
 is_one_message _ = false
 
--- the row with what the coordinator got from its enlistment
-abbrev pub member_hearing : Message → Member → Member
-member_hearing x m = record m { heard = is_vote_message x || m.heard; replied = is_one_message x || m.replied }
+-- the ballot with an entry that changes it
+abbrev pub ballot_after : Entry → Ballot → Ballot
+ballot_after (Enlisted e c) b = record b { volatile = is_volatile c || b.volatile }
+ballot_after (Voted e v) b = record b { voted = true }
+ballot_after _ b = b
 
--- the row with an entry that is about its enlistment
-abbrev pub member_after : Entry → Member → Member
-member_after (Enlisted e c) m = record m { volatile = is_volatile c || m.volatile }
-member_after (Voted e v) m = record m { voted = true }
-member_after (Handed e) m = record m { handed = true }
-member_after (OwnerAnswered e o) m = record m { answered = true; committed = same_outcome Committed o || m.committed; unsure = same_outcome InDoubt o || m.unsure }
-member_after (Sent c d x) m = record m { single = true }
-member_after (Got c d x) m = member_hearing x m
-member_after _ m = m
+-- the dealings with what the coordinator got from their enlistment
+abbrev pub dealings_hearing : Message → Dealings → Dealings
+dealings_hearing x d = record d { heard = is_vote_message x || d.heard; replied = is_one_message x || d.replied }
+
+-- the dealings with an entry that changes them
+abbrev pub dealings_after : Entry → Dealings → Dealings
+dealings_after (Handed e) d = record d { handed = true }
+dealings_after (OwnerAnswered e o) d = record d { answered = true; committed = same_outcome Committed o || d.committed; unsure = same_outcome InDoubt o || d.unsure }
+dealings_after (Sent c p x) d = record d { single = true }
+dealings_after (Got c p x) d = dealings_hearing x d
+dealings_after _ d = d

@@ -134,6 +134,7 @@ impl Book {
     }
 
     /// Whether what is told or decided by the entry may be.
+    #[inline(always)]
     fn is_just(&self, x: &Entry) -> bool
         ensures { (h : List Entry) → IsBookOf h self.now → result ≡ is_just h x.now }
     {
@@ -162,6 +163,7 @@ impl Book {
     }
 
     /// Whether the entry is a veto.
+    #[inline(always)]
     fn is_veto(&self, x: &Entry) -> bool
         ensures { (h : List Entry) → IsBookOf h self.now → result ≡ is_veto h x.now }
     {
@@ -188,6 +190,7 @@ impl Book {
     }
 
     /// Whether the entry is a veto before which no evidence stands.
+    #[inline(always)]
     fn is_first_veto(&self, x: &Entry) -> bool
         ensures { (h : List Entry) → IsBookOf h self.now → result ≡ is_first_veto h x.now }
     {
@@ -196,6 +199,7 @@ impl Book {
 
     /// Whether all agree with the entry, where they agreed before it.
     #[tactic(auto, unfolding(dtx_model::specs::Outcome::agree))]
+    #[inline(always)]
     fn does_agree(&self, x: &Entry) -> bool
         ensures { (h : List Entry) → IsBookOf h self.now → agree h ≡ true → result ≡ agree (x.now ∷ h) }
     {
@@ -207,6 +211,7 @@ impl Book {
 
     /// What the entry loses of what was kept so far, the first of the three.
     #[tactic(auto, using(crate::proofs::Losing::losing))]
+    #[inline(always)]
     pub fn loss(&self, x: &Entry) -> Option<Why>
         ensures { (h : List Entry) → IsBookOf h self.now → IsKept h → IsLossOf (x.now ∷ h) result }
     {
@@ -222,6 +227,7 @@ impl Book {
     }
 
     /// Notes the entry.
+    #[inline(always)]
     pub fn follow(&mut self, x: &Entry) -> Result<(), AllocError>
         ensures { OnOk result ((h : List Entry) → IsBookOf h self.old → IsBookOf (x.now ∷ h) self.new) }
     {

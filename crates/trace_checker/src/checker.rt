@@ -31,10 +31,11 @@ impl Checker {
         Ok(Checker { books })
     }
 
-    /// Notes an entry. What it loses of what was kept so far comes back, the first of the three; at a context and at the log nothing
-    /// is lost.
-    pub fn follow(&mut self, at: Place, x: &Entry) -> Result<Option<Why>, AllocError>
-        ensures { IfOk result (λ loss. (T : List Placed) → IsCheckerOf T self.old → IsCheckedWith T (at, x.now) loss self.new) }
+    /// What `follow` does, in one code for all kinds of entries.
+    #[inline(always)]
+    fn note(&mut self, at: Place, x: &Entry) -> Result<Option<Why>, AllocError>
+        ensures { IfOk result (λ loss. (T : List Placed)
+            → IsCheckerOf T self.old → IsCheckedWith T (at, x.now) loss self.new) }
     {
         match at {
             Place::Transaction(t) => {
@@ -49,6 +50,25 @@ impl Checker {
             }
             Place::Context(_) => Ok(None),
             Place::Log => Ok(None),
+        }
+    }
+
+    /// Notes an entry. What it loses of what was kept so far comes back, the first of the three; at a context and at the log nothing
+    /// is lost.
+    pub fn follow(&mut self, at: Place, x: &Entry) -> Result<Option<Why>, AllocError>
+        ensures { IfOk result (λ loss. (T : List Placed) → IsCheckerOf T self.old → IsCheckedWith T (at, x.now) loss self.new) }
+    {
+        // Each kind that comes often gets code of its own, in which the compiler leaves out what
+        // such an entry never changes. That is less than half of the work.
+        match *x {
+            Entry::Called(n, actor, answer) => self.note(at, &Entry::Called(n, actor, answer)),
+            Entry::Enlisted(e, class) => self.note(at, &Entry::Enlisted(e, class)),
+            Entry::Asked(e, ask) => self.note(at, &Entry::Asked(e, ask)),
+            Entry::Voted(e, vote) => self.note(at, &Entry::Voted(e, vote)),
+            Entry::Told(party, outcome) => self.note(at, &Entry::Told(party, outcome)),
+            Entry::Sent(c, d, m) => self.note(at, &Entry::Sent(c, d, m)),
+            Entry::Got(c, d, m) => self.note(at, &Entry::Got(c, d, m)),
+            _ => self.note(at, x),
         }
     }
 }

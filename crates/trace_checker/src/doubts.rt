@@ -21,6 +21,7 @@ pub struct Doubts {
 }
 
 /// Whether by the entry one that was handed the commit has answered in doubt.
+#[inline(always)]
 fn makes_unsure(members: &Members, x: &Entry) -> bool
     ensures { (h : List Entry) → IsMembersOf h members.now → has_unsure (x.now ∷ h) ≡ (result || has_unsure h) }
 {
@@ -35,6 +36,7 @@ fn makes_unsure(members: &Members, x: &Entry) -> bool
 }
 
 /// Whether by the entry an owner is lost that was handed the commit and hasn't answered.
+#[inline(always)]
 fn loses_owner(members: &Members, x: &Entry) -> bool
     ensures { (h : List Entry) → IsMembersOf h members.now → result ≡ is_lost_owner h x.now }
 {
@@ -48,6 +50,7 @@ fn loses_owner(members: &Members, x: &Entry) -> bool
 }
 
 /// Whether by the entry the coordinator loses the one that it let decide, before that one answered.
+#[inline(always)]
 fn loses_single(members: &Members, x: &Entry) -> bool
     ensures { (h : List Entry) → IsMembersOf h members.now → result ≡ is_lost_single h x.now }
 {
@@ -69,6 +72,7 @@ impl Doubts {
     };
 
     /// Notes the entry, where these are the rows before it.
+    #[inline(always)]
     pub fn follow(&mut self, members: &Members, x: &Entry)
         ensures { (h : List Entry) → IsMembersOf h members.now → IsDoubtsOf h self.old → IsDoubtsOf (x.now ∷ h) self.new }
     {

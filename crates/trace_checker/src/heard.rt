@@ -36,6 +36,7 @@ impl Heard {
     };
 
     /// Notes the entry.
+    #[inline(always)]
     pub fn follow(&mut self, x: &Entry)
         ensures { self.new ≡ heard_after x.now self.old }
     {

@@ -41,6 +41,7 @@ impl Left {
     }
 
     /// This name came.
+    #[inline(always)]
     pub fn add(&mut self, n: u32) -> Result<(), AllocError>
         ensures { OnOk result ((came done : ℕ → Bool) → IsLeft came done self.old → IsLeft (λ k. (k == n) || came k) done self.new) }
     {
@@ -56,6 +57,7 @@ impl Left {
     }
 
     /// This name is done, whether it came or not.
+    #[inline(always)]
     pub fn settle(&mut self, n: u32) -> Result<(), AllocError>
         ensures { OnOk result ((came done : ℕ → Bool) → IsLeft came done self.old → IsLeft came (λ k. (k == n) || done k) self.new) }
     {

@@ -54,6 +54,7 @@ impl Marks {
     }
 
     /// Notes the entry.
+    #[inline(always)]
     pub fn follow(&mut self, x: &Entry)
         ensures { self.new ≡ marks_after x.now self.old }
     {

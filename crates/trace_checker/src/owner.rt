@@ -63,6 +63,7 @@ impl Owner {
     }
 
     /// Notes the entry.
+    #[inline(always)]
     pub fn follow(&mut self, x: &Entry)
         ensures { (h : List Entry) → IsOwnerOf h self.old → IsOwnerOf (x.now ∷ h) self.new }
     {

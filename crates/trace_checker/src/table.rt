@@ -3,6 +3,9 @@ ghost use Rattle.std.specs.Prelude.{◌≡◌, ◌<◌, ◌++◌, ◌==◌, ℕ,
 
 use std::alloc::AllocError;
 
+/// A table that is too short grows by this many items at least, since most numbers come in turn.
+const STEP: usize = 64;
+
 /// What a table has at a number.
 #[inline(always)]
 pub fn item_at<T: Copy>(items: &[T], n: u32, blank: T) -> T
@@ -18,7 +21,6 @@ pub fn item_at<T: Copy>(items: &[T], n: u32, blank: T) -> T
 
 /// Makes a table longer, with blanks, where it ends before a number.
 #[inline(always)]
-#[tactic(auto, using(crate::proofs::Tables::blank_last))]
 pub fn reach<T: Copy>(items: &mut Vec<T>, n: u32, blank: T) -> Result<(), AllocError>
     ensures grown { (k : ℕ) × (items.new.items ≡ items.old.items ++ replicate k blank) }
     ensures same { (k : ℕ) → slice_index_or items.new.items k blank ≡ slice_index_or items.old.items k blank }
@@ -28,11 +30,7 @@ pub fn reach<T: Copy>(items: &mut Vec<T>, n: u32, blank: T) -> Result<(), AllocE
     if place < items.len() {
         return Ok(());
     }
-    if place == items.len() {
-        items.push(blank)?;
-        return Ok(());
-    }
-    items.resize(place + 1, blank)?;
+    items.resize(place + STEP, blank)?;
     Ok(())
 }
 

@@ -64,6 +64,7 @@ impl Voters {
     }
 
     /// Notes the entry.
+    #[inline(always)]
     pub fn follow(&mut self, x: &Entry) -> Result<(), AllocError>
         ensures { OnOk result ((h : List Entry) → IsVotersOf h self.old → IsVotersOf (x.now ∷ h) self.new) }
     {

@@ -84,6 +84,7 @@ impl Wires {
     }
 
     /// Whether what is got by the entry is the next on the way, and an end that is seen may come.
+    #[inline(always)]
     pub fn may_cross(&self, x: &Entry) -> bool
         ensures { (h : List AnEntry) → IsWiresOf h self.now → (result ≡ true) ↔ MayCross h x.now }
     {
@@ -178,6 +179,7 @@ impl Wires {
     }
 
     /// Notes the entry.
+    #[inline(always)]
     pub fn follow(&mut self, x: &Entry) -> Result<(), AllocError>
         ensures { OnOk result ((h : List AnEntry) → IsWiresOf h self.old → IsWiresOf (x.now ∷ h) self.new) }
     {

@@ -8,7 +8,7 @@ use Rattle.trace_checker.specs.declared.book.Book.{Book}
 use Rattle.trace_checker.specs.Keeps.{Keeps, Loses}
 use Rattle.trace_checker.specs.Kept.{IsBookOf}
 use Rattle.trace_checker.proofs.Tracing.{aside_context, aside_log, aside_kept, book_at, books_more, kept_at, keeps_more, loses_more}
-use Rattle.trace_checker.proofs.checker.Checker.follow.Goals as goal
+use Rattle.trace_checker.proofs.checker.Checker.note.Goals as goal
 
 pub returns-in-Some : goal.returns-in-Some
 returns-in-Some c = λ T k.
