@@ -1,11 +1,14 @@
 -- What was written of a record is read again.
-use Rattle.std.proofs.Common.{◌≡◌, ℕ, zero, suc, ◌-◌, ◌+◌, ◌*◌, ◌≤◌, ◌<◌, true, false, get_or, List, [], ◌∷◌, ◌++◌, length, take, drop, Option, Some, None, Ok, refl, sym, ap, ◌∙◌, append_assoc, arith}
+use Rattle.std.proofs.Common.{◌≡◌, ℕ, ◌-◌, ◌+◌, ◌*◌, ◌≤◌, ◌<◌, true, false, get_or, List, [], ◌∷◌, ◌++◌, length, take, drop, Option, Some, None, Ok, refl, sym, ap, ◌∙◌, append_assoc, arith}
 use Rattle.std.specs.Prelude.{replicate}
+use Rattle.std.specs.Int.{w32, to_le_bytes}
 use Rattle.std.specs.List.{flat_map}
 use Rattle.std.proofs.lemmas.Bool.Decides.{nat_tests}
-use Rattle.std.proofs.lemmas.List.{length-append, length-replicate, take_at, get_or_at}
+use Rattle.std.proofs.lemmas.List.{drop-take, drop_at, get_or-drop, length-append, length-replicate, take-append-drop, take-take, take_at}
 use Rattle.std.proofs.lemmas.Nat.{from_le_bytes-to_le_bytes_2, from_le_bytes-to_le_bytes_4, from_le_bytes-to_le_bytes_8}
-use Rattle.slotted.proofs.Heads.{zeros_again}
+use Rattle.dtx_values.specs.TxIds.{number_in}
+use Rattle.slotted.proofs.Heads.{whole_of, zeros_again}
+use Rattle.slotted.proofs.SlotWrites.{drop_less}
 use Rattle.kv_resource.specs.Bytes.{KvRecord, are_spelled, front_bytes, is_within, kv_record_at, number16, number32, number64, unmarked_at, unmarked_bytes, with_mark, write_bytes, writes_at}
 use Rattle.kv_resource.proofs.Loops.{Writes}
 use Rattle.kv_resource.proofs.Tables.{spelled_parts}
@@ -41,29 +44,31 @@ length-writes [] = refl
 length-writes (w ∷ ws) = let h = length-writes ws in omega (arith, length-append (write_bytes w) (flat_map write_bytes ws))
 
 -- the parts of a record's bytes: the format, the number of writes, the transaction, the enlistment, and the rest
-format_again : (r : KvRecord) → get_or (unmarked_bytes r) 0 0 ≡ 1
+format_again : (t : ℕ) (r : KvRecord) → get_or (unmarked_bytes t r) 0 0 ≡ 1
 unfolding unmarked_bytes front_bytes
-format_again r = refl
+format_again t r = refl
 
-count_again : (r : KvRecord) → length r.writes ≤ 40 → number16 (drop 1 (unmarked_bytes r)) ≡ length r.writes
+count_again : (t : ℕ) (r : KvRecord) → length r.writes ≤ 40 → number16 (drop 1 (unmarked_bytes t r)) ≡ length r.writes
 unfolding unmarked_bytes front_bytes number16
-count_again r few = from_le_bytes-to_le_bytes_2 (length r.writes) (omega arith)
+count_again t r few = from_le_bytes-to_le_bytes_2 (length r.writes) (omega arith)
 
-transaction_again : (r : KvRecord) → r.transaction ≤ 256 → number32 (drop 3 (unmarked_bytes r)) ≡ r.transaction
+transaction_again : (t : ℕ) (r : KvRecord) → t ≤ 256 → number32 (drop 3 (unmarked_bytes t r)) ≡ t
 unfolding unmarked_bytes front_bytes number32
-transaction_again r few = from_le_bytes-to_le_bytes_4 r.transaction (omega arith)
+transaction_again t r few = from_le_bytes-to_le_bytes_4 t (omega arith)
 
-enlistment_again : (r : KvRecord) → r.enlistment ≤ 9999 → number32 (drop 7 (unmarked_bytes r)) ≡ r.enlistment
+enlistment_again : (t : ℕ) (r : KvRecord) → r.enlistment ≤ 9999 → number32 (drop 7 (unmarked_bytes t r)) ≡ r.enlistment
 unfolding unmarked_bytes front_bytes number32
-enlistment_again r few = from_le_bytes-to_le_bytes_4 r.enlistment (omega arith)
+enlistment_again t r few = from_le_bytes-to_le_bytes_4 r.enlistment (omega arith)
 
-rest_again : (r : KvRecord) → drop 11 (unmarked_bytes r) ≡ flat_map write_bytes r.writes ++ replicate (499 - 12 * length r.writes) 0
+rest_again : (t : ℕ) (r : KvRecord) → drop 11 (unmarked_bytes t r) ≡ flat_map write_bytes r.writes ++ replicate (495 - 12 * length r.writes) 0
 unfolding unmarked_bytes front_bytes
-rest_again r = refl
+rest_again t r = refl
 
--- a record that a slot can spell
-pub record IsFit (r : KvRecord) : Type 0 where
-  pub transaction : (1 ≤ r.transaction) × (r.transaction ≤ 256)
+-- a record that a slot can spell, where t is its transaction's number within this epoch
+pub record IsFit (epoch t : ℕ) (r : KvRecord) : Type 0 where
+  pub within : (1 ≤ t) × (t ≤ 256)
+  pub epoch_fits : epoch < 4294967296
+  pub number : r.transaction ≡ number_in epoch t
   pub enlistment : (1 ≤ r.enlistment) × (r.enlistment ≤ 9999)
   pub writes : (1 ≤ length r.writes) × (length r.writes ≤ 40)
   pub spelled : are_spelled None r.writes ≡ true
@@ -71,50 +76,56 @@ pub record IsFit (r : KvRecord) : Type 0 where
 within : (most n : ℕ) → 1 ≤ n → n ≤ most → is_within most n ≡ true
 within most n low high = grind (arith, nat_tests)
 
-pub unmarked_again : (r : KvRecord) → IsFit r → unmarked_at (unmarked_bytes r) ≡ Ok (with_mark false r)
+pub unmarked_again : (epoch t : ℕ) (r : KvRecord) → IsFit epoch t r → unmarked_at epoch (unmarked_bytes t r) ≡ Ok (with_mark false r)
 unfolding unmarked_at
-unmarked_again r fit =
+unmarked_again epoch t r fit =
     let n = length r.writes in
     let c = within 40 n fit.writes.0 fit.writes.1 in
-    let t = within 256 r.transaction fit.transaction.0 fit.transaction.1 in
+    let w = within 256 t fit.within.0 fit.within.1 in
     let e = within 9999 r.enlistment fit.enlistment.0 fit.enlistment.1 in
     rw (
-      format_again r,
-      count_again r fit.writes.1,
+      format_again t r,
+      count_again t r fit.writes.1,
       c,
-      transaction_again r fit.transaction.1,
-      t,
-      enlistment_again r fit.enlistment.1,
+      transaction_again t r fit.within.1,
+      w,
+      enlistment_again t r fit.enlistment.1,
       e,
-      rest_again r,
-      writes_again 12 None r.writes (replicate (499 - 12 * n) 0) fit.spelled,
-      zeros_again (12 + 12 * n) (499 - 12 * n),
+      rest_again t r,
+      writes_again 12 None r.writes (replicate (495 - 12 * n) 0) fit.spelled,
+      zeros_again (12 + 12 * n) (495 - 12 * n),
+      ← fit.number,
     ) refl
 
--- zeros with one more
-zeros_push : (n : ℕ) → replicate {A = ℕ} (suc n) 0 ≡ replicate n 0 ++ 0 ∷ []
-zeros_push zero = refl
-zeros_push (suc n) = ap (λ (l : List ℕ). 0 ∷ l) (zeros_push n)
-
-length-front : (r : KvRecord) → length (front_bytes r) ≡ 11
+length-front : (t : ℕ) (r : KvRecord) → length (front_bytes t r) ≡ 11
 unfolding front_bytes
-length-front r = refl
+length-front t r = refl
 
--- a record's bytes with a mark of 0 behind them are read as the record without a mark
-pub record_again : (r : KvRecord) (b : List ℕ) → IsFit r → b ≡ (front_bytes r ++ flat_map write_bytes r.writes) ++ replicate (500 - 12 * length r.writes) 0 → (kv_record_at b ≡ Ok (with_mark false r)) × (length b ≡ 511)
-unfolding kv_record_at unmarked_bytes
-record_again r b fit is =
+-- a record's bytes with its epoch and a mark of 0 behind them are read as the record without a mark
+pub record_again : (epoch t : ℕ) (r : KvRecord) (b : List ℕ) → IsFit epoch t r
+    → b ≡ (((front_bytes t r ++ flat_map write_bytes r.writes) ++ replicate (495 - 12 * length r.writes) 0) ++ to_le_bytes w32 epoch) ++ 0 ∷ [] → (kv_record_at b ≡ Ok (with_mark false r)) × (length b ≡ 511)
+unfolding kv_record_at unmarked_bytes front_bytes number32
+record_again epoch t r b fit is =
     let n = length r.writes in
     let few = fit.writes.1 in
-    let more : 500 - 12 * n ≡ suc (499 - 12 * n) = omega arith in
-    let f : List ℕ = front_bytes r ++ flat_map write_bytes r.writes in
-    let whole : b ≡ unmarked_bytes r ++ 0 ∷ [] =
-    is ∙ ap (λ (m : ℕ). f ++ replicate m 0) more ∙ ap (λ (l : List ℕ). f ++ l) (zeros_push (499 - 12 * n)) ∙ sym (append_assoc f (replicate (499 - 12 * n) 0) (0 ∷ [])) in
-    let long : length (unmarked_bytes r) ≡ 510 =
-    omega (arith, length-append f (replicate (499 - 12 * n) 0), length-append (front_bytes r) (flat_map write_bytes r.writes), length-writes r.writes, length-front r, length-replicate {A = ℕ} (499 - 12 * n) 0) in
-    let first : take 510 b ≡ unmarked_bytes r = ap (take 510) whole ∙ take_at (unmarked_bytes r) (0 ∷ []) 510 long in
-    let last : get_or b 510 0 ≡ 0 = ap (λ (l : List ℕ). get_or l 510 0) whole ∙ last_at (unmarked_bytes r) 510 long in
-    (rw (first, unmarked_again r fit, last) refl, ap length whole ∙ omega (arith, length-append (unmarked_bytes r) (0 ∷ []), long))
-  where
-    last_at : (xs : List ℕ) (n : ℕ) → length xs ≡ n → get_or (xs ++ 0 ∷ []) n 0 ≡ 0
-    last_at xs n long = get_or_at xs 0 [] 0 n long
+    let f : List ℕ = front_bytes t r ++ flat_map write_bytes r.writes in
+    let u : List ℕ = unmarked_bytes t r in
+    let tail : List ℕ = to_le_bytes w32 epoch ++ 0 ∷ [] in
+    let whole : b ≡ u ++ tail = is ∙ ap (λ (l : List ℕ). (l ++ to_le_bytes w32 epoch) ++ 0 ∷ []) (append_assoc (front_bytes t r) (flat_map write_bytes r.writes) (replicate (495 - 12 * n) 0)) ∙ append_assoc u (to_le_bytes w32 epoch) (0 ∷ []) in
+    let long : length u ≡ 506 =
+    omega (arith, length-append (front_bytes t r) (flat_map write_bytes r.writes ++ replicate (495 - 12 * n) 0), length-append (flat_map write_bytes r.writes) (replicate (495 - 12 * n) 0), length-writes r.writes, length-front t r, length-replicate {A = ℕ} (495 - 12 * n) 0) in
+    let first : take 506 b ≡ u = ap (take 506) whole ∙ take_at u tail 506 long in
+    let behind : drop 506 b ≡ tail = ap (drop 506) whole ∙ drop_at u tail 506 long in
+    let of_epoch : number32 (drop 506 b) ≡ epoch = ap number32 behind ∙ from_le_bytes-to_le_bytes_4 epoch fit.epoch_fits in
+    let last : get_or b 510 0 ≡ 0 = sym (get_or-drop 506 b 4 0) ∙ ap (λ (l : List ℕ). get_or l 4 0) behind in
+    (rw (first, of_epoch, unmarked_again epoch t r fit, last) refl, ap length whole ∙ omega (arith, length-append u tail, long))
+
+-- zeros behind a front, of which four bytes are written over
+pub with_epoch : (f old new e : List ℕ) (k n : ℕ) → take k old ≡ f → drop k old ≡ drop k (replicate 511 0) → k + n ≡ 506 → take 510 new ≡ take 506 old ++ e → drop 510 new ≡ drop 510 old → new ≡ ((f ++ replicate n 0) ++ e) ++ 0 ∷ []
+with_epoch f old new e k n front zeros whole written_is left =
+    let first : take k (take 506 old) ≡ f = take-take k 506 old (omega arith) ∙ front in
+    let cut : (l : List ℕ) → drop k (take 506 l) ≡ take n (drop k l) = λ l. ap (λ (j : ℕ). drop k (take j l)) (sym whole) ∙ drop-take k n l in
+    let rest : drop k (take 506 old) ≡ drop k (replicate 506 0) = cut old ∙ ap (take n) zeros ∙ sym (cut (replicate 511 0)) in
+    let before : take 506 old ≡ f ++ replicate n 0 = whole_of (take 506 old) f k n 506 first rest (omega arith) in
+    let last : drop 510 new ≡ 0 ∷ [] = left ∙ drop_less k 510 old (replicate 511 0) (omega arith) zeros in
+    sym (take-append-drop 510 new) ∙ (λ j. written_is j ++ last j) ∙ ap (λ (l : List ℕ). (l ++ e) ++ 0 ∷ []) before

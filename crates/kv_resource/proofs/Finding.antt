@@ -35,7 +35,7 @@ is_first q ss k e =
     record { r = open_at.0; inside = at.0; is = open_at.1; passes = open_at.2; before = at.2 }
 
 -- the first of a longer list
-first_below : (q : KvRecord → Bool) (s : Option KvRecord) (ss : Slots) (k : ℕ) → IsFirst q (s ∷ ss) (suc k) → IsFirst q ss k
+unfoldable pub first_below : (q : KvRecord → Bool) (s : Option KvRecord) (ss : Slots) (k : ℕ) → IsFirst q (s ∷ ss) (suc k) → IsFirst q ss k
 first_below q s ss k f = record { r = f.r; inside = let lt = f.inside in omega arith; is = f.is; passes = f.passes; before = λ j lt. f.before (suc j) (omega arith) }
 
 -- it is what is found in the records

@@ -6,14 +6,12 @@ use Rattle.dtx_values.specs.declared.note.Note.{Note}
 use Rattle.dtx_values.specs.declared.note.Note.TheVariants.{Prepare, Hand, Commit, Rollback}
 use Rattle.dtx_values.specs.declared.note.Reply.{Reply}
 use Rattle.dtx_values.specs.declared.note.Reply.TheVariants.{Vote as VoteReply, Owner, Ack}
-use Rattle.dtx_values.specs.declared.number.EnlNo.{EnlNo}
-use Rattle.dtx_values.specs.declared.number.TxNo.{TxNo}
 use Rattle.dtx_values.specs.declared.words.Outcome.TheVariants.{Committed, Aborted, InDoubt as DoubtOutcome}
 use Rattle.dtx_values.specs.declared.words.Vote.TheVariants.{Yes, No, Done}
 use Rattle.slotted.proofs.SlotReads.{file_agrees}
 use Rattle.kv_resource.specs.Bytes.{KvRecord, kv_has}
 use Rattle.kv_resource.specs.Images.{AllHold, Gives, IsKept, may_hold}
-use Rattle.kv_resource.specs.Notes.{Closes, Fate, Marks, Nothing, Smooth, Work, Writes, WritesAndMarks, answer_of, drops, into_slot, is_smooth, is_work, memory_after, slots_after, unless, work_of}
+use Rattle.kv_resource.specs.Notes.{Closes, Fate, Marks, Nothing, Smooth, Work, Writes, WritesAndMarks, answer_of, drops, earlier_after, into_slot, is_smooth, is_work, memory_after, slots_after, unless, work_of}
 use Rattle.kv_resource.specs.Store.{KvDraft, KvMemory, KvState, Pair, has_draft, has_marked, has_slot, has_unmarked, next_slot, open_records, with_drafts, without_draft}
 use Rattle.kv_resource.proofs.Files.{kv_file}
 
@@ -73,13 +71,12 @@ one_of_two x a b (inl e) = (a, e, (0, omega arith, refl))
 one_of_two x a b (inr e) = (b, e, (1, omega arith, refl))
 
 -- without work the disk and the slots stay
-pub idle : {D : Type 0} (honest : Bool) (seen : D → List ℕ) (image : D → List ℕ → Type 0) (size faults : D → ℕ) (old : KvState D) (t : TxNo) (e : EnlNo) (n : Note) (a : Option Reply) (b : Bool) (ds : List KvDraft)
-    → IsKept honest (seen old.disk) (image old.disk) (size old.disk) old.memory → work_of old.memory (t.value, e.value) n ≡ Nothing → a ≡ answer_of old.memory (t.value, e.value) n Smooth
-    → drops old.memory (t.value, e.value) n Smooth ≡ b → without_draft (t.value, e.value) old.memory.drafts ≡ ds
-    → Gives honest image faults old t e n a (with_drafts (cond b ds old.memory.drafts) old)
-idle honest seen image size faults old t e n a b ds kept nothing answer dropped left =
+pub idle : {D : Type 0} (honest : Bool) (seen : D → List ℕ) (image : D → List ℕ → Type 0) (size faults : D → ℕ) (old : KvState D) (p : Pair) (n : Note) (a : Option Reply) (b : Bool) (ds : List KvDraft)
+    → IsKept honest (seen old.disk) (image old.disk) (size old.disk) old.memory → work_of old.memory p n ≡ Nothing → a ≡ answer_of old.memory p n Smooth
+    → drops old.memory p n Smooth ≡ b → without_draft p old.memory.drafts ≡ ds
+    → Gives honest image faults old p n a (with_drafts (cond b ds old.memory.drafts) old)
+idle honest seen image size faults old p n a b ds kept nothing answer dropped left =
     let m = old.memory in
-    let p : Pair = (t.value, e.value) in
     let held : IsTrue honest → IsFalse m.stopped → AllHold (image old.disk) (open_records m.slots) = λ h up. file_agrees kv_file (seen old.disk) (image old.disk) m.slots (kept.stored h up) in
     record {
       fate = Smooth;
@@ -87,6 +84,7 @@ idle honest seen image size faults old t e n a b ds kept nothing answer dropped 
       kept = sym (after_by m p n Smooth Nothing b ds nothing dropped left ∙ ap (λ (x : Bool). record { slots = m.slots; drafts = cond b ds m.drafts; stopped = x }) (or_false m.stopped));
       cause = λ no. absurd cc;
       smooth = λ _. refl;
+      earlier = ap (λ (w : Work). earlier_after old.earlier w Smooth) (sym nothing);
       idle = λ _. refl;
       leaves = λ h. record {
         images = λ up c on. (open_records m.slots, held h up c on, subst (λ (w : Work). Contains (may_hold m p w) (open_records m.slots)) (sym nothing) (0, omega arith, refl));
@@ -96,22 +94,22 @@ idle honest seen image size faults old t e n a b ds kept nothing answer dropped 
     }
 
 -- with work each image is one of those that it may be
-pub worked : {D : Type 0} (honest : Bool) (image : D → List ℕ → Type 0) (faults : D → ℕ) (old new : KvState D) (t : TxNo) (e : EnlNo) (n : Note) (a : Option Reply) (f : Fate) (w : Work)
-    → old.memory.stopped ≡ false → work_of old.memory (t.value, e.value) n ≡ w → is_work w ≡ true → a ≡ answer_of old.memory (t.value, e.value) n f
-    → new.memory ≡ memory_after old.memory (t.value, e.value) n f
+pub worked : {D : Type 0} (honest : Bool) (image : D → List ℕ → Type 0) (faults : D → ℕ) (old new : KvState D) (p : Pair) (n : Note) (a : Option Reply) (f : Fate) (w : Work)
+    → old.memory.stopped ≡ false → work_of old.memory p n ≡ w → is_work w ≡ true → a ≡ answer_of old.memory p n f
+    → new.memory ≡ memory_after old.memory p n f → new.earlier ≡ earlier_after old.earlier w f
     → (is_smooth f ≡ false → Rose (faults old.disk) (faults new.disk)) → (is_smooth f ≡ true → faults new.disk ≡ faults old.disk)
-    → (IsTrue honest → (c : List ℕ) → image new.disk c → (rs : List KvRecord) × (kv_has c ≡ Ok rs) × Contains (may_hold old.memory (t.value, e.value) w) rs)
+    → (IsTrue honest → (c : List ℕ) → image new.disk c → (rs : List KvRecord) × (kv_has c ≡ Ok rs) × Contains (may_hold old.memory p w) rs)
     → (IsTrue honest → IsFalse new.memory.stopped → AllHold (image new.disk) (open_records new.memory.slots))
-    → Gives honest image faults old t e n a new
-worked honest image faults old new t e n a f w up work some answer kept cause smooth images durable =
+    → Gives honest image faults old p n a new
+worked honest image faults old new p n a f w up work some answer kept since cause smooth images durable =
     let m = old.memory in
-    let p : Pair = (t.value, e.value) in
     record {
       fate = f;
       answer = answer;
       kept = kept;
       cause = cause;
       smooth = smooth;
+      earlier = since ∙ ap (λ (v : Work). earlier_after old.earlier v f) (sym work);
       idle = λ none. absurd (let both : true ≡ false = sym some ∙ ap is_work (sym work) ∙ none in cc);
       leaves = λ h. record {
         images = λ _ c on. let i = images h c on in (i.0, i.1, subst (λ (v : Work). Contains (may_hold m p v) i.0) (sym work) i.2);

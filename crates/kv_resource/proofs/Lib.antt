@@ -10,3 +10,4 @@ mod Turning
 mod Refusing
 pub mod Giving
 mod Noting
+mod Held

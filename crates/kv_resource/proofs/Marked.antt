@@ -2,18 +2,24 @@
 use Rattle.std.proofs.Common.{◌≡◌, inl, inr, ℕ, ◌+◌, ◌*◌, ◌≤◌, ◌<◌, Bool, true, false, eqb, List, [], ◌∷◌, length, get_or, take, drop, set, Result, Ok, Err, Some, refl, sym, ap, subst, ◌∙◌, arith}
 use Rattle.std.proofs.lemmas.Bool.{cases_eq}
 use Rattle.std.proofs.lemmas.Bool.Decides.{nat_tests}
-use Rattle.std.proofs.lemmas.List.{drop-take, get_or-take, get_or-drop}
+use Rattle.std.specs.Int.{w32, from_le_bytes}
+use Rattle.std.proofs.lemmas.List.{drop-drop, drop-take, get_or-take, get_or-drop, take-take}
 use Rattle.outside.specs.Disk.{Follows, IsOnly, IsTorn, overwritten}
 use Rattle.outside.proofs.Writing.{IsTorn-overwritten}
 use Rattle.dtx_model.specs.Log.{◌>>=◌}
 use Rattle.slotted.specs.Slotted.{HasSlotsBy, IsEitherBy, IsSlotBy, gated}
 use Rattle.slotted.proofs.SlotWrites.{from_only, gate_open, last_put, last_torn, open_slot, set_same, slot, slot_is}
-use Rattle.kv_resource.specs.Bytes.{KvRecord, kv_record_at, kv_slots, unmarked_at, with_mark}
+use Rattle.kv_resource.specs.Bytes.{KvRecord, kv_record_at, kv_slots, number32, unmarked_at, with_mark}
 use Rattle.kv_resource.proofs.Files.{kv_reads}
 
--- the bytes between the gate and the mark
-front_of : (s : List ℕ) → take 510 (drop 1 s) ≡ drop 1 (take 511 s)
-front_of s = sym (drop-take 1 510 s)
+-- the bytes between the gate and the epoch
+front_of : (s : List ℕ) → take 506 (drop 1 s) ≡ drop 1 (take 507 (take 511 s))
+front_of s = sym (ap (drop 1) (take-take 507 511 s (omega arith)) ∙ drop-take 1 506 s)
+
+-- the epoch
+epoch_of : (s : List ℕ) → number32 (drop 506 (drop 1 s)) ≡ number32 (drop 507 (take 511 s))
+unfolding number32
+epoch_of s = ap (λ (l : List ℕ). from_le_bytes w32 (take 4 l)) (drop-drop 506 1 s) ∙ ap (from_le_bytes w32) (sym (take-take 4 4 (drop 507 s) (omega arith)) ∙ ap (take 4) (sym (drop-take 507 4 s)))
 
 -- the mark
 mark_of : (s : List ℕ) → get_or (drop 1 s) 510 0 ≡ get_or s 511 0
@@ -30,8 +36,10 @@ unfolding kv_record_at
 marked_slot s c r same was =
     let gate : get_or s 0 0 ≡ 1 = gate_open kv_record_at s r was in
     let gate_too : get_or c 0 0 ≡ 1 = sym (get_or-take 511 c 0 0 (omega arith)) ∙ ap (λ (l : List ℕ). get_or l 0 0) same ∙ get_or-take 511 s 0 0 (omega arith) ∙ gate in
-    let u = unmarked_of (unmarked_at (take 510 (drop 1 s))) (eqb (get_or (drop 1 s) 510 0) 1) r (sym (open_slot kv_record_at s gate) ∙ was) in
-    let front : unmarked_at (take 510 (drop 1 c)) ≡ Ok u.0 = ap unmarked_at (front_of c ∙ ap (drop 1) same ∙ sym (front_of s)) ∙ u.1 in
+    let u = unmarked_of (unmarked_at (number32 (drop 506 (drop 1 s))) (take 506 (drop 1 s))) (eqb (get_or (drop 1 s) 510 0) 1) r (sym (open_slot kv_record_at s gate) ∙ was) in
+    let fronts : take 506 (drop 1 c) ≡ take 506 (drop 1 s) = front_of c ∙ ap (λ (l : List ℕ). drop 1 (take 507 l)) same ∙ sym (front_of s) in
+    let epochs : number32 (drop 506 (drop 1 c)) ≡ number32 (drop 506 (drop 1 s)) = epoch_of c ∙ ap (λ (l : List ℕ). number32 (drop 507 l)) same ∙ sym (epoch_of s) in
+    let front : unmarked_at (number32 (drop 506 (drop 1 c))) (take 506 (drop 1 c)) ≡ Ok u.0 = (λ j. unmarked_at (epochs j) (fronts j)) ∙ u.1 in
     let now : kv_record_at (drop 1 c) ≡ Ok (with_mark (eqb (get_or (drop 1 c) 510 0) 1) u.0) = rw front refl in
     let is : with_mark (eqb (get_or (drop 1 c) 510 0) 1) u.0 ≡ with_mark (eqb (get_or c 511 0) 1) r =
     ap (λ (n : ℕ). with_mark (eqb n 1) u.0) (mark_of c) ∙ ap (with_mark (eqb (get_or c 511 0) 1)) (sym u.2) in

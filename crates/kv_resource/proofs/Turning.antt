@@ -59,10 +59,12 @@ module _ {D : Type 0} {honest : Bool} {seen : D → List ℕ} {image : D → Lis
       many = omega (arith, ap length is, length-set m.slots k x, at.kept.many);
     }
 
-    pub turned : TurnsSlot honest image faults (record { disk = old; memory = m }) (record { disk = new; memory = record { slots = ss; drafts = ds; stopped = m.stopped } }) k x ds (Ok u)
-    turned = record {
+    pub turned : (before after : ℕ) → TurnsSlot honest image faults (record { disk = old; memory = m; earlier = before }) (record { disk = new; memory = record { slots = ss; drafts = ds; stopped = m.stopped }; earlier = after }) k x ds after (Ok u)
+    turned before after = record {
       done = λ i. record { slots = is i; drafts = ds; stopped = at.up i };
+      since = refl;
       failed = tt;
+      still = tt;
       smooth = works.smooth;
       cause = tt;
       images = left x (Ok u) puts works;
@@ -70,11 +72,13 @@ module _ {D : Type 0} {honest : Bool} {seen : D → List ℕ} {image : D → Lis
     }
 
   -- what was broken off
-  pub broken : (x : Option KvRecord) (f : Failed) → (IsTrue honest → PutsSlot seen image old new k x (Err f)) → Works size faults old new (Err f) → (ds : List KvDraft)
-      → TurnsSlot honest image faults (record { disk = old; memory = m }) (record { disk = new; memory = record { slots = m.slots; drafts = m.drafts; stopped = true } }) k x ds (Err f)
-  broken x f puts works ds = record {
+  pub broken : (x : Option KvRecord) (f : Failed) → (IsTrue honest → PutsSlot seen image old new k x (Err f)) → Works size faults old new (Err f) → (ds : List KvDraft) (before after : ℕ)
+      → TurnsSlot honest image faults (record { disk = old; memory = m; earlier = before }) (record { disk = new; memory = record { slots = m.slots; drafts = m.drafts; stopped = true }; earlier = before }) k x ds after (Err f)
+  broken x f puts works ds before after = record {
     done = tt;
+    since = tt;
     failed = refl;
+    still = refl;
     smooth = tt;
     cause = works.cause;
     images = left x (Err f) puts works;

@@ -1,12 +1,13 @@
 -- KvHas: what the bytes of a store stand for. After an open gate come the format, 1; the number of writes in two bytes; the transaction and the enlistment in four each; for each write its key in four bytes and its value in eight, the keys
--- rising; zeros up to place 510; and the mark at place 511, of which 1 is committed. All numbers have their lowest byte first.
+-- rising; zeros up to place 506; the transaction's epoch in four bytes; and the mark at place 511, of which 1 is committed. All numbers have their lowest byte first.
 use Rattle.std.specs.Prelude.{ℕ, zero, suc, ◌+◌, ◌-◌, ◌*◌, ◌==◌, nat_le, nat_lt, Bool, true, false, ◌&&◌, not, List, [], ◌∷◌, ◌++◌, length, take, drop, replicate, slice_index, Option, Some, None, Result, Ok, Err, if◌then◌else◌}
 use Rattle.std.specs.Int.{w16, w32, w64, from_le_bytes, to_le_bytes}
 use Rattle.std.specs.List.{flat_map}
 use Rattle.dtx_model.specs.Log.{◌>>=◌, zeros_at}
+use Rattle.dtx_values.specs.TxIds.{number_in}
 use Rattle.slotted.specs.Slotted.{SlotRead, gated, held_by, slots_in}
 
--- a prepared record: its transaction and enlistment, its writes (keys and values, the keys rising), and whether it is marked as committed
+-- a prepared record: its transaction, by the number for good, and enlistment; its writes (keys and values, the keys rising), and whether it is marked as committed
 pub record KvRecord : Type 0 where
   pub transaction : ℕ
   pub enlistment : ℕ
@@ -39,21 +40,21 @@ writes_at zero place before b = Ok ([], b)
 writes_at (suc n) place before b =
     if is_above before (number32 b) then (writes_at n (place + 12) (Some (number32 b)) (drop 12 b) >>= λ ws. Ok ((number32 b, number64 (drop 4 b)) ∷ ws.0, ws.1)) else Err place
 
--- an unmarked record, of the 510 bytes between the gate and the mark: place p of the slot is place p - 1 here
-unfoldable pub unmarked_at : List ℕ → Result KvRecord ℕ
-unmarked_at b =
+-- an unmarked record of a transaction of this epoch, of the 506 bytes between the gate and the epoch: place p of the slot is place p - 1 here
+unfoldable pub unmarked_at : ℕ → List ℕ → Result KvRecord ℕ
+unmarked_at epoch b =
     if not (slice_index b 0 == 1) then Err 1 else if not (is_within 40 (number16 (drop 1 b))) then Err 2 else
     if not (is_within 256 (number32 (drop 3 b))) then Err 4 else if not (is_within 9999 (number32 (drop 7 b))) then Err 8 else
     (writes_at (number16 (drop 1 b)) 12 None (drop 11 b) >>= λ ws. zeros_at (12 + 12 * number16 (drop 1 b)) ws.1 >>= λ _.
-    Ok (record { transaction = number32 (drop 3 b); enlistment = number32 (drop 7 b); writes = ws.0; marked = false }))
+    Ok (record { transaction = number_in epoch (number32 (drop 3 b)); enlistment = number32 (drop 7 b); writes = ws.0; marked = false }))
 
 -- a record with this mark
 abbrev pub with_mark : Bool → KvRecord → KvRecord
 with_mark m r = record { transaction = r.transaction; enlistment = r.enlistment; writes = r.writes; marked = m }
 
--- a record, of the 511 bytes after the gate: the mark comes last
+-- a record, of the 511 bytes after the gate: the epoch and the mark come last
 unfoldable pub kv_record_at : List ℕ → Result KvRecord ℕ
-kv_record_at b = unmarked_at (take 510 b) >>= λ r. Ok (with_mark (slice_index b 510 == 1) r)
+kv_record_at b = unmarked_at (number32 (drop 506 b)) (take 506 b) >>= λ r. Ok (with_mark (slice_index b 510 == 1) r)
 
 -- the slots of a store
 unfoldable pub kv_slots : List ℕ → List (SlotRead KvRecord)
@@ -67,15 +68,15 @@ kv_head = 68 ∷ 84 ∷ 88 ∷ 75 ∷ 86 ∷ 48 ∷ 49 ∷ 10 ∷ replicate 504 
 unfoldable pub kv_has : List ℕ → Result (List KvRecord) ℕ
 kv_has b = held_by kv_head kv_slots b
 
--- how a record is spelled between its gate and its mark
+-- how a record is spelled between its gate and its epoch, where t is its transaction's number within that
 abbrev pub write_bytes : ℕ × ℕ → List ℕ
 write_bytes w = to_le_bytes w32 w.0 ++ to_le_bytes w64 w.1
 
-unfoldable pub front_bytes : KvRecord → List ℕ
-front_bytes r = (1 ∷ []) ++ to_le_bytes w16 (length r.writes) ++ to_le_bytes w32 r.transaction ++ to_le_bytes w32 r.enlistment
+unfoldable pub front_bytes : ℕ → KvRecord → List ℕ
+front_bytes t r = (1 ∷ []) ++ to_le_bytes w16 (length r.writes) ++ to_le_bytes w32 t ++ to_le_bytes w32 r.enlistment
 
-unfoldable pub unmarked_bytes : KvRecord → List ℕ
-unmarked_bytes r = front_bytes r ++ flat_map write_bytes r.writes ++ replicate (499 - 12 * length r.writes) 0
+unfoldable pub unmarked_bytes : ℕ → KvRecord → List ℕ
+unmarked_bytes t r = front_bytes t r ++ flat_map write_bytes r.writes ++ replicate (495 - 12 * length r.writes) 0
 
 -- writes that a slot can spell, behind this key: the keys rise, and the numbers fit their bytes
 abbrev pub are_spelled : Option ℕ → List (ℕ × ℕ) → Bool

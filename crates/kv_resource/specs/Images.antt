@@ -5,12 +5,10 @@ use Rattle.outside.specs.Faults.{Rose}
 use Rattle.outside.specs.declared.failure.Failed.{Failed}
 use Rattle.dtx_values.specs.declared.note.Note.{Note}
 use Rattle.dtx_values.specs.declared.note.Reply.{Reply}
-use Rattle.dtx_values.specs.declared.number.EnlNo.{EnlNo}
-use Rattle.dtx_values.specs.declared.number.TxNo.{TxNo}
 use Rattle.slotted.specs.Slotted.{AgreesBy, HasSlotsBy, IsEitherBy}
 use Rattle.kv_resource.specs.Bytes.{KvRecord, kv_has, kv_head, kv_slots}
 use Rattle.kv_resource.specs.Store.{KvDraft, KvMemory, KvState, Pair, open_records}
-use Rattle.kv_resource.specs.Notes.{Fate, Work, Closes, Marks, Nothing, Writes, WritesAndMarks, answer_of, closed_record, fresh_record, is_smooth, is_work, marked_record, memory_after, on_unmarked, work_of}
+use Rattle.kv_resource.specs.Notes.{Fate, Work, Closes, Marks, Nothing, Writes, WritesAndMarks, answer_of, closed_record, earlier_after, fresh_record, is_smooth, is_work, marked_record, memory_after, on_unmarked, work_of}
 
 -- what each image may hold after the work, whatever failed: as before, or after a part of it that ends with a sync
 abbrev pub may_hold : KvMemory → Pair → Work → List (List KvRecord)
@@ -42,14 +40,15 @@ pub record Leaves {D : Type 0} (image : D → List ℕ → Type 0) (old : KvStat
   pub stopped : IsTrue old.memory.stopped → AreWithin (image old.disk) (image new.disk)
 
 -- What a store gives to a note, with its cause and its images.
-pub record Gives {D : Type 0} (honest : Bool) (image : D → List ℕ → Type 0) (faults : D → ℕ) (old : KvState D) (t : TxNo) (e : EnlNo) (n : Note) (a : Option Reply) (new : KvState D) : Type 0 where
+pub record Gives {D : Type 0} (honest : Bool) (image : D → List ℕ → Type 0) (faults : D → ℕ) (old : KvState D) (p : Pair) (n : Note) (a : Option Reply) (new : KvState D) : Type 0 where
   pub fate : Fate
-  pub answer : a ≡ answer_of old.memory (t.value, e.value) n fate
-  pub kept : new.memory ≡ memory_after old.memory (t.value, e.value) n fate
+  pub answer : a ≡ answer_of old.memory p n fate
+  pub kept : new.memory ≡ memory_after old.memory p n fate
   pub cause : is_smooth fate ≡ false → Rose (faults old.disk) (faults new.disk)
   pub smooth : is_smooth fate ≡ true → faults new.disk ≡ faults old.disk
-  pub idle : is_work (work_of old.memory (t.value, e.value) n) ≡ false → new.disk ≡ old.disk
-  pub leaves : IsTrue honest → Leaves image old (t.value, e.value) n new
+  pub earlier : new.earlier ≡ earlier_after old.earlier (work_of old.memory p n) fate
+  pub idle : is_work (work_of old.memory p n) ≡ false → new.disk ≡ old.disk
+  pub leaves : IsTrue honest → Leaves image old p n new
 
 -- Device work, by which slot k of a store on a synced disk becomes this.
 pub record PutsSlot {D : Type 0} (seen : D → List ℕ) (image : D → List ℕ → Type 0) (old new : D) (k : ℕ) (x : Option KvRecord) (result : Result (Unit {0}) Failed) : Type 0 where
@@ -64,10 +63,12 @@ pub record Works {D : Type 0} (size faults : D → ℕ) (old new : D) (result : 
   pub grows : faults old ≤ faults new
   pub cause : OnErr result (Rose (faults old) (faults new))
 
--- the work of a store by which its slot k becomes this, and its drafts these: after a fault its memory is as before, and it is stopped
-pub record TurnsSlot {D : Type 0} (honest : Bool) (image : D → List ℕ → Type 0) (faults : D → ℕ) (old new : KvState D) (k : ℕ) (x : Option KvRecord) (drafts : List KvDraft) (result : Result (Unit {0}) Failed) : Type 0 where
+-- the work of a store by which its slot k becomes this, its drafts these, and the first slot that isn't an earlier process's this: after a fault its memory is as before, and it is stopped
+pub record TurnsSlot {D : Type 0} (honest : Bool) (image : D → List ℕ → Type 0) (faults : D → ℕ) (old new : KvState D) (k : ℕ) (x : Option KvRecord) (drafts : List KvDraft) (earlier : ℕ) (result : Result (Unit {0}) Failed) : Type 0 where
   pub done : OnOk result (new.memory ≡ record { slots = set old.memory.slots k x; drafts = drafts; stopped = false })
+  pub since : OnOk result (new.earlier ≡ earlier)
   pub failed : OnErr result (new.memory ≡ record { slots = old.memory.slots; drafts = old.memory.drafts; stopped = true })
+  pub still : OnErr result (new.earlier ≡ old.earlier)
   pub smooth : OnOk result (faults new.disk ≡ faults old.disk)
   pub cause : OnErr result (Rose (faults old.disk) (faults new.disk))
   pub images : IsTrue honest → (c : List ℕ) → image new.disk c → (kv_has c ≡ Ok (open_records old.memory.slots)) ⊎ (kv_has c ≡ Ok (open_records (set old.memory.slots k x)))

@@ -4,3 +4,4 @@ pub mod Table
 pub mod Refusals
 pub mod Notes
 pub mod Images
+pub mod Held

@@ -1,5 +1,5 @@
 -- What a store answers to a note, and what it keeps then: by what it kept before, and by whether a call of its disk failed under the note.
-use Rattle.std.specs.Prelude.{ℕ, Bool, true, false, ◌&&◌, ◌||◌, not, List, [], ◌∷◌, set, Option, Some, None, if◌then◌else◌}
+use Rattle.std.specs.Prelude.{ℕ, min, Bool, true, false, ◌&&◌, ◌||◌, not, List, [], ◌∷◌, set, Option, Some, None, if◌then◌else◌}
 use Rattle.dtx_values.specs.declared.note.Note.{Note}
 use Rattle.dtx_values.specs.declared.note.Note.TheVariants.{Prepare, Promote, Hand, Single, Commit, Rollback}
 use Rattle.dtx_values.specs.declared.note.Reply.{Reply}
@@ -116,3 +116,10 @@ memory_after m p n f =
       drafts = (if drops m p n f then without_draft p m.drafts else m.drafts);
       stopped = m.stopped || (is_work (work_of m p n) && not (is_smooth f));
     }
+
+-- the first slot that isn't an earlier process's: where a record was written into a slot below it, that slot
+abbrev pub earlier_after : ℕ → Work → Fate → ℕ
+earlier_after n (Writes k) f = if is_smooth f then min n k else n
+earlier_after n (WritesAndMarks k) AtRecord = n
+earlier_after n (WritesAndMarks k) f = min n k
+earlier_after n _ f = n

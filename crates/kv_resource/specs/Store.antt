@@ -3,7 +3,8 @@ use Rattle.std.specs.Prelude.{ℕ, suc, ◌==◌, nat_lt, Bool, true, false, ◌
 use Rattle.std.specs.List.{filter_map}
 use Rattle.dtx_model.specs.Words.{has}
 use Rattle.dtx_values.specs.declared.number.EnlNo.{EnlNo}
-use Rattle.dtx_values.specs.declared.number.TxNo.{TxNo}
+use Rattle.dtx_values.specs.declared.tx_id.TxId.{TxId}
+use Rattle.dtx_values.specs.TxIds.{number_of}
 use Rattle.slotted.specs.Slotted.{held_in}
 use Rattle.kv_resource.specs.Bytes.{KvRecord}
 
@@ -19,15 +20,17 @@ pub record KvMemory : Type 0 where
   pub drafts : List KvDraft
   pub stopped : Bool
 
+-- a store. Each open slot below `earlier` was there when the store was opened; those from it on were written by calls of this process.
 pub record KvState (D : Type 0) : Type 0 where
   pub disk : D
   pub memory : KvMemory
+  pub earlier : ℕ
 
 -- the records of the open slots, in order of slots
 abbrev pub open_records : List (Option KvRecord) → List KvRecord
 open_records ss = held_in ss
 
--- a pair: a transaction and an enlistment of it
+-- a pair: a transaction, by its number for good, and an enlistment of it
 abbrev pub Pair : Type 0
 Pair = ℕ × ℕ
 
@@ -38,8 +41,8 @@ pair_of_record r = (r.transaction, r.enlistment)
 abbrev pub pair_of_draft : KvDraft → Pair
 pair_of_draft d = (d.transaction, d.enlistment)
 
-abbrev pub numbers_of : TxNo × EnlNo → Pair
-numbers_of x = (x.0.value, x.1.value)
+abbrev pub numbers_of : TxId × EnlNo → Pair
+numbers_of x = (number_of x.0, x.1.value)
 
 abbrev pub is_record_of : Pair → KvRecord → Bool
 is_record_of p r = (p.0 == r.transaction) && (p.1 == r.enlistment)
@@ -184,7 +187,7 @@ without_draft p (d ∷ ds) = if is_draft_of p d then ds else d ∷ without_draft
 
 -- a store with these drafts
 abbrev pub with_drafts : {D : Type 0} → List KvDraft → KvState D → KvState D
-with_drafts ds s = record { disk = s.disk; memory = record { slots = s.memory.slots; drafts = ds; stopped = s.memory.stopped } }
+with_drafts ds s = record { disk = s.disk; memory = record { slots = s.memory.slots; drafts = ds; stopped = s.memory.stopped }; earlier = s.earlier }
 
 abbrev pub after_put : {D : Type 0} → Pair → ℕ → ℕ → KvState D → KvState D
 after_put p k v s = with_drafts (with_draft p k v s.memory.drafts) s

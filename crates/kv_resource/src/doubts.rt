@@ -5,7 +5,7 @@ ghost use Rattle.dtx_model.specs.Words.{put};
 ghost use Rattle.kv_resource.specs.Store.{in_doubt, numbers_of, open_records};
 
 use crate::record::Record;
-use dtx_values::{EnlNo, TxNo};
+use dtx_values::{EnlNo, TxId};
 use std::marker::Model;
 
 /// The enlistments in doubt: those of the open slots that aren't marked, in order of slots.
@@ -38,13 +38,13 @@ impl<'a> Iterator for InDoubt<'a> {
     ghost use Rattle.std.specs.Iterator.{YieldsFirstBy, item_count};
     ghost use Rattle.kv_resource.specs.Store.{numbers_of};
 
-    type Item = (TxNo, EnlNo);
+    type Item = (TxId, EnlNo);
 
     ghost next_gives = { YieldsFirstBy numbers_of (λ s. s) };
 
     ghost remaining = { item_count (λ s. s) };
 
-    fn next(&mut self) -> Option<(TxNo, EnlNo)> {
+    fn next(&mut self) -> Option<(TxId, EnlNo)> {
         let (pair, rest) = next_of(self.slots);
         self.slots = rest;
         pair
@@ -52,7 +52,7 @@ impl<'a> Iterator for InDoubt<'a> {
 }
 
 // The first of these in doubt, and the slots after it.
-fn next_of(slots: &[Option<Record>]) -> (Option<(TxNo, EnlNo)>, &[Option<Record>])
+fn next_of(slots: &[Option<Record>]) -> (Option<(TxId, EnlNo)>, &[Option<Record>])
     ensures first { put (option_map numbers_of result.0) (in_doubt (open_records result.1.now)) ≡ in_doubt (open_records slots.now) }
     ensures none { IfNone result.0 (in_doubt (open_records slots.now) ≡ []) }
 {

@@ -1,12 +1,13 @@
 //! What an enlistment wrote.
 ghost use Rattle.std.specs.Prelude.{◌≡◌, ◌≤◌, ◌<◌, ◌⊎◌, [], ◌∷◌, length, nat_lt, ◌||◌, true, None, IsTrue};
 ghost use Rattle.arrayvec.specs.ArrayVec.{array_vec_len};
+ghost use Rattle.dtx_values.specs.TxIds.{number_of};
 ghost use Rattle.kv_resource.specs.Bytes.{are_spelled};
 ghost use Rattle.kv_resource.specs.Store.{is_draft_of, place_in, with_write, wrote_key};
 
 use crate::layout::KEYS;
 use arrayvec::ArrayVec;
-use dtx_values::{EnlNo, TxNo};
+use dtx_values::{EnlNo, TxId};
 use std::marker::Model;
 
 /// The writes of an enlistment, at least one: keys with their values, the keys rising.
@@ -14,27 +15,28 @@ use std::marker::Model;
 /// A clause sees it as a `KvDraft`.
 #[derive(Drop)]
 pub struct Draft {
-    t: TxNo,
+    t: TxId,
     e: EnlNo,
     writes: ArrayVec<(u32, u64), KEYS>,
 }
 
 impl Model for Draft {
     ghost use Rattle.std.specs.Prelude.{◌≡◌, ◌≤◌, length, None, true};
+    ghost use Rattle.dtx_values.specs.TxIds.{number_of};
     ghost use Rattle.kv_resource.specs.Bytes.{are_spelled};
     ghost use Rattle.kv_resource.specs.Store.{KvDraft};
 
     ghost Value = { KvDraft };
 
-    ghost view = { λ d. record { transaction = d.t.value; enlistment = d.e.value; writes = d.writes.items } };
+    ghost view = { λ d. record { transaction = number_of d.t; enlistment = d.e.value; writes = d.writes.items } };
 
     ghost invariant = { λ d. (1 ≤ length d.writes.items) × (are_spelled None d.writes.items ≡ true) };
 }
 
 impl Draft {
     /// A first write.
-    pub fn new(t: TxNo, e: EnlNo, key: u32, value: u64) -> Draft
-        ensures { result ≡ record { transaction = t.value; enlistment = e.value; writes = (key, value) ∷ [] } }
+    pub fn new(t: TxId, e: EnlNo, key: u32, value: u64) -> Draft
+        ensures { result ≡ record { transaction = number_of t; enlistment = e.value; writes = (key, value) ∷ [] } }
     {
         let mut writes = ArrayVec::new();
         writes.push((key, value));
@@ -42,17 +44,17 @@ impl Draft {
     }
 
     /// These writes.
-    pub fn of(t: TxNo, e: EnlNo, writes: ArrayVec<(u32, u64), KEYS>) -> Draft
+    pub fn of(t: TxId, e: EnlNo, writes: ArrayVec<(u32, u64), KEYS>) -> Draft
         requires some { 1 ≤ array_vec_len writes }
         requires spelled { are_spelled None writes.items ≡ true }
-        ensures { result ≡ record { transaction = t.value; enlistment = e.value; writes = writes.items } }
+        ensures { result ≡ record { transaction = number_of t; enlistment = e.value; writes = writes.items } }
     {
         Draft { t, e, writes }
     }
 
     /// Its transaction.
-    pub fn transaction(&self) -> TxNo
-        ensures { result.value ≡ self.now.transaction }
+    pub fn transaction(&self) -> TxId
+        ensures { number_of result ≡ self.now.transaction }
     {
         self.t
     }
@@ -75,10 +77,10 @@ impl Draft {
     }
 
     /// Whether it is of this enlistment.
-    pub fn is_of(&self, t: TxNo, e: EnlNo) -> bool
-        ensures { result ≡ is_draft_of (t.value, e.value) self.now }
+    pub fn is_of(&self, t: TxId, e: EnlNo) -> bool
+        ensures { result ≡ is_draft_of (number_of t, e.value) self.now }
     {
-        t.get() == self.t.get() && e.get() == self.e.get()
+        t.number() == self.t.number() && e.get() == self.e.get()
     }
 
     /// Whether it wrote the key.

@@ -1,7 +1,8 @@
 //! The store.
-ghost use Rattle.std.specs.Prelude.{◌≡◌, ◌≢◌, ◌⊎◌, ◌≤◌, ◌<◌, ℕ, [], length, map, set, remove, slice_index_or, true, false, IfErr, IfOk, IsSome, IsTrue, IsFalse, Err, Ok, Some, None, OnErr, OnOk, if◌then◌else◌};
+ghost use Rattle.std.specs.Prelude.{◌≡◌, ◌≢◌, ◌⊎◌, ◌≤◌, ◌<◌, ℕ, [], length, map, min, set, remove, take, slice_index_or, true, false, IfErr, IfOk, IsSome, IsTrue, IsFalse, Err, Ok, Some, None, OnErr, OnOk, if◌then◌else◌};
 ghost use Rattle.outside.specs.Disk.{AreWithin};
 ghost use Rattle.outside.specs.Faults.{Rose};
+ghost use Rattle.dtx_values.specs.TxIds.{number_of};
 ghost use Rattle.dtx_values.specs.declared.note.Note.{Note};
 ghost use Rattle.dtx_values.specs.declared.note.Note.TheVariants.{Prepare, Hand, Commit, Rollback};
 ghost use Rattle.dtx_values.specs.declared.note.Reply.TheVariants.{Vote as VoteReply, Owner, Ack};
@@ -15,26 +16,29 @@ use crate::device::{close, mark, store};
 use crate::doubts::InDoubt;
 use crate::draft::Draft;
 use crate::drafts::{busy_draft, draft_at};
+use crate::holdings::held_at;
 use crate::layout::{KEYS, KV_BYTES};
 use crate::opening::{close_all, read_all, row_room, slot_room, store_head};
 use crate::record::Record;
 use crate::refusal::KvRefusal;
 use crate::rows::{fill, value_in};
 use crate::slots::{
-    busy_slot, is_marked, mark_slot, next_slot, put_marked, slot_of, unmarked_slot_of,
+    busy_slot, is_marked, mark_slot, next_slot, open_slots, put_marked, slot_of, unmarked_slot_of,
 };
-use dtx_values::{EnlNo, Note, Outcome, Reply, Resource, TxNo, Vote};
+use dtx_values::{EnlNo, Note, Outcome, Reply, Resource, TxId, TxNo, Vote};
 use outside::{Disk, Failed};
+use resource_managers::{Enlistment, Held, Recoverable, ResourceManager};
 use slotted::{SLOTS, blank, zeros};
 use std::alloc::Global;
 use std::marker::Model;
 
 /// A store of keys over a disk of at least [`KV_BYTES`](crate::KV_BYTES) bytes.
 ///
-/// A clause sees it as a `KvState`: its disk; the records of its slots; its drafts, which are writes that aren't on the disk yet; and whether it is stopped.
+/// A clause sees it as a `KvState`: its disk; the records of its slots; its drafts, which are writes that aren't on the disk yet; whether it is stopped; and the lowest slot that
+/// isn't an earlier process's.
 ///
 /// What was put for an enlistment is a draft until its Prepare, or its Hand, writes it. Until a call of its disk fails, the slots in memory are those on the disk, and each image
-/// that a crash can leave has the same records. Then the store is stopped for good: it calls its disk no more, and takes no put. After its making no call but `put` takes memory.
+/// that a crash can leave has the same records. Then the store is stopped for good: it calls its disk no more, and takes no put. After its making no call but a put takes memory.
 ///
 /// Its table is in memory too, the keys rising, so that a key is found by halving. Room for each row that its slots may ever have is taken at its making.
 #[derive(Drop)]
@@ -44,6 +48,7 @@ pub struct Kv<D: Disk> {
     drafts: Vec<Draft>,
     table: Vec<(u32, u64)>,
     stopped: bool,
+    earlier: usize,
 }
 
 impl<D: Disk> Model for Kv<D> {
@@ -54,7 +59,7 @@ impl<D: Disk> Model for Kv<D> {
 
     ghost Value = { KvState D };
 
-    ghost view = { λ k. record { disk = k.disk; memory = record { slots = k.slots.items; drafts = k.drafts.items; stopped = k.stopped } } };
+    ghost view = { λ k. record { disk = k.disk; memory = record { slots = k.slots.items; drafts = k.drafts.items; stopped = k.stopped }; earlier = k.earlier } };
 
     ghost invariant = { λ k. IsKept D.honest (D.seen k.disk) (D.image k.disk) (D.size k.disk) (record { slots = k.slots.items; drafts = k.drafts.items; stopped = k.stopped }) × IsTabled k.table.items (vec_capacity k.table) k.slots.items };
 }
@@ -70,6 +75,7 @@ impl<D: Disk> Kv<D> {
         ensures empty { IfOk result (λ s. open_records s.memory.slots ≡ []) }
         ensures no_drafts { IfOk result (λ s. s.memory.drafts ≡ []) }
         ensures up { IfOk result (λ s. IsFalse s.memory.stopped) }
+        ensures earlier { IfOk result (λ s. s.earlier ≡ 0) }
         ensures images { IsTrue D.honest → IfOk result (λ s. AllHold (D.image s.disk) []) }
         ensures smooth { IfOk result (λ s. D.faults s.disk ≡ D.faults disk) }
         ensures only { IfErr result (λ e. (e.0 ≡ KvRefusal.Fault) ⊎ (e.0 ≡ KvRefusal.Memory)) }
@@ -101,6 +107,7 @@ impl<D: Disk> Kv<D> {
             drafts: Vec::new(alloc),
             table,
             stopped: false,
+            earlier: 0,
         })
     }
 
@@ -115,6 +122,7 @@ impl<D: Disk> Kv<D> {
         ensures records { IsTrue D.honest → IfOk result (λ s. kv_has (D.seen disk) ≡ Ok (open_records s.memory.slots)) }
         ensures no_drafts { IfOk result (λ s. s.memory.drafts ≡ []) }
         ensures up { IfOk result (λ s. IsFalse s.memory.stopped) }
+        ensures earlier { IfOk result (λ s. s.earlier ≡ SLOTS) }
         ensures images { IsTrue D.honest → IfOk result (λ s. AllHold (D.image s.disk) (open_records s.memory.slots)) }
         ensures seen { IsTrue D.honest → IfOk result (λ s. D.seen s.disk ≡ D.seen disk) }
         ensures within { IsTrue D.honest → IfOk result (λ s. AreWithin (D.image disk) (D.image s.disk)) }
@@ -148,6 +156,7 @@ impl<D: Disk> Kv<D> {
                     drafts: Vec::new(alloc),
                     table,
                     stopped: false,
+                    earlier: SLOTS,
                 })
             }
             Err(e) => Err((e, disk)),
@@ -167,10 +176,10 @@ impl<D: Disk> Kv<D> {
     /// - and then [`KvRefusal::Memory`].
     ///
     /// An error changes nothing.
-    pub fn put(&mut self, t: TxNo, e: EnlNo, key: u32, value: u64) -> Result<(), KvRefusal>
-        ensures ok { OnOk result (put_refusal self.old.memory (t.value, e.value) key ≡ None) }
-        ensures put { OnOk result (self.new ≡ after_put (t.value, e.value) key value self.old) }
-        ensures refused { IfErr result (λ r. put_refusal self.old.memory (t.value, e.value) key ≡ why_of r) }
+    pub fn put_in(&mut self, t: TxId, e: EnlNo, key: u32, value: u64) -> Result<(), KvRefusal>
+        ensures ok { OnOk result (put_refusal self.old.memory (number_of t, e.value) key ≡ None) }
+        ensures put { OnOk result (self.new ≡ after_put (number_of t, e.value) key value self.old) }
+        ensures refused { IfErr result (λ r. put_refusal self.old.memory (number_of t, e.value) key ≡ why_of r) }
         ensures only { IfErr result (λ r. (r ≡ KvRefusal.Memory) ⊎ IsSome (why_of r)) }
         ensures unchanged { OnErr result (self.new ≡ self.old) }
     {
@@ -201,6 +210,21 @@ impl<D: Disk> Kv<D> {
         }
     }
 
+    /// Puts a write of an enlistment of epoch 0, as [`put_in`](Kv::put_in) does.
+    ///
+    /// # Errors
+    ///
+    /// Those of [`put_in`](Kv::put_in).
+    pub fn put(&mut self, t: TxNo, e: EnlNo, key: u32, value: u64) -> Result<(), KvRefusal>
+        ensures ok { OnOk result (put_refusal self.old.memory (t.value, e.value) key ≡ None) }
+        ensures put { OnOk result (self.new ≡ after_put (t.value, e.value) key value self.old) }
+        ensures refused { IfErr result (λ r. put_refusal self.old.memory (t.value, e.value) key ≡ why_of r) }
+        ensures only { IfErr result (λ r. (r ≡ KvRefusal.Memory) ⊎ IsSome (why_of r)) }
+        ensures unchanged { OnErr result (self.new ≡ self.old) }
+    {
+        self.put_in(TxId::first(t), e, key, value)
+    }
+
     /// What the key has in the table: what the marked records wrote, in order of slots. It is found by halving.
     pub fn get(&self, key: u32) -> Option<u64>
         ensures { result ≡ get_in key (table_of (open_records self.now.memory.slots)) }
@@ -215,7 +239,7 @@ impl<D: Disk> Kv<D> {
         &self.table
     }
 
-    /// The enlistments in doubt, in order of slots: they prepared, and have neither committed nor rolled back.
+    /// The enlistments in doubt, in order of slots: they prepared, in this process or an earlier one, and have neither committed nor rolled back.
     pub fn in_doubt(&self) -> InDoubt<'_>
         ensures { result ≡ in_doubt (open_records self.now.memory.slots) }
     {
@@ -233,6 +257,7 @@ impl<D: Disk> Kv<D> {
             drafts: _,
             table: _,
             stopped: _,
+            earlier: _,
         } = self;
         disk
     }
@@ -244,13 +269,14 @@ impl<D: Disk> Kv<D> {
         requires slot { k < SLOTS }
         requires closed { slice_index_or self.old.memory.slots k None ≡ None }
         ensures { (d : KvDraft) → d ≡ slice_index_or self.old.memory.drafts i d
-            → TurnsSlot D.honest D.image D.faults self.old self.new k (Some (record_with false d)) (remove self.old.memory.drafts i) result }
+            → TurnsSlot D.honest D.image D.faults self.old self.new k (Some (record_with false d)) (remove self.old.memory.drafts i) (min self.old.earlier k) result }
     {
         let result = store(&mut self.disk, k, &self.drafts[i]);
         match result {
             Ok(()) => {
                 let draft = self.drafts.remove(i);
                 self.slots[k] = Some(Record::new(draft, false));
+                self.earlier = self.earlier.min(k);
             }
             Err(_) => self.stopped = true,
         }
@@ -263,7 +289,7 @@ impl<D: Disk> Kv<D> {
         requires slot { k < SLOTS }
         requires unmarked { IsTrue (on_open is_unmarked (slice_index_or self.old.memory.slots k None)) }
         ensures { (r : KvRecord) → slice_index_or self.old.memory.slots k None ≡ Some r
-            → TurnsSlot D.honest D.image D.faults self.old self.new k (Some (with_mark true r)) self.old.memory.drafts result }
+            → TurnsSlot D.honest D.image D.faults self.old self.new k (Some (with_mark true r)) self.old.memory.drafts self.old.earlier result }
     {
         let result = mark(&mut self.disk, k);
         match result {
@@ -281,7 +307,7 @@ impl<D: Disk> Kv<D> {
         requires up { IsFalse self.old.memory.stopped }
         requires slot { k < SLOTS }
         requires unmarked { IsTrue (on_open is_unmarked (slice_index_or self.old.memory.slots k None)) }
-        ensures { TurnsSlot D.honest D.image D.faults self.old self.new k None self.old.memory.drafts result }
+        ensures { TurnsSlot D.honest D.image D.faults self.old self.new k None self.old.memory.drafts self.old.earlier result }
     {
         let result = close(&mut self.disk, k);
         match result {
@@ -289,6 +315,14 @@ impl<D: Disk> Kv<D> {
             Err(_) => self.stopped = true,
         }
         result
+    }
+
+    // The slots that calls of this process didn't write.
+    fn earlier_slots(&self) -> &[Option<Record>]
+        ensures { result.now ≡ take self.now.earlier self.now.memory.slots }
+    {
+        let end = self.earlier.min(self.slots.len());
+        &self.slots[..end]
     }
 
     // The slot for one more record, where there is one and the store isn't stopped.
@@ -302,8 +336,8 @@ impl<D: Disk> Kv<D> {
     }
 
     // Drops the draft of an enlistment, where it has one.
-    fn drop_draft(&mut self, t: TxNo, e: EnlNo)
-        ensures { self.new ≡ with_drafts (without_draft (t.value, e.value) self.old.memory.drafts) self.old }
+    fn drop_draft(&mut self, t: TxId, e: EnlNo)
+        ensures { self.new ≡ with_drafts (without_draft (number_of t, e.value) self.old.memory.drafts) self.old }
     {
         if let Some(i) = draft_at(&self.drafts, t, e) {
             self.drafts.remove(i);
@@ -311,8 +345,8 @@ impl<D: Disk> Kv<D> {
     }
 
     // Votes: what was written is made safe.
-    fn prepare(&mut self, t: TxNo, e: EnlNo) -> Vote
-        ensures { Gives D.honest D.image D.faults self.old t e Prepare (Some (VoteReply result)) self.new }
+    fn prepare(&mut self, t: TxId, e: EnlNo) -> Vote
+        ensures { Gives D.honest D.image D.faults self.old (number_of t, e.value) Prepare (Some (VoteReply result)) self.new }
     {
         if let Some(k) = slot_of(&self.slots, t, e) {
             if is_marked(&self.slots, k) {
@@ -340,8 +374,8 @@ impl<D: Disk> Kv<D> {
     }
 
     // Decides: what was written is made safe and marked.
-    fn decide(&mut self, t: TxNo, e: EnlNo) -> Outcome
-        ensures { Gives D.honest D.image D.faults self.old t e Hand (Some (Owner result)) self.new }
+    fn decide(&mut self, t: TxId, e: EnlNo) -> Outcome
+        ensures { Gives D.honest D.image D.faults self.old (number_of t, e.value) Hand (Some (Owner result)) self.new }
     {
         if let Some(k) = slot_of(&self.slots, t, e) {
             if is_marked(&self.slots, k) {
@@ -373,8 +407,8 @@ impl<D: Disk> Kv<D> {
     }
 
     // Marks what was prepared.
-    fn commit(&mut self, t: TxNo, e: EnlNo) -> Option<Reply>
-        ensures { Gives D.honest D.image D.faults self.old t e Commit result self.new }
+    fn commit(&mut self, t: TxId, e: EnlNo) -> Option<Reply>
+        ensures { Gives D.honest D.image D.faults self.old (number_of t, e.value) Commit result self.new }
     {
         let Some(k) = unmarked_slot_of(&self.slots, t, e) else {
             return Some(Reply::Ack);
@@ -389,8 +423,8 @@ impl<D: Disk> Kv<D> {
     }
 
     // Drops what was written, but for what is marked.
-    fn roll_back(&mut self, t: TxNo, e: EnlNo)
-        ensures { Gives D.honest D.image D.faults self.old t e Rollback None self.new }
+    fn roll_back(&mut self, t: TxId, e: EnlNo)
+        ensures { Gives D.honest D.image D.faults self.old (number_of t, e.value) Rollback None self.new }
     {
         self.drop_draft(t, e);
         let Some(k) = unmarked_slot_of(&self.slots, t, e) else {
@@ -402,14 +436,11 @@ impl<D: Disk> Kv<D> {
         // A fault here stops the store, and the record stays in doubt.
         let _ = self.close(k);
     }
-}
 
-impl<D: Disk + Drop> Resource for Kv<D> {
-    ghost use Rattle.kv_resource.specs.Images.{Gives};
-
-    ghost gives = { Gives D.honest D.image D.faults };
-
-    fn on(&mut self, t: TxNo, e: EnlNo, n: Note) -> Option<Reply> {
+    // Hears a note.
+    fn hear(&mut self, t: TxId, e: EnlNo, n: Note) -> Option<Reply>
+        ensures { Gives D.honest D.image D.faults self.old (number_of t, e.value) n result self.new }
+    {
         // A field that is read brings in what holds of each store.
         let _stopped = self.stopped;
         match n {
@@ -425,5 +456,61 @@ impl<D: Disk + Drop> Resource for Kv<D> {
             Note::Init => None,
             Note::InDoubt => None,
         }
+    }
+}
+
+impl<D: Disk + Drop> Resource for Kv<D> {
+    ghost use Rattle.kv_resource.specs.Images.{Gives};
+
+    ghost gives = { λ old t e n a new. Gives D.honest D.image D.faults old (t.value, e.value) n a new };
+
+    fn on(&mut self, t: TxNo, e: EnlNo, n: Note) -> Option<Reply> {
+        self.hear(TxId::first(t), e, n)
+    }
+}
+
+impl<D: Disk + Drop> ResourceManager for Kv<D> {
+    ghost use Rattle.resource_managers.specs.Pairs.{pair_of};
+    ghost use Rattle.kv_resource.specs.Images.{Gives};
+
+    ghost gives = { λ old e n a new. Gives D.honest D.image D.faults old (pair_of e) n a new };
+
+    fn on(&mut self, e: Enlistment, n: Note) -> Option<Reply> {
+        self.hear(e.transaction(), e.number(), n)
+    }
+}
+
+impl<D: Disk + Drop> Recoverable for Kv<D> {
+    ghost use Rattle.std.specs.Prelude.{◌⊎◌, IsTrue};
+    ghost use Rattle.outside.specs.Faults.{Rose};
+    ghost use Rattle.kv_resource.specs.Held.{MayLeave, holdings_of};
+
+    ghost holds = { λ s. holdings_of s };
+
+    ghost leaves = { λ s hs. MayLeave D.honest D.image s hs };
+
+    ghost fails = { λ old new. IsTrue old.memory.stopped ⊎ Rose (D.faults old.disk) (D.faults new.disk) };
+
+    fn count(&self) -> usize {
+        open_slots(&self.slots)
+    }
+
+    fn held(&self, place: usize) -> Option<Held> {
+        held_at(&self.slots, self.earlier, place)
+    }
+
+    fn in_doubt(&self) -> Option<Enlistment> {
+        let (t, e) = InDoubt::of(self.earlier_slots()).next()?;
+        Some(Enlistment::new(t, e))
+    }
+
+    fn finish(&mut self, e: Enlistment, commit: bool) -> Result<(), Failed> {
+        let Some(k) = unmarked_slot_of(self.earlier_slots(), e.transaction(), e.number()) else {
+            return Ok(());
+        };
+        if self.stopped {
+            return Err(Failed);
+        }
+        if commit { self.mark(k) } else { self.close(k) }
     }
 }

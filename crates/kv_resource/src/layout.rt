@@ -18,7 +18,7 @@ pub const FORMAT: u8 = 1;
 /// The place of the number of writes in a record, in two bytes.
 pub const COUNT: usize = 1;
 
-/// The place of the transaction's number in a record, in four bytes.
+/// The place of the transaction's number within its epoch in a record, in four bytes.
 pub const TRANSACTION: usize = 3;
 
 /// The place of the enlistment's number in a record, in four bytes.
@@ -30,6 +30,9 @@ pub const FIRST_WRITE: usize = 11;
 /// The length of a write in bytes: a key in four, and a value in eight.
 pub const WRITE_BYTES: usize = 12;
 
+/// The place of the transaction's epoch in a record, in four bytes.
+pub const EPOCH: usize = 506;
+
 /// The place of the mark in a record, its last byte.
 pub const MARK: usize = 510;
 
@@ -38,4 +41,6 @@ pub const MARKED: u8 = 1;
 
 const _: () = prove!(MARK == RECORD_BYTES - 1);
 
-const _: () = prove!(FIRST_WRITE + KEYS * WRITE_BYTES <= MARK);
+const _: () = prove!(EPOCH + 4 == MARK);
+
+const _: () = prove!(FIRST_WRITE + KEYS * WRITE_BYTES <= EPOCH);

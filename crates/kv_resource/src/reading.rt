@@ -9,11 +9,11 @@ ghost use Rattle.kv_resource.specs.Notes.{record_with};
 
 use crate::draft::Draft;
 use crate::layout::{
-    COUNT, ENLISTMENT, FIRST_WRITE, FORMAT, KEYS, MARK, MARKED, TRANSACTION, WRITE_BYTES,
+    COUNT, ENLISTMENT, EPOCH, FIRST_WRITE, FORMAT, KEYS, MARK, MARKED, TRANSACTION, WRITE_BYTES,
 };
 use crate::record::Record;
 use arrayvec::ArrayVec;
-use dtx_values::{EnlNo, TxNo};
+use dtx_values::{EnlNo, TxId, TxNo};
 use slotted::{OPEN, RECORD_BYTES, SLOT_BYTES, read_zeros};
 
 /// The record of a slot, or none where its gate is closed.
@@ -43,18 +43,18 @@ fn read_record(b: &[u8]) -> Result<Record, usize>
     ensures record { IsReadAs (λ r. r) result (kv_record_at b.now) }
     ensures place { IfErr result (λ p. p < SLOT_BYTES) }
 {
-    let (front, _) = b.split_at(MARK);
-    match read_draft(front) {
+    let (front, _) = b.split_at(EPOCH);
+    match read_draft(u32_at(b, EPOCH), front) {
         Ok(draft) => Ok(Record::new(draft, b[MARK] == MARKED)),
         Err(p) => Err(p),
     }
 }
 
-// The draft of the bytes between a gate and a mark.
+// The draft of the bytes between a gate and an epoch, of a transaction of this epoch.
 #[tactic(auto, unfolding(crate::specs::Bytes::unmarked_at))]
-fn read_draft(b: &[u8]) -> Result<Draft, usize>
-    requires { length b.now ≡ MARK }
-    ensures record { IsReadAs (record_with false) result (unmarked_at b.now) }
+fn read_draft(epoch: u32, b: &[u8]) -> Result<Draft, usize>
+    requires { length b.now ≡ EPOCH }
+    ensures record { IsReadAs (record_with false) result (unmarked_at epoch b.now) }
     ensures place { IfErr result (λ p. p < SLOT_BYTES) }
 {
     if b[0] != FORMAT {
@@ -73,18 +73,18 @@ fn read_draft(b: &[u8]) -> Result<Draft, usize>
     let (_, rest) = b.split_at(FIRST_WRITE);
     let (writes, rest) = read_writes(n, rest)?;
     read_zeros(rest, 1 + FIRST_WRITE + WRITE_BYTES * n)?;
-    Ok(Draft::of(t, e, writes))
+    Ok(Draft::of(TxId::new(epoch, t), e, writes))
 }
 
 // The writes that come first in the bytes, and the bytes after them.
 fn read_writes(n: usize, b: &[u8]) -> Result<(ArrayVec<(u32, u64), KEYS>, &[u8]), usize>
     requires few { n ≤ KEYS }
-    requires long { length b.now + FIRST_WRITE ≡ MARK }
+    requires long { length b.now + FIRST_WRITE ≡ EPOCH }
     ensures writes { IsReadAs (λ x. (x.0.items, x.1.now)) result (writes_at n 12 None b.now) }
     ensures place { IfErr result (λ p. p < SLOT_BYTES) }
     ensures many { IfOk result (λ x. array_vec_len x.0 ≡ n) }
     ensures spelled { IfOk result (λ x. are_spelled None x.0.items ≡ true) }
-    ensures rest { IfOk result (λ x. length x.1.now + WRITE_BYTES * n + FIRST_WRITE ≡ MARK) }
+    ensures rest { IfOk result (λ x. length x.1.now + WRITE_BYTES * n + FIRST_WRITE ≡ EPOCH) }
 {
     let mut writes = ArrayVec::new();
     let mut before = None;

@@ -1,6 +1,9 @@
 //! A record: a draft that is on the disk.
 ghost use Rattle.std.specs.Prelude.{◌≡◌, ◌+◌, ◌≤◌, ◌&&◌, not, true, vec_capacity, vec_len};
+ghost use Rattle.dtx_values.specs.TxIds.{number_of};
+ghost use Rattle.resource_managers.specs.Holding.{holding_of};
 ghost use Rattle.kv_resource.specs.Bytes.{with_mark};
+ghost use Rattle.kv_resource.specs.Held.{record_held};
 ghost use Rattle.kv_resource.specs.Notes.{record_with};
 ghost use Rattle.kv_resource.specs.Store.{is_busy_record, is_record_of, is_unmarked_of};
 ghost use Rattle.kv_resource.specs.Table.{IsRising, is_marked_write, with_writes_under};
@@ -8,7 +11,8 @@ ghost use Rattle.kv_resource.specs.Table.{IsRising, is_marked_write, with_writes
 use crate::draft::Draft;
 use crate::layout::KEYS;
 use crate::rows::put_rows;
-use dtx_values::{EnlNo, TxNo};
+use dtx_values::{EnlNo, TxId};
+use resource_managers::{Enlistment, Held};
 use std::marker::Model;
 
 /// A record of the disk: what an enlistment wrote, and whether it is marked as committed.
@@ -52,30 +56,41 @@ impl Record {
     }
 
     /// Its transaction and enlistment.
-    pub fn pair(&self) -> (TxNo, EnlNo)
-        ensures transaction { result.0.value ≡ self.now.transaction }
+    pub fn pair(&self) -> (TxId, EnlNo)
+        ensures transaction { number_of result.0 ≡ self.now.transaction }
         ensures enlistment { result.1.value ≡ self.now.enlistment }
     {
         (self.draft.transaction(), self.draft.enlistment())
     }
 
+    /// What it holds, by whether a call of this process wrote it.
+    pub fn held(&self, here: bool) -> Held
+        ensures { holding_of result ≡ record_held here self.now }
+    {
+        Held {
+            enlistment: Enlistment::new(self.draft.transaction(), self.draft.enlistment()),
+            marked: self.marked,
+            prepared_here: here,
+        }
+    }
+
     /// Whether it is of this enlistment.
-    pub fn is_of(&self, t: TxNo, e: EnlNo) -> bool
-        ensures { result ≡ is_record_of (t.value, e.value) self.now }
+    pub fn is_of(&self, t: TxId, e: EnlNo) -> bool
+        ensures { result ≡ is_record_of (number_of t, e.value) self.now }
     {
         self.draft.is_of(t, e)
     }
 
     /// Whether it is of this enlistment, and isn't marked.
-    pub fn is_unmarked_of(&self, t: TxNo, e: EnlNo) -> bool
-        ensures { result ≡ is_unmarked_of (t.value, e.value) self.now }
+    pub fn is_unmarked_of(&self, t: TxId, e: EnlNo) -> bool
+        ensures { result ≡ is_unmarked_of (number_of t, e.value) self.now }
     {
         self.draft.is_of(t, e) && !self.marked
     }
 
     /// Whether it is another enlistment's, which wrote the key and hasn't committed.
-    pub fn is_busy(&self, t: TxNo, e: EnlNo, key: u32) -> bool
-        ensures { result ≡ is_busy_record (t.value, e.value) key self.now }
+    pub fn is_busy(&self, t: TxId, e: EnlNo, key: u32) -> bool
+        ensures { result ≡ is_busy_record (number_of t, e.value) key self.now }
     {
         !self.marked && !self.draft.is_of(t, e) && self.draft.has(key)
     }

@@ -1,5 +1,5 @@
 //! Why a store doesn't do what it is asked.
-use dtx_values::{EnlNo, TxNo};
+use dtx_values::{EnlNo, TxId};
 use outside::Failed;
 
 /// Why a call of a store didn't do its work.
@@ -12,9 +12,9 @@ pub enum KvRefusal {
     /// The store is stopped: a call of its disk met a fault in an earlier call.
     Stopped,
     /// The enlistment has prepared.
-    Prepared(TxNo, EnlNo),
+    Prepared(TxId, EnlNo),
     /// Another enlistment wrote the key, and has neither committed nor rolled back.
-    Busy(TxNo, EnlNo),
+    Busy(TxId, EnlNo),
     /// The enlistment wrote as many other keys as it may.
     TooMany(u8),
     /// Memory ran out.

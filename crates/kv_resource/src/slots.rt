@@ -1,13 +1,15 @@
 //! The slots of a store in memory.
-ghost use Rattle.std.specs.Prelude.{◌≡◌, ◌≤◌, length, find, position, set, ◌<◌, slice_index_or, vec_capacity, None, Some, true, IsTrue};
+ghost use Rattle.std.specs.Prelude.{◌≡◌, ◌≤◌, length, find, is_some, position, set, ◌<◌, slice_index_or, vec_capacity, None, Some, true, IsTrue};
+ghost use Rattle.std.specs.List.{count_by};
 ghost use Rattle.std.specs.Option.{option_map};
+ghost use Rattle.dtx_values.specs.TxIds.{number_of};
 ghost use Rattle.kv_resource.specs.Bytes.{KvRecord, with_mark};
 ghost use Rattle.dtx_model.specs.Words.{has};
 ghost use Rattle.kv_resource.specs.Store.{is_busy_record, is_record_of, is_unmarked, is_unmarked_of, next_slot, numbers_of, on_open, open_records, pair_of_record};
 ghost use Rattle.kv_resource.specs.Table.{IsTabled, is_marked_write};
 
 use crate::record::Record;
-use dtx_values::{EnlNo, TxNo};
+use dtx_values::{EnlNo, TxId};
 use slotted::SLOTS;
 
 /// The slot after the highest open one, where there is one.
@@ -24,16 +26,23 @@ pub fn next_slot(slots: &[Option<Record>]) -> Option<usize>
     if next < SLOTS { Some(next) } else { None }
 }
 
+/// How many slots are open.
+pub fn open_slots(slots: &[Option<Record>]) -> usize
+    ensures { result ≡ count_by is_some slots.now }
+{
+    slots.iter().filter(|s| s.is_some()).count()
+}
+
 /// The lowest open slot of this enlistment.
-pub fn slot_of(slots: &[Option<Record>], t: TxNo, e: EnlNo) -> Option<usize>
-    ensures { result ≡ position (on_open (is_record_of (t.value, e.value))) slots.now }
+pub fn slot_of(slots: &[Option<Record>], t: TxId, e: EnlNo) -> Option<usize>
+    ensures { result ≡ position (on_open (is_record_of (number_of t, e.value))) slots.now }
 {
     slots.iter().position(|s| is_of(s, t, e))
 }
 
 /// The lowest open slot of this enlistment that isn't marked.
-pub fn unmarked_slot_of(slots: &[Option<Record>], t: TxNo, e: EnlNo) -> Option<usize>
-    ensures { result ≡ position (on_open (is_unmarked_of (t.value, e.value))) slots.now }
+pub fn unmarked_slot_of(slots: &[Option<Record>], t: TxId, e: EnlNo) -> Option<usize>
+    ensures { result ≡ position (on_open (is_unmarked_of (number_of t, e.value))) slots.now }
 {
     slots.iter().position(|s| is_unmarked_of(s, t, e))
 }
@@ -72,8 +81,8 @@ pub fn put_marked(rows: &mut Vec<(u32, u64)>, slots: &[Option<Record>], k: usize
 }
 
 /// The first other enlistment that is in doubt and wrote the key.
-pub fn busy_slot(slots: &[Option<Record>], t: TxNo, e: EnlNo, key: u32) -> Option<(TxNo, EnlNo)>
-    ensures { option_map numbers_of result ≡ option_map pair_of_record (find (is_busy_record (t.value, e.value) key) (open_records slots.now)) }
+pub fn busy_slot(slots: &[Option<Record>], t: TxId, e: EnlNo, key: u32) -> Option<(TxId, EnlNo)>
+    ensures { option_map numbers_of result ≡ option_map pair_of_record (find (is_busy_record (number_of t, e.value) key) (open_records slots.now)) }
 {
     for slot in slots {
         if let Some(r) = slot {
@@ -93,8 +102,8 @@ pub fn is_overwritten(slots: &[Option<Record>], key: u32) -> bool
 }
 
 // Whether a slot is open, with a record of this enlistment.
-fn is_of(slot: &Option<Record>, t: TxNo, e: EnlNo) -> bool
-    ensures { result ≡ on_open (is_record_of (t.value, e.value)) slot.now }
+fn is_of(slot: &Option<Record>, t: TxId, e: EnlNo) -> bool
+    ensures { result ≡ on_open (is_record_of (number_of t, e.value)) slot.now }
 {
     match slot {
         Some(r) => r.is_of(t, e),
@@ -113,8 +122,8 @@ fn is_marked_write(slot: &Option<Record>, key: u32) -> bool
 }
 
 // Whether a slot is open, with a record of this enlistment that isn't marked.
-fn is_unmarked_of(slot: &Option<Record>, t: TxNo, e: EnlNo) -> bool
-    ensures { result ≡ on_open (is_unmarked_of (t.value, e.value)) slot.now }
+fn is_unmarked_of(slot: &Option<Record>, t: TxId, e: EnlNo) -> bool
+    ensures { result ≡ on_open (is_unmarked_of (number_of t, e.value)) slot.now }
 {
     match slot {
         Some(r) => r.is_unmarked_of(t, e),

@@ -4,7 +4,7 @@ ghost use Rattle.kv_resource.specs.Bytes.{kv_record_at};
 ghost use Rattle.kv_resource.specs.Notes.{record_with};
 
 use crate::draft::Draft;
-use crate::layout::{COUNT, ENLISTMENT, FIRST_WRITE, FORMAT, TRANSACTION, WRITE_BYTES};
+use crate::layout::{COUNT, ENLISTMENT, EPOCH, FIRST_WRITE, FORMAT, TRANSACTION, WRITE_BYTES};
 use slotted::{RECORD_BYTES, put};
 
 /// The bytes of a draft's record after its gate. It isn't marked.
@@ -16,10 +16,11 @@ pub fn written_record(d: &Draft) -> [u8; RECORD_BYTES]
     put(&mut bytes, 0, &[FORMAT]);
     let writes = d.writes();
     put(&mut bytes, COUNT, &(writes.len() as u16).to_le_bytes());
+    let transaction = d.transaction();
     put(
         &mut bytes,
         TRANSACTION,
-        &d.transaction().get().to_le_bytes(),
+        &transaction.t().get().to_le_bytes(),
     );
     put(&mut bytes, ENLISTMENT, &d.enlistment().get().to_le_bytes());
     for (i, w) in writes.iter().enumerate() {
@@ -27,5 +28,6 @@ pub fn written_record(d: &Draft) -> [u8; RECORD_BYTES]
         put(&mut bytes, at, &w.0.to_le_bytes());
         put(&mut bytes, at + 4, &w.1.to_le_bytes());
     }
+    put(&mut bytes, EPOCH, &transaction.epoch().to_le_bytes());
     bytes
 }

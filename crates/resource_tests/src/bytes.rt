@@ -16,14 +16,14 @@ const TWO: [u8; 36] = [
 
 /// What is found: who is in doubt, and what key 7 has.
 #[derive(Clone, Copy, PartialEq, Eq, Debug)]
-struct Found(Option<(u32, u32)>, Option<u64>);
+struct Found(Option<(u64, u32)>, Option<u64>);
 
 const DOUBT: Result<Found, u64> = Ok(Found(Some((1, 1)), None));
 
 const EMPTY: Result<Found, u64> = Ok(Found(None, None));
 
 /// A place of a store with that slot as its first, other bytes there, and what is found then, or the place of what is bad.
-const CHANGES: [(u64, &[u8], Result<Found, u64>); 32] = [
+const CHANGES: [(u64, &[u8], Result<Found, u64>); 34] = [
     (1024, &[0], DOUBT),
     (512, &[7], EMPTY),
     (512, &[2], EMPTY),
@@ -44,7 +44,9 @@ const CHANGES: [(u64, &[u8], Result<Found, u64>); 32] = [
     (536, &[255, 255, 255, 255], DOUBT),
     (548, &[1], Err(548)),
     (1004, &[1], Err(1004)),
-    (1022, &[1], Err(1022)),
+    (1018, &[1], Err(1018)),
+    (1019, &[2], Ok(Found(Some((131_073, 1)), None))),
+    (1022, &[1], Ok(Found(Some((1_099_511_627_777, 1)), None))),
     (1023, &[1], Ok(Found(None, Some(70)))),
     (1023, &[2], DOUBT),
     (1023, &[255], DOUBT),

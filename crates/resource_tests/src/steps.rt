@@ -8,12 +8,12 @@ use std::alloc::{AllocError, Global};
 use std::process::Abort;
 use std::test::Fail;
 
-/// What a step refuses.
+/// What a step refuses. A transaction stands by its number for good.
 #[derive(Clone, Copy, PartialEq, Eq, Debug)]
 pub enum Refused {
     Stopped,
-    Prepared(u32, u32),
-    Busy(u32, u32),
+    Prepared(u64, u32),
+    Busy(u64, u32),
     TooMany,
 }
 
@@ -27,7 +27,7 @@ pub enum Step {
     /// What `get` gives.
     Has(u32, Option<u64>),
     /// What is in doubt, at most two.
-    Doubt([Option<(u32, u32)>; 2]),
+    Doubt([Option<(u64, u32)>; 2]),
 }
 
 pub const YES: Option<Reply> = Some(Reply::Vote(Vote::Yes));
@@ -60,22 +60,22 @@ pub fn pair(t: u32, e: u32) -> Result<(TxNo, EnlNo), Fail> {
     Ok((t, e))
 }
 
-// A refusal in the words of the tables.
-fn in_words(r: KvRefusal) -> Option<Refused> {
+/// A refusal in the words of the tables.
+pub fn in_words(r: KvRefusal) -> Option<Refused> {
     match r {
         KvRefusal::Stopped => Some(Refused::Stopped),
-        KvRefusal::Prepared(t, e) => Some(Refused::Prepared(t.get(), e.get())),
-        KvRefusal::Busy(t, e) => Some(Refused::Busy(t.get(), e.get())),
+        KvRefusal::Prepared(t, e) => Some(Refused::Prepared(t.number(), e.get())),
+        KvRefusal::Busy(t, e) => Some(Refused::Busy(t.number(), e.get())),
         KvRefusal::TooMany(40) => Some(Refused::TooMany),
         _ => None,
     }
 }
 
 /// The first two in doubt.
-pub fn doubts(store: &Kv<MemDisk>) -> [Option<(u32, u32)>; 2] {
+pub fn doubts(store: &Kv<MemDisk>) -> [Option<(u64, u32)>; 2] {
     let mut doubts = store.in_doubt();
-    let first = doubts.next().map(|(t, e)| (t.get(), e.get()));
-    let second = doubts.next().map(|(t, e)| (t.get(), e.get()));
+    let first = doubts.next().map(|(t, e)| (t.number(), e.get()));
+    let second = doubts.next().map(|(t, e)| (t.number(), e.get()));
     [first, second]
 }
 

@@ -34,9 +34,13 @@ use Rattle.store_run.proofs.Effects.{ActsWell, note_well}
 use Rattle.store_run.proofs.Pairs.{is_pair}
 use Rattle.store_run.proofs.Standing.{AreLaws, Stands, abort_moves, ack_moves, laws_before, owner_moves, stands_more, vote_moves}
 
+-- what a store gives to a note of a transaction of epoch 0
+abbrev pub GivesFirst : {D : Type 0} → Bool → (D → List ℕ → Type 0) → (D → ℕ) → KvState D → TxNo → EnlNo → Note → Option Reply → KvState D → Type 0
+GivesFirst honest image faults old t e n a new = Gives honest image faults old (t.value, e.value) n a new
+
 -- where no call of the disk fails, what is given is determined
 pub given_smooth : {D : Type 0} (honest : Bool) (image : D → List ℕ → Type 0) (faults : D → ℕ) → ((x y : D) → Rose (faults x) (faults y) → ⊥) → (old new : KvState D) (t : TxNo) (e : EnlNo) (n : Note) (a : Option Reply)
-    → Gives honest image faults old t e n a new → (a ≡ answer_of old.memory (t.value, e.value) n Smooth) × (new.memory ≡ memory_after old.memory (t.value, e.value) n Smooth)
+    → GivesFirst honest image faults old t e n a new → (a ≡ answer_of old.memory (t.value, e.value) n Smooth) × (new.memory ≡ memory_after old.memory (t.value, e.value) n Smooth)
 given_smooth honest image faults sure old new t e n a g = by g.fate g.answer g.kept g.cause
   where
     by : (f : Fate) → a ≡ answer_of old.memory (t.value, e.value) n f → new.memory ≡ memory_after old.memory (t.value, e.value) n f → (is_smooth f ≡ false → Rose (faults old.disk) (faults new.disk))
@@ -129,7 +133,7 @@ module _ (s : List Line) (r : RmNo) {D : Type 0} (honest : Bool) (image : D → 
   drafted_at t e = is_drafted (status from.memory (t, e))
 
   abbrev pub Reached : List HeardNote → KvState D → Type 0
-  Reached hs to = Reaches (Gives honest image faults) s from hs to
+  Reached hs to = Reaches (GivesFirst honest image faults) s from hs to
 
   pub record Follows (P : List Placed) (m : KvMemory) : Type 0 where
     pub of : IsOf W m
@@ -155,7 +159,7 @@ module _ (s : List Line) (r : RmNo) {D : Type 0} (honest : Bool) (image : D → 
       by t e own false k = k
 
   -- what a note of one of the manager's makes
-  moved : (P : List Placed) (u : TxNo) (g : EnlNo) (n : Note) (x : Entry) (before to : KvState D) (a : Option Reply) → Gives honest image faults before u g n a to
+  moved : (P : List Placed) (u : TxNo) (g : EnlNo) (n : Note) (x : Entry) (before to : KvState D) (a : Option Reply) → GivesFirst honest image faults before u g n a to
       → ((e : EnlNo) → (e.value == g.value) ≡ false → (is_vote e.value x ≡ false) × (commits e.value x ≡ false))
       → ((st : Status) (next : Option ℕ) → a ≡ answered st next n → Stands g.value (history u.value P) st → Stands g.value (x ∷ history u.value P) (after_act st (act_of st next n))) → Follows P before.memory
       → Follows ((Transaction u, x) ∷ P) to.memory

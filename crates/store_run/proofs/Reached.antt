@@ -20,14 +20,13 @@ use Rattle.history_table.proofs.Lists.{OfEach, of-more}
 use Rattle.history_table.proofs.Names.{script_once}
 use Rattle.history_table.proofs.Steady.{free_keeps}
 use Rattle.history_table.proofs.Tests.{eq_self}
-use Rattle.kv_resource.specs.Images.{Gives}
 use Rattle.kv_resource.specs.Store.{KvMemory, KvState, Pair, has_draft, has_unmarked, open_records, table_of}
 use Rattle.outcome_law.proofs.TellingRuns.{ran_heard}
 use Rattle.store_run.specs.Puts.{IsBlank, pair_of, with_puts}
 use Rattle.store_run.proofs.Acts.{Seen, has_done, seen, status, status_by}
 use Rattle.store_run.proofs.Drafts.{is_put_of}
 use Rattle.store_run.proofs.Dues.{caused_owed}
-use Rattle.store_run.proofs.Following.{Follows, StandsBy, followed}
+use Rattle.store_run.proofs.Following.{Follows, GivesFirst, StandsBy, followed}
 use Rattle.store_run.proofs.Lasting.{managed_made, no_volatile, stands_at, stands_firm}
 use Rattle.store_run.proofs.Loading.{IsMade}
 use Rattle.store_run.proofs.Pairs.{is_done_of}
@@ -75,7 +74,7 @@ all_put (p ∷ ps) = (
 
 module _ (s : List Line) (r : RmNo) (named : are_named_well s ≡ true) {D : Type 0} (honest : Bool) (image : D → List ℕ → Type 0) (faults : D → ℕ) (sure : (x y : D) → Rose (faults x) (faults y) → ⊥) (ps : List Put) (m : KvState D)
     (blank : IsBlank m.memory) (fine : AreFine s r ps) (P : List Placed) (to : KvState D) (caused : (t : TxNo) → CausedBy s (answers s (Manager r)) t.value (history t.value P))
-    (all_tied : (t : TxNo) → tied (history t.value P) ≡ true) (reached : Reaches (Gives honest image faults) s (with_puts m ps) (heard s (Manager r) P) to) where
+    (all_tied : (t : TxNo) → tied (history t.value P) ≡ true) (reached : Reaches (GivesFirst honest image faults) s (with_puts m ps) (heard s (Manager r) P) to) where
   laws : (t : TxNo) → AreLaws s r t.value (history t.value P)
   laws t = caused_laws s r (answers s (Manager r)) t.value (history t.value P) named (caused t) (all_tied t)
 

@@ -35,12 +35,11 @@ use Rattle.history_table.proofs.LetDecide.{owner_any}
 use Rattle.history_table.proofs.Lists.{OfEach}
 use Rattle.history_table.proofs.Table.{stands_volatile}
 use Rattle.history_table.proofs.Tests.{eq_self, first_of_five}
-use Rattle.kv_resource.specs.Images.{Gives}
 use Rattle.kv_resource.specs.Store.{KvDraft, KvMemory, KvState, Pair, above_highest, has_draft, has_unmarked, is_draft_of, next_slot}
 use Rattle.store_run.proofs.Acts.{Drafted, Gone, IsOf, Marked, Prepared, Status, answered, has_done, note_acts, seen, status, status_by}
 use Rattle.store_run.proofs.Drafts.{is_put_of}
 use Rattle.store_run.proofs.Dues.{is_owed}
-use Rattle.store_run.proofs.Following.{StandsBy, followed, given_smooth, is_drafted, owner_shown, vote_shown}
+use Rattle.store_run.proofs.Following.{GivesFirst, StandsBy, followed, given_smooth, is_drafted, owner_shown, vote_shown}
 use Rattle.store_run.proofs.Laws.{no_vote, voted_once, voted_unowned, voted_untold, votes_no}
 use Rattle.store_run.proofs.Lasting.{IsMadeBy}
 use Rattle.store_run.proofs.Loading.{IsMade}
@@ -145,7 +144,7 @@ module _ (s : List Line) (r : RmNo) {D : Type 0} (honest : Bool) (image : D → 
     stands : StandsBy (has (is_put_of (u.value, g.value)) ps) g.value (history u.value P) st
 
   at_note : (P : List Placed) (u : TxNo) (g : EnlNo) (n : Note) (x : Entry) (to : KvState D) → answers s (Manager r) g.value ≡ true → ((t : TxNo) → AreLaws s r t.value (history t.value P))
-      → Reaches (Gives honest image faults) s from (record { transaction = u; enlistment = g; note = n; entry = x } ∷ heard s (Manager r) P) to → At P u g n x
+      → Reaches (GivesFirst honest image faults) s from (record { transaction = u; enlistment = g; note = n; entry = x } ∷ heard s (Manager r) P) to → At P u g n x
   at_note P u g n x to own laws q =
       let before = q.0 in
       let f = followed s r honest image faults sure W from start begun lasting P before laws q.2 in
@@ -163,10 +162,10 @@ module _ (s : List Line) (r : RmNo) {D : Type 0} (honest : Bool) (image : D → 
   -- the note of one of the manager's, where an entry shows one
   with_note : (P : List Placed) (u : TxNo) (g : EnlNo) (n : Note) (x : Entry) (to : KvState D) (C : Bool → Type 0) → C true → (answers s (Manager r) g.value ≡ true → At P u g n x → C (not (answers s (Manager r) g.value)))
       → ((t : TxNo) → AreLaws s r t.value (history t.value P))
-      → Reaches (Gives honest image faults) s from (put (if answers s (Manager r) g.value then Some (record { transaction = u; enlistment = g; note = n; entry = x }) else None) (heard s (Manager r) P)) to → C (not (answers s (Manager r) g.value))
+      → Reaches (GivesFirst honest image faults) s from (put (if answers s (Manager r) g.value then Some (record { transaction = u; enlistment = g; note = n; entry = x }) else None) (heard s (Manager r) P)) to → C (not (answers s (Manager r) g.value))
   with_note P u g n x to C other own laws q = by (answers s (Manager r) g.value) refl q
     where
-      by : (b : Bool) → answers s (Manager r) g.value ≡ b → Reaches (Gives honest image faults) s from (put (if b then Some (record { transaction = u; enlistment = g; note = n; entry = x }) else None) (heard s (Manager r) P)) to
+      by : (b : Bool) → answers s (Manager r) g.value ≡ b → Reaches (GivesFirst honest image faults) s from (put (if b then Some (record { transaction = u; enlistment = g; note = n; entry = x }) else None) (heard s (Manager r) P)) to
           → C (not (answers s (Manager r) g.value))
       by true e q = own e (at_note P u g n x to e laws q)
       by false e q = subst (λ b. C (not b)) (sym e) other
@@ -176,7 +175,7 @@ module _ (s : List Line) (r : RmNo) {D : Type 0} (honest : Bool) (image : D → 
   or_so false b e = e
 
   reply_willing : (t : TxNo) (x : Entry) (P : List Placed) (to : KvState D) → AreLaws s r t.value (x ∷ history t.value P) → ((t : TxNo) → AreLaws s r t.value (history t.value P))
-      → Reaches (Gives honest image faults) s from (heard s (Manager r) ((Transaction t, x) ∷ P)) to → is_willing_reply (answers s (Manager r)) ps x ≡ true
+      → Reaches (GivesFirst honest image faults) s from (heard s (Manager r) ((Transaction t, x) ∷ P)) to → is_willing_reply (answers s (Manager r)) ps x ≡ true
   reply_willing t (Voted e v) P to l laws q =
       with_note P t e Prepare (Voted e v) to (λ b. (b || same_vote (expected_vote (has_puts ps e.value)) v) ≡ true) refl (λ own a. or_so (not (answers s (Manager r) e.value)) _ (fits own a)) laws q
     where
@@ -216,12 +215,12 @@ module _ (s : List Line) (r : RmNo) {D : Type 0} (honest : Bool) (image : D → 
   reply_willing t _ P to l laws q = refl
 
   -- what is reached is reached from what was reached before the newest entry
-  reached_before : (o : Option HeardNote) (hs : List HeardNote) (to : KvState D) → Reaches (Gives honest image faults) s from (put o hs) to → (before : KvState D) × Reaches (Gives honest image faults) s from hs before
+  reached_before : (o : Option HeardNote) (hs : List HeardNote) (to : KvState D) → Reaches (GivesFirst honest image faults) s from (put o hs) to → (before : KvState D) × Reaches (GivesFirst honest image faults) s from hs before
   reached_before (Some h) hs to q = (q.0, q.2)
   reached_before None hs to q = (to, q)
 
   -- so all are
-  pub all_willing : (P : List Placed) (to : KvState D) → ((t : TxNo) → AreLaws s r t.value (history t.value P)) → Reaches (Gives honest image faults) s from (heard s (Manager r) P) to → AreWilling s (Manager r) ps P
+  pub all_willing : (P : List Placed) (to : KvState D) → ((t : TxNo) → AreLaws s r t.value (history t.value P)) → Reaches (GivesFirst honest image faults) s from (heard s (Manager r) P) to → AreWilling s (Manager r) ps P
   all_willing [] to l q t = refl
   all_willing ((Transaction u, x) ∷ P) to l q t =
       let before = reached_before (heard_at s (answers s (Manager r)) (Transaction u, x)) (heard s (Manager r) P) to q in

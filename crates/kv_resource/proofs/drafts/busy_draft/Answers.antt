@@ -1,5 +1,6 @@
 use Rattle.std.proofs.Common.{◌≡◌, ap, sym, ◌∙◌, Bool, true, false, ◌&&◌, not, Some, Option, refl}
 use Rattle.std.specs.Option.{option_map}
+use Rattle.dtx_values.specs.TxIds.{number_of}
 use Rattle.kv_resource.specs.Store.{KvDraft, Pair, is_busy_draft, is_draft_of, pair_of_draft, wrote_key}
 use Rattle.kv_resource.proofs.Loops.{find_here, find_past, find_there}
 use Rattle.kv_resource.proofs.drafts.busy_draft.Goals as goal
@@ -17,16 +18,16 @@ without_key false b e = e
 
 pub returns-then-has : goal.returns-then-has
 returns-then-has c =
-    let p : Pair = (c.args.t.value, c.args.e.value) in
+    let p : Pair = (number_of c.args.t, c.args.e.value) in
     let d = c.d-item.result in
     let test : is_busy_draft p c.args.key d ≡ true = both (is_draft_of p d) (wrote_key c.args.key d.writes) (sym c.is_of.ensures ∙ c.if-not-is_of.true) (sym c.has.ensures ∙ c.if-has.true) in
     let found = c.loop-d.invariant ∙ find_here (is_busy_draft p c.args.key) c.args.drafts.now c.loop-d.d-index d c.loop-d-test.true (ap (is_busy_draft p c.args.key) (sym c.d-item.is) ∙ test) ∙ ap Some (sym c.d-item.is) in
-    let same : Some (c.transaction.result.value, c.enlistment.result.value) ≡ Some (pair_of_draft d) = λ i. Some (c.transaction.ensures i, c.enlistment.ensures i) in
+    let same : Some (number_of c.transaction.result, c.enlistment.result.value) ≡ Some (pair_of_draft d) = λ i. Some (c.transaction.ensures i, c.enlistment.ensures i) in
     same ∙ sym (ap (λ (x : Option KvDraft). option_map pair_of_draft x) found)
 
 pub loop-d-preserved : goal.loop-d-preserved
 loop-d-preserved c =
-    let p : Pair = (c.args.t.value, c.args.e.value) in
+    let p : Pair = (number_of c.args.t, c.args.e.value) in
     let d = c.d-item.result in
     let test : is_busy_draft p c.args.key d ≡ false =
     elim c.else-not-is_of.branch [
@@ -37,5 +38,5 @@ loop-d-preserved c =
 
 pub returns : goal.returns
 returns c =
-    let q = is_busy_draft (c.args.t.value, c.args.e.value) c.args.key in
+    let q = is_busy_draft (number_of c.args.t, c.args.e.value) c.args.key in
     sym (ap (λ (x : Option KvDraft). option_map pair_of_draft x) (c.loop-d.invariant ∙ find_past q c.args.drafts.now c.loop-d.d-index c.loop-d-test.false))

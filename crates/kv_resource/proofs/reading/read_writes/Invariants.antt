@@ -10,5 +10,5 @@ invariant-loop-i l = record {
   count : length l.writes.items ≡ l.i;
   last : last_key None l.writes.items ≡ l.before;
   spelled : are_spelled None l.writes.items ≡ true;
-  long : length l.rest + 12 * l.i ≡ 499;
+  long : length l.rest + 12 * l.i ≡ 495;
 }

@@ -2,6 +2,7 @@ use Rattle.std.proofs.Common.{◌≡◌, ap, sym, ◌∙◌, ◌∷◌, ◌+◌,
 use Rattle.std.specs.Prelude.{find}
 use Rattle.std.proofs.lemmas.List.{drop_all}
 use Rattle.std.specs.Option.{option_map}
+use Rattle.dtx_values.specs.TxIds.{number_of}
 use Rattle.kv_resource.specs.Bytes.{KvRecord}
 use Rattle.kv_resource.specs.Store.{is_busy_record, open_records, pair_of_record}
 use Rattle.kv_resource.proofs.Loops.{closed_at, open_at}
@@ -10,17 +11,17 @@ use Rattle.kv_resource.proofs.slots.busy_slot.Goals.{in-Some+else-is_busy, in_de
 
 pub returns-then-is_busy : goal.returns-then-is_busy
 returns-then-is_busy c =
-    let q = is_busy_record (c.args.t.value, c.args.e.value) c.args.key in
+    let q = is_busy_record (number_of c.args.t, c.args.e.value) c.args.key in
     let r = c.in-Some.r in
     let test : q r ≡ true = sym c.is_busy.ensures ∙ c.if-is_busy.true in
     let here : find q (r ∷ open_records (drop (c.loop-slot.slot-index + 1) c.args.slots.now)) ≡ Some r = rw test refl in
     let found = c.loop-slot.invariant ∙ ap (find q) (open_at c.args.slots.now c.loop-slot.slot-index c.slot-item.result r c.loop-slot-test.true c.slot-item.is c.in-Some.is) ∙ here in
-    let same : Some (c.pair.result.0.value, c.pair.result.1.value) ≡ Some (pair_of_record r) = λ i. Some (c.pair.ensures.transaction i, c.pair.ensures.enlistment i) in
+    let same : Some (number_of c.pair.result.0, c.pair.result.1.value) ≡ Some (pair_of_record r) = λ i. Some (c.pair.ensures.transaction i, c.pair.ensures.enlistment i) in
     same ∙ sym (ap (λ (x : Option KvRecord). option_map pair_of_record x) found)
 
 pub loop-slot-preserved : goal.loop-slot-preserved
 loop-slot-preserved c =
-    let q = is_busy_record (c.args.t.value, c.args.e.value) c.args.key in
+    let q = is_busy_record (number_of c.args.t, c.args.e.value) c.args.key in
     let rest = drop (c.loop-slot.slot-index + 1) c.args.slots.now in
     c.loop-slot.invariant ∙ elim c.match-slot.branch [
       | in-Some+else-is_busy w ↦
@@ -33,5 +34,5 @@ loop-slot-preserved c =
 
 pub returns : goal.returns
 returns c =
-    let q = is_busy_record (c.args.t.value, c.args.e.value) c.args.key in
+    let q = is_busy_record (number_of c.args.t, c.args.e.value) c.args.key in
     sym (ap (λ (x : Option KvRecord). option_map pair_of_record x) (c.loop-slot.invariant ∙ ap (λ (l : List (Option KvRecord)). find q (open_records l)) (drop_all c.loop-slot.slot-index c.args.slots.now c.loop-slot-test.false)))

@@ -3,13 +3,13 @@ use Rattle.std.specs.Prelude.{IfNone}
 use Rattle.std.specs.Iterator.{YieldsFirstBy}
 use Rattle.std.specs.Option.{option_map}
 use Rattle.dtx_values.specs.declared.number.EnlNo.{EnlNo}
-use Rattle.dtx_values.specs.declared.number.TxNo.{TxNo}
+use Rattle.dtx_values.specs.declared.tx_id.TxId.{TxId}
 use Rattle.dtx_model.specs.Words.{put}
 use Rattle.kv_resource.specs.Store.{Pair, in_doubt, numbers_of, open_records}
 use Rattle.kv_resource.proofs.doubts.InDoubtIterator.next.Goals as goal
 
 -- the first is given, or none is left
-given : (o : Option (TxNo × EnlNo)) (old new : List Pair) → put (option_map numbers_of o) new ≡ old → IfNone o (old ≡ []) → YieldsFirstBy numbers_of (λ s. s) old o new
+given : (o : Option (TxId × EnlNo)) (old new : List Pair) → put (option_map numbers_of o) new ≡ old → IfNone o (old ≡ []) → YieldsFirstBy numbers_of (λ s. s) old o new
 given None old new e none = (none, e ∙ none)
 given (Some x) old new e none = sym e
 

@@ -1,5 +1,6 @@
 use Rattle.std.specs.Prelude.{position}
 use Rattle.std.proofs.Common.{◌≡◌, ◌∙◌, ap, sym, subst, arith, true, false, not, get_or, List, Some, None, Ok, Err}
+use Rattle.dtx_values.specs.TxIds.{number_of}
 use Rattle.kv_resource.specs.Bytes.{KvRecord, with_mark}
 use Rattle.kv_resource.specs.Images.{IsKept, TurnsSlot}
 use Rattle.kv_resource.specs.Notes.{record_with}
@@ -12,7 +13,7 @@ use Rattle.kv_resource.proofs.kv.Kv.decide.Goals as goal
 pub store-requires-clause-up : goal.store-requires-clause-up
 store-requires-clause-up g c =
     let old = c.args.self.now in
-    let p : Pair = (c.args.t.value, c.args.e.value) in
+    let p : Pair = (number_of c.args.t, c.args.e.value) in
     let view = c.self.view_is in
     let kept = subst (λ (s : KvState g.row.D.Denot). IsKept g.D.Disk.honest (g.D.Disk.seen s.disk) (g.D.Disk.image s.disk) (g.D.Disk.size s.disk) s.memory) view c.self.invariant.0 in
     let q = is_record_of p in
@@ -27,7 +28,7 @@ store-requires-clause-up g c =
 pub store-requires-clause-draft : goal.store-requires-clause-draft
 store-requires-clause-draft g c =
     let old = c.args.self.now in
-    let p : Pair = (c.args.t.value, c.args.e.value) in
+    let p : Pair = (number_of c.args.t, c.args.e.value) in
     let view = c.self.view_is in
     let kept = subst (λ (s : KvState g.row.D.Denot). IsKept g.D.Disk.honest (g.D.Disk.seen s.disk) (g.D.Disk.image s.disk) (g.D.Disk.size s.disk) s.memory) view c.self.invariant.0 in
     let q = is_record_of p in
@@ -42,7 +43,7 @@ store-requires-clause-draft g c =
 pub store-requires-clause-slot : goal.store-requires-clause-slot
 store-requires-clause-slot g c =
     let old = c.args.self.now in
-    let p : Pair = (c.args.t.value, c.args.e.value) in
+    let p : Pair = (number_of c.args.t, c.args.e.value) in
     let view = c.self.view_is in
     let kept = subst (λ (s : KvState g.row.D.Denot). IsKept g.D.Disk.honest (g.D.Disk.seen s.disk) (g.D.Disk.image s.disk) (g.D.Disk.size s.disk) s.memory) view c.self.invariant.0 in
     let q = is_record_of p in
@@ -57,7 +58,7 @@ store-requires-clause-slot g c =
 pub store-requires-clause-closed : goal.store-requires-clause-closed
 store-requires-clause-closed g c =
     let old = c.args.self.now in
-    let p : Pair = (c.args.t.value, c.args.e.value) in
+    let p : Pair = (number_of c.args.t, c.args.e.value) in
     let view = c.self.view_is in
     let kept = subst (λ (s : KvState g.row.D.Denot). IsKept g.D.Disk.honest (g.D.Disk.seen s.disk) (g.D.Disk.image s.disk) (g.D.Disk.size s.disk) s.memory) view c.self.invariant.0 in
     let q = is_record_of p in
@@ -72,7 +73,7 @@ store-requires-clause-closed g c =
 pub mark-requires-clause-unmarked : goal.mark-requires-clause-unmarked
 mark-requires-clause-unmarked g c =
     let old = c.args.self.now in
-    let p : Pair = (c.args.t.value, c.args.e.value) in
+    let p : Pair = (number_of c.args.t, c.args.e.value) in
     let view = c.self.view_is in
     let kept = subst (λ (s : KvState g.row.D.Denot). IsKept g.D.Disk.honest (g.D.Disk.seen s.disk) (g.D.Disk.image s.disk) (g.D.Disk.size s.disk) s.memory) view c.self.invariant.0 in
     let q = is_record_of p in
@@ -85,7 +86,7 @@ mark-requires-clause-unmarked g c =
 pub returns-then-is_marked : goal.returns-then-is_marked
 returns-then-is_marked g c =
     let old = c.args.self.now in
-    let p : Pair = (c.args.t.value, c.args.e.value) in
+    let p : Pair = (number_of c.args.t, c.args.e.value) in
     let view = c.self.view_is in
     let kept = subst (λ (s : KvState g.row.D.Denot). IsKept g.D.Disk.honest (g.D.Disk.seen s.disk) (g.D.Disk.image s.disk) (g.D.Disk.size s.disk) s.memory) view c.self.invariant.0 in
     let q = is_record_of p in
@@ -93,12 +94,12 @@ returns-then-is_marked g c =
     let f = is_first q old.memory.slots c.in-Some.k (sym (sym c.in-Some.is ∙ seen_slots)) in
     let mark : has_marked old.memory p ≡ f.r.marked = lowest_mark p old.memory.slots c.in-Some.k f in
     let seen_mark : c.is_marked.result ≡ f.r.marked = c.is_marked.ensures ∙ ap (λ (l : Slots). on_open (λ r. r.marked) (get_or l c.in-Some.k None)) (c.deref-in-Some.ensures.value ∙ ap (λ s. s.memory.slots) view) ∙ ap (on_open (λ r. r.marked)) f.is in
-    hand_marked g.D.Disk.honest g.D.Disk.seen g.D.Disk.image g.D.Disk.size g.D.Disk.faults old c.args.t c.args.e kept c.in-Some.k f (mark ∙ sym seen_mark ∙ c.if-is_marked.true)
+    hand_marked g.D.Disk.honest g.D.Disk.seen g.D.Disk.image g.D.Disk.size g.D.Disk.faults old p kept c.in-Some.k f (mark ∙ sym seen_mark ∙ c.if-is_marked.true)
 
 pub returns-then-self : goal.returns-then-self
 returns-then-self g c =
     let old = c.args.self.now in
-    let p : Pair = (c.args.t.value, c.args.e.value) in
+    let p : Pair = (number_of c.args.t, c.args.e.value) in
     let view = c.self.view_is in
     let kept = subst (λ (s : KvState g.row.D.Denot). IsKept g.D.Disk.honest (g.D.Disk.seen s.disk) (g.D.Disk.image s.disk) (g.D.Disk.size s.disk) s.memory) view c.self.invariant.0 in
     let q = is_record_of p in
@@ -106,12 +107,12 @@ returns-then-self g c =
     let f = is_first q old.memory.slots c.in-Some.k (sym (sym c.in-Some.is ∙ seen_slots)) in
     let mark : has_marked old.memory p ≡ f.r.marked = lowest_mark p old.memory.slots c.in-Some.k f in
     let seen_mark : c.is_marked.result ≡ f.r.marked = c.is_marked.ensures ∙ ap (λ (l : Slots). on_open (λ r. r.marked) (get_or l c.in-Some.k None)) (c.deref-in-Some.ensures.value ∙ ap (λ s. s.memory.slots) view) ∙ ap (on_open (λ r. r.marked)) f.is in
-    hand_stopped g.D.Disk.honest g.D.Disk.seen g.D.Disk.image g.D.Disk.size g.D.Disk.faults old c.args.t c.args.e kept c.in-Some.k f (mark ∙ sym seen_mark ∙ c.if-is_marked.false) (sym (ap (λ s. s.memory.stopped) view) ∙ c.if-self.true)
+    hand_stopped g.D.Disk.honest g.D.Disk.seen g.D.Disk.image g.D.Disk.size g.D.Disk.faults old p kept c.in-Some.k f (mark ∙ sym seen_mark ∙ c.if-is_marked.false) (sym (ap (λ s. s.memory.stopped) view) ∙ c.if-self.true)
 
 pub returns-in-Ok : goal.returns-in-Ok
 returns-in-Ok g c =
     let old = c.args.self.now in
-    let p : Pair = (c.args.t.value, c.args.e.value) in
+    let p : Pair = (number_of c.args.t, c.args.e.value) in
     let view = c.self.view_is in
     let kept = subst (λ (s : KvState g.row.D.Denot). IsKept g.D.Disk.honest (g.D.Disk.seen s.disk) (g.D.Disk.image s.disk) (g.D.Disk.size s.disk) s.memory) view c.self.invariant.0 in
     let q = is_record_of p in
@@ -121,12 +122,12 @@ returns-in-Ok g c =
     let seen_mark : c.is_marked.result ≡ f.r.marked = c.is_marked.ensures ∙ ap (λ (l : Slots). on_open (λ r. r.marked) (get_or l c.in-Some.k None)) (c.deref-in-Some.ensures.value ∙ ap (λ s. s.memory.slots) view) ∙ ap (on_open (λ r. r.marked)) f.is in
     let unmarked = mark ∙ sym seen_mark ∙ c.if-is_marked.false in
     let lowest = lowest_unmarked p old.memory.slots c.in-Some.k f (sym mark ∙ unmarked) in
-    hand_done g.D.Disk.honest g.D.Disk.seen g.D.Disk.image g.D.Disk.size g.D.Disk.faults old c.args.t c.args.e kept c.in-Some.k lowest (sym (ap (λ s. s.memory.stopped) view) ∙ c.if-self.false) c.mark.new.self (find_first q old.memory.slots c.in-Some.k f).1 unmarked c.in-Ok.field-0 (c.in-Ok.ensures lowest.r lowest.is)
+    hand_done g.D.Disk.honest g.D.Disk.seen g.D.Disk.image g.D.Disk.size g.D.Disk.faults old p kept c.in-Some.k lowest (sym (ap (λ s. s.memory.stopped) view) ∙ c.if-self.false) c.mark.new.self (find_first q old.memory.slots c.in-Some.k f).1 unmarked c.in-Ok.field-0 (c.in-Ok.ensures lowest.r lowest.is)
 
 pub returns-in-Err : goal.returns-in-Err
 returns-in-Err g c =
     let old = c.args.self.now in
-    let p : Pair = (c.args.t.value, c.args.e.value) in
+    let p : Pair = (number_of c.args.t, c.args.e.value) in
     let view = c.self.view_is in
     let kept = subst (λ (s : KvState g.row.D.Denot). IsKept g.D.Disk.honest (g.D.Disk.seen s.disk) (g.D.Disk.image s.disk) (g.D.Disk.size s.disk) s.memory) view c.self.invariant.0 in
     let q = is_record_of p in
@@ -136,12 +137,12 @@ returns-in-Err g c =
     let seen_mark : c.is_marked.result ≡ f.r.marked = c.is_marked.ensures ∙ ap (λ (l : Slots). on_open (λ r. r.marked) (get_or l c.in-Some.k None)) (c.deref-in-Some.ensures.value ∙ ap (λ s. s.memory.slots) view) ∙ ap (on_open (λ r. r.marked)) f.is in
     let unmarked = mark ∙ sym seen_mark ∙ c.if-is_marked.false in
     let lowest = lowest_unmarked p old.memory.slots c.in-Some.k f (sym mark ∙ unmarked) in
-    hand_broken g.D.Disk.honest g.D.Disk.seen g.D.Disk.image g.D.Disk.size g.D.Disk.faults old c.args.t c.args.e kept c.in-Some.k lowest (sym (ap (λ s. s.memory.stopped) view) ∙ c.if-self.false) c.mark.new.self (find_first q old.memory.slots c.in-Some.k f).1 unmarked c.in-Err.field-0 (c.in-Err.ensures lowest.r lowest.is)
+    hand_broken g.D.Disk.honest g.D.Disk.seen g.D.Disk.image g.D.Disk.size g.D.Disk.faults old p kept c.in-Some.k lowest (sym (ap (λ s. s.memory.stopped) view) ∙ c.if-self.false) c.mark.new.self (find_first q old.memory.slots c.in-Some.k f).1 unmarked c.in-Err.field-0 (c.in-Err.ensures lowest.r lowest.is)
 
 pub returns-in_default-draft_at : goal.returns-in_default-draft_at
 returns-in_default-draft_at g c =
     let old = c.args.self.now in
-    let p : Pair = (c.args.t.value, c.args.e.value) in
+    let p : Pair = (number_of c.args.t, c.args.e.value) in
     let view = c.self.view_is in
     let kept = subst (λ (s : KvState g.row.D.Denot). IsKept g.D.Disk.honest (g.D.Disk.seen s.disk) (g.D.Disk.image s.disk) (g.D.Disk.size s.disk) s.memory) view c.self.invariant.0 in
     let q = is_record_of p in
@@ -150,12 +151,12 @@ returns-in_default-draft_at g c =
     let unmarked : has_marked old.memory p ≡ false = ap is_marked_record nowhere.1 in
     let seen_draft = c.draft_at.ensures ∙ ap (λ (l : List KvDraft). position (is_draft_of p) l) (c.deref-2.ensures.value ∙ ap (λ s. s.memory.drafts) view) in
     let nobody = none_draft p old.memory.drafts 0 0 (sym (sym c.in_default-draft_at.is ∙ seen_draft)) in
-    hand_nothing g.D.Disk.honest g.D.Disk.seen g.D.Disk.image g.D.Disk.size g.D.Disk.faults old c.args.t c.args.e kept nowhere.0 unmarked nobody.1 nobody.2
+    hand_nothing g.D.Disk.honest g.D.Disk.seen g.D.Disk.image g.D.Disk.size g.D.Disk.faults old p kept nowhere.0 unmarked nobody.1 nobody.2
 
 pub returns-in_default-free_slot : goal.returns-in_default-free_slot
 returns-in_default-free_slot g c =
     let old = c.args.self.now in
-    let p : Pair = (c.args.t.value, c.args.e.value) in
+    let p : Pair = (number_of c.args.t, c.args.e.value) in
     let view = c.self.view_is in
     let kept = subst (λ (s : KvState g.row.D.Denot). IsKept g.D.Disk.honest (g.D.Disk.seen s.disk) (g.D.Disk.image s.disk) (g.D.Disk.size s.disk) s.memory) view c.self.invariant.0 in
     let q = is_record_of p in
@@ -164,12 +165,12 @@ returns-in_default-free_slot g c =
     let unmarked : has_marked old.memory p ≡ false = ap is_marked_record nowhere.1 in
     let seen_draft = c.draft_at.ensures ∙ ap (λ (l : List KvDraft). position (is_draft_of p) l) (c.deref-2.ensures.value ∙ ap (λ s. s.memory.drafts) view) in
     let at = found_draft p old.memory.drafts c.in-Some-draft_at.i (sym (sym c.in-Some-draft_at.is ∙ seen_draft)) in
-    rw c.drop_draft.ensures (hand_full g.D.Disk.honest g.D.Disk.seen g.D.Disk.image g.D.Disk.size g.D.Disk.faults old c.args.t c.args.e kept nowhere.0 unmarked c.in-Some-draft_at.i at.0 at.1 (sym c.free_slot.ensures ∙ c.in_default-free_slot.is))
+    rw c.drop_draft.ensures (hand_full g.D.Disk.honest g.D.Disk.seen g.D.Disk.image g.D.Disk.size g.D.Disk.faults old p kept nowhere.0 unmarked c.in-Some-draft_at.i at.0 at.1 (sym c.free_slot.ensures ∙ c.in_default-free_slot.is))
 
 pub returns-in-Err-store : goal.returns-in-Err-store
 returns-in-Err-store g c =
     let old = c.args.self.now in
-    let p : Pair = (c.args.t.value, c.args.e.value) in
+    let p : Pair = (number_of c.args.t, c.args.e.value) in
     let view = c.self.view_is in
     let kept = subst (λ (s : KvState g.row.D.Denot). IsKept g.D.Disk.honest (g.D.Disk.seen s.disk) (g.D.Disk.image s.disk) (g.D.Disk.size s.disk) s.memory) view c.self.invariant.0 in
     let q = is_record_of p in
@@ -179,12 +180,12 @@ returns-in-Err-store g c =
     let seen_draft = c.draft_at.ensures ∙ ap (λ (l : List KvDraft). position (is_draft_of p) l) (c.deref-2.ensures.value ∙ ap (λ s. s.memory.drafts) view) in
     let at = found_draft p old.memory.drafts c.in-Some-draft_at.i (sym (sym c.in-Some-draft_at.is ∙ seen_draft)) in
     let room = room_is old.memory.stopped _ c.in-Some-free_slot.k (sym c.free_slot.ensures ∙ c.in-Some-free_slot.is) in
-    not_handed g.D.Disk.honest g.D.Disk.seen g.D.Disk.image g.D.Disk.size g.D.Disk.faults old c.args.t c.args.e kept nowhere.0 unmarked c.in-Some-draft_at.i at.0 at.1 c.in-Some-free_slot.k room.0 room.1 c.store.new.self c.in-Err-store.field-0 (c.in-Err-store.ensures at.0 at.1.is)
+    not_handed g.D.Disk.honest g.D.Disk.seen g.D.Disk.image g.D.Disk.size g.D.Disk.faults old p kept nowhere.0 unmarked c.in-Some-draft_at.i at.0 at.1 c.in-Some-free_slot.k room.0 room.1 c.store.new.self c.in-Err-store.field-0 (c.in-Err-store.ensures at.0 at.1.is)
 
 pub mark-requires-2-clause-up : goal.mark-requires-2-clause-up
 mark-requires-2-clause-up g c =
     let old = c.args.self.now in
-    let p : Pair = (c.args.t.value, c.args.e.value) in
+    let p : Pair = (number_of c.args.t, c.args.e.value) in
     let view = c.self.view_is in
     let kept = subst (λ (s : KvState g.row.D.Denot). IsKept g.D.Disk.honest (g.D.Disk.seen s.disk) (g.D.Disk.image s.disk) (g.D.Disk.size s.disk) s.memory) view c.self.invariant.0 in
     let q = is_record_of p in
@@ -204,7 +205,7 @@ mark-requires-2-clause-up g c =
 pub mark-requires-2-clause-slot : goal.mark-requires-2-clause-slot
 mark-requires-2-clause-slot g c =
     let old = c.args.self.now in
-    let p : Pair = (c.args.t.value, c.args.e.value) in
+    let p : Pair = (number_of c.args.t, c.args.e.value) in
     let view = c.self.view_is in
     let kept = subst (λ (s : KvState g.row.D.Denot). IsKept g.D.Disk.honest (g.D.Disk.seen s.disk) (g.D.Disk.image s.disk) (g.D.Disk.size s.disk) s.memory) view c.self.invariant.0 in
     let q = is_record_of p in
@@ -224,7 +225,7 @@ mark-requires-2-clause-slot g c =
 pub mark-requires-2-clause-unmarked : goal.mark-requires-2-clause-unmarked
 mark-requires-2-clause-unmarked g c =
     let old = c.args.self.now in
-    let p : Pair = (c.args.t.value, c.args.e.value) in
+    let p : Pair = (number_of c.args.t, c.args.e.value) in
     let view = c.self.view_is in
     let kept = subst (λ (s : KvState g.row.D.Denot). IsKept g.D.Disk.honest (g.D.Disk.seen s.disk) (g.D.Disk.image s.disk) (g.D.Disk.size s.disk) s.memory) view c.self.invariant.0 in
     let q = is_record_of p in
@@ -244,7 +245,7 @@ mark-requires-2-clause-unmarked g c =
 pub returns-in-Ok-mark : goal.returns-in-Ok-mark
 returns-in-Ok-mark g c =
     let old = c.args.self.now in
-    let p : Pair = (c.args.t.value, c.args.e.value) in
+    let p : Pair = (number_of c.args.t, c.args.e.value) in
     let view = c.self.view_is in
     let kept = subst (λ (s : KvState g.row.D.Denot). IsKept g.D.Disk.honest (g.D.Disk.seen s.disk) (g.D.Disk.image s.disk) (g.D.Disk.size s.disk) s.memory) view c.self.invariant.0 in
     let q = is_record_of p in
@@ -259,13 +260,13 @@ returns-in-Ok-mark g c =
     let fresh = fresh_is old.memory p c.in-Some-draft_at.i at.0 at.1 in
     let there : get_or mid.memory.slots c.in-Some-free_slot.k None ≡ Some (record_with false at.0) =
     ap (λ (y : KvMemory). get_or y.slots c.in-Some-free_slot.k None) recorded.done ∙ get_or-set_same old.memory.slots c.in-Some-free_slot.k (Some (record_with false at.0)) None (omega (arith, (next_facts old.memory.slots c.in-Some-free_slot.k room.1).0, kept.many)) in
-    let turns = subst (λ (r : KvRecord). TurnsSlot g.D.Disk.honest g.D.Disk.image g.D.Disk.faults mid c.mark-2.new.self c.in-Some-free_slot.k (Some (with_mark true r)) mid.memory.drafts (Ok c.in-Ok-mark.field-0)) fresh (c.in-Ok-mark.ensures (record_with false at.0) there) in
-    handed g.D.Disk.honest g.D.Disk.seen g.D.Disk.image g.D.Disk.size g.D.Disk.faults old c.args.t c.args.e kept nowhere.0 unmarked c.in-Some-draft_at.i at.0 at.1 c.in-Some-free_slot.k room.0 room.1 mid c.in-Ok-store.field-0 recorded c.mark-2.new.self c.in-Ok-mark.field-0 turns
+    let turns = subst (λ (r : KvRecord). TurnsSlot g.D.Disk.honest g.D.Disk.image g.D.Disk.faults mid c.mark-2.new.self c.in-Some-free_slot.k (Some (with_mark true r)) mid.memory.drafts mid.earlier (Ok c.in-Ok-mark.field-0)) fresh (c.in-Ok-mark.ensures (record_with false at.0) there) in
+    handed g.D.Disk.honest g.D.Disk.seen g.D.Disk.image g.D.Disk.size g.D.Disk.faults old p kept nowhere.0 unmarked c.in-Some-draft_at.i at.0 at.1 c.in-Some-free_slot.k room.0 room.1 mid c.in-Ok-store.field-0 recorded c.mark-2.new.self c.in-Ok-mark.field-0 turns
 
 pub returns-in-Err-mark : goal.returns-in-Err-mark
 returns-in-Err-mark g c =
     let old = c.args.self.now in
-    let p : Pair = (c.args.t.value, c.args.e.value) in
+    let p : Pair = (number_of c.args.t, c.args.e.value) in
     let view = c.self.view_is in
     let kept = subst (λ (s : KvState g.row.D.Denot). IsKept g.D.Disk.honest (g.D.Disk.seen s.disk) (g.D.Disk.image s.disk) (g.D.Disk.size s.disk) s.memory) view c.self.invariant.0 in
     let q = is_record_of p in
@@ -280,5 +281,5 @@ returns-in-Err-mark g c =
     let fresh = fresh_is old.memory p c.in-Some-draft_at.i at.0 at.1 in
     let there : get_or mid.memory.slots c.in-Some-free_slot.k None ≡ Some (record_with false at.0) =
     ap (λ (y : KvMemory). get_or y.slots c.in-Some-free_slot.k None) recorded.done ∙ get_or-set_same old.memory.slots c.in-Some-free_slot.k (Some (record_with false at.0)) None (omega (arith, (next_facts old.memory.slots c.in-Some-free_slot.k room.1).0, kept.many)) in
-    let turns = subst (λ (r : KvRecord). TurnsSlot g.D.Disk.honest g.D.Disk.image g.D.Disk.faults mid c.mark-2.new.self c.in-Some-free_slot.k (Some (with_mark true r)) mid.memory.drafts (Err c.in-Err-mark.field-0)) fresh (c.in-Err-mark.ensures (record_with false at.0) there) in
-    half_handed g.D.Disk.honest g.D.Disk.seen g.D.Disk.image g.D.Disk.size g.D.Disk.faults old c.args.t c.args.e kept nowhere.0 unmarked c.in-Some-draft_at.i at.0 at.1 c.in-Some-free_slot.k room.0 room.1 mid c.in-Ok-store.field-0 recorded c.mark-2.new.self c.in-Err-mark.field-0 turns
+    let turns = subst (λ (r : KvRecord). TurnsSlot g.D.Disk.honest g.D.Disk.image g.D.Disk.faults mid c.mark-2.new.self c.in-Some-free_slot.k (Some (with_mark true r)) mid.memory.drafts mid.earlier (Err c.in-Err-mark.field-0)) fresh (c.in-Err-mark.ensures (record_with false at.0) there) in
+    half_handed g.D.Disk.honest g.D.Disk.seen g.D.Disk.image g.D.Disk.size g.D.Disk.faults old p kept nowhere.0 unmarked c.in-Some-draft_at.i at.0 at.1 c.in-Some-free_slot.k room.0 room.1 mid c.in-Ok-store.field-0 recorded c.mark-2.new.self c.in-Err-mark.field-0 turns

@@ -45,7 +45,7 @@ returns-in-Ok g c r e =
     let marked : c.mark_slot.new.slots ≡ set m.slots c.args.k (Some (with_mark true o.0)) =
     c.mark_slot.ensures o.0 (ap (λ (l : Slots). get_or l c.args.k None) c.deref_mut.ensures.value ∙ o.1) ∙ ap (λ (l : Slots). set l c.args.k (Some (with_mark true o.0))) c.deref_mut.ensures.value in
     let is = written m.slots c.mark_slot.new.slots (set m.slots c.args.k (Some (with_mark true o.0))) c.self.inside.slots.len c.self.inside.slots.ok.0 marked (length-set m.slots c.args.k (Some (with_mark true o.0))) in
-    rw (← c.self.view_is, c.in-Ok.is, same) (turned at (Some (with_mark true o.0)) c.in-Ok.field-0 (λ h. c.in-Ok.ensures.puts h (only at h) o.0 (on_disk at h (Some o.0) o.1) (no_mark (Some o.0) o.2)) c.in-Ok.ensures.works _ m.drafts is)
+    rw (← c.self.view_is, c.in-Ok.is, same) (turned at (Some (with_mark true o.0)) c.in-Ok.field-0 (λ h. c.in-Ok.ensures.puts h (only at h) o.0 (on_disk at h (Some o.0) o.1) (no_mark (Some o.0) o.2)) c.in-Ok.ensures.works _ m.drafts is _ _)
 
 pub returns-in-Err : goal.returns-in-Err
 returns-in-Err g c r e =
@@ -53,7 +53,7 @@ returns-in-Err g c r e =
     let at : AtSlot g.D.Disk.honest g.D.Disk.seen g.D.Disk.image g.D.Disk.size g.D.Disk.faults c.self.inside.disk c.mark-result.new.disk m c.args.k = record { kept = c.self.invariant.0; up = ap (λ s. s.memory.stopped) c.self.view_is ∙ c.requires.up; lt = c.requires.slot } in
     let o = open_is is_unmarked (get_or m.slots c.args.k None) (ap (λ s. on_open is_unmarked (get_or s.memory.slots c.args.k None)) c.self.view_is ∙ c.requires.unmarked) in
     let same : r ≡ o.0 = same_record (get_or m.slots c.args.k None) r o.0 (ap (λ s. get_or s.memory.slots c.args.k None) c.self.view_is ∙ e) o.1 in
-    rw (← c.self.view_is, c.in-Err.is, same) (broken at (Some (with_mark true o.0)) c.in-Err.field-0 (λ h. c.in-Err.ensures.puts h (only at h) o.0 (on_disk at h (Some o.0) o.1) (no_mark (Some o.0) o.2)) c.in-Err.ensures.works m.drafts)
+    rw (← c.self.view_is, c.in-Err.is, same) (broken at (Some (with_mark true o.0)) c.in-Err.field-0 (λ h. c.in-Err.ensures.puts h (only at h) o.0 (on_disk at h (Some o.0) o.1) (no_mark (Some o.0) o.2)) c.in-Err.ensures.works m.drafts _ _)
 
 pub put_marked-requires-clause-unmarked : goal.put_marked-requires-clause-unmarked
 put_marked-requires-clause-unmarked g c =

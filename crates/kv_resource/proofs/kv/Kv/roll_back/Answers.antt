@@ -1,6 +1,7 @@
 use Rattle.std.specs.Prelude.{position}
 use Rattle.std.proofs.Common.{◌≡◌, ◌∙◌, ap, sym, subst, refl, Bool, ◌||◌, true, false, get_or, None, Result, Ok, Err}
 use Rattle.outside.specs.declared.failure.Failed.{Failed}
+use Rattle.dtx_values.specs.TxIds.{number_of}
 use Rattle.kv_resource.specs.Images.{IsKept, TurnsSlot}
 use Rattle.kv_resource.specs.Store.{KvState, Pair, has_unmarked, is_unmarked, is_unmarked_of, on_open, with_drafts, without_draft}
 use Rattle.kv_resource.proofs.Finding.{Slots, is_first, no_mark, none_first}
@@ -20,7 +21,7 @@ by_result X done failed (Err fl) x = failed fl x
 pub close-requires-clause-unmarked : goal.close-requires-clause-unmarked
 close-requires-clause-unmarked g c =
     let old = c.args.self.now in
-    let p : Pair = (c.args.t.value, c.args.e.value) in
+    let p : Pair = (number_of c.args.t, c.args.e.value) in
     let dropped = c.drop_draft.ensures in
     let mid = subst (λ (s : KvState g.row.D.Denot). IsKept g.D.Disk.honest (g.D.Disk.seen s.disk) (g.D.Disk.image s.disk) (g.D.Disk.size s.disk) s.memory) (c.self.view_is ∙ dropped) c.self.invariant.0 in
     let kept : IsKept g.D.Disk.honest (g.D.Disk.seen old.disk) (g.D.Disk.image old.disk) (g.D.Disk.size old.disk) old.memory = record { stored = mid.stored; whole = mid.whole; room = mid.room; many = mid.many } in
@@ -34,7 +35,7 @@ close-requires-clause-unmarked g c =
 pub returns-in_default : goal.returns-in_default
 returns-in_default g c =
     let old = c.args.self.now in
-    let p : Pair = (c.args.t.value, c.args.e.value) in
+    let p : Pair = (number_of c.args.t, c.args.e.value) in
     let dropped = c.drop_draft.ensures in
     let mid = subst (λ (s : KvState g.row.D.Denot). IsKept g.D.Disk.honest (g.D.Disk.seen s.disk) (g.D.Disk.image s.disk) (g.D.Disk.size s.disk) s.memory) (c.self.view_is ∙ dropped) c.self.invariant.0 in
     let kept : IsKept g.D.Disk.honest (g.D.Disk.seen old.disk) (g.D.Disk.image old.disk) (g.D.Disk.size old.disk) old.memory = record { stored = mid.stored; whole = mid.whole; room = mid.room; many = mid.many } in
@@ -42,12 +43,12 @@ returns-in_default g c =
     let stopped = ap (λ s. s.memory.stopped) (c.self.view_is ∙ dropped) in
     let q = is_unmarked_of p in
     let seen_slots = c.unmarked_slot_of.ensures ∙ ap (λ (l : Slots). position (on_open q) l) (c.deref.ensures.value ∙ slots) in
-    rw dropped (rollback_idle g.D.Disk.honest g.D.Disk.seen g.D.Disk.image g.D.Disk.size g.D.Disk.faults old c.args.t c.args.e kept old.memory.stopped false refl (none_first q old.memory.slots (sym (sym c.in_default.is ∙ seen_slots))).0 (always old.memory.stopped))
+    rw dropped (rollback_idle g.D.Disk.honest g.D.Disk.seen g.D.Disk.image g.D.Disk.size g.D.Disk.faults old p kept old.memory.stopped false refl (none_first q old.memory.slots (sym (sym c.in_default.is ∙ seen_slots))).0 (always old.memory.stopped))
 
 pub returns-then-self : goal.returns-then-self
 returns-then-self g c =
     let old = c.args.self.now in
-    let p : Pair = (c.args.t.value, c.args.e.value) in
+    let p : Pair = (number_of c.args.t, c.args.e.value) in
     let dropped = c.drop_draft.ensures in
     let mid = subst (λ (s : KvState g.row.D.Denot). IsKept g.D.Disk.honest (g.D.Disk.seen s.disk) (g.D.Disk.image s.disk) (g.D.Disk.size s.disk) s.memory) (c.self.view_is ∙ dropped) c.self.invariant.0 in
     let kept : IsKept g.D.Disk.honest (g.D.Disk.seen old.disk) (g.D.Disk.image old.disk) (g.D.Disk.size old.disk) old.memory = record { stored = mid.stored; whole = mid.whole; room = mid.room; many = mid.many } in
@@ -55,12 +56,12 @@ returns-then-self g c =
     let stopped = ap (λ s. s.memory.stopped) (c.self.view_is ∙ dropped) in
     let q = is_unmarked_of p in
     let seen_slots = c.unmarked_slot_of.ensures ∙ ap (λ (l : Slots). position (on_open q) l) (c.deref.ensures.value ∙ slots) in
-    rw dropped (rollback_idle g.D.Disk.honest g.D.Disk.seen g.D.Disk.image g.D.Disk.size g.D.Disk.faults old c.args.t c.args.e kept true (has_unmarked old.memory p) (sym stopped ∙ c.if-self.true) refl refl)
+    rw dropped (rollback_idle g.D.Disk.honest g.D.Disk.seen g.D.Disk.image g.D.Disk.size g.D.Disk.faults old p kept true (has_unmarked old.memory p) (sym stopped ∙ c.if-self.true) refl refl)
 
 pub returns : goal.returns
 returns g c =
     let old = c.args.self.now in
-    let p : Pair = (c.args.t.value, c.args.e.value) in
+    let p : Pair = (number_of c.args.t, c.args.e.value) in
     let dropped = c.drop_draft.ensures in
     let mid = subst (λ (s : KvState g.row.D.Denot). IsKept g.D.Disk.honest (g.D.Disk.seen s.disk) (g.D.Disk.image s.disk) (g.D.Disk.size s.disk) s.memory) (c.self.view_is ∙ dropped) c.self.invariant.0 in
     let kept : IsKept g.D.Disk.honest (g.D.Disk.seen old.disk) (g.D.Disk.image old.disk) (g.D.Disk.size old.disk) old.memory = record { stored = mid.stored; whole = mid.whole; room = mid.room; many = mid.many } in
@@ -69,6 +70,6 @@ returns g c =
     let q = is_unmarked_of p in
     let seen_slots = c.unmarked_slot_of.ensures ∙ ap (λ (l : Slots). position (on_open q) l) (c.deref.ensures.value ∙ slots) in
     let f = is_first q old.memory.slots c.in-Some.k (sym (sym c.in-Some.is ∙ seen_slots)) in
-    let turns = subst (λ (s : KvState g.row.D.Denot). TurnsSlot g.D.Disk.honest g.D.Disk.image g.D.Disk.faults s c.close.new.self c.in-Some.k None s.memory.drafts c.close.result) dropped c.close.ensures in
-    by_result (λ (r : Result (Unit {0}) Failed). TurnsSlot g.D.Disk.honest g.D.Disk.image g.D.Disk.faults (with_drafts (without_draft p old.memory.drafts) old) c.close.new.self c.in-Some.k None (without_draft p old.memory.drafts) r)
-    (λ u. rolled_back g.D.Disk.honest g.D.Disk.seen g.D.Disk.image g.D.Disk.size g.D.Disk.faults old c.args.t c.args.e kept c.in-Some.k f (sym stopped ∙ c.if-self.false) c.close.new.self u) (λ fl. not_rolled_back g.D.Disk.honest g.D.Disk.seen g.D.Disk.image g.D.Disk.size g.D.Disk.faults old c.args.t c.args.e kept c.in-Some.k f (sym stopped ∙ c.if-self.false) c.close.new.self fl) c.close.result turns
+    let turns = subst (λ (s : KvState g.row.D.Denot). TurnsSlot g.D.Disk.honest g.D.Disk.image g.D.Disk.faults s c.close.new.self c.in-Some.k None s.memory.drafts s.earlier c.close.result) dropped c.close.ensures in
+    by_result (λ (r : Result (Unit {0}) Failed). TurnsSlot g.D.Disk.honest g.D.Disk.image g.D.Disk.faults (with_drafts (without_draft p old.memory.drafts) old) c.close.new.self c.in-Some.k None (without_draft p old.memory.drafts) old.earlier r)
+    (λ u. rolled_back g.D.Disk.honest g.D.Disk.seen g.D.Disk.image g.D.Disk.size g.D.Disk.faults old p kept c.in-Some.k f (sym stopped ∙ c.if-self.false) c.close.new.self u) (λ fl. not_rolled_back g.D.Disk.honest g.D.Disk.seen g.D.Disk.image g.D.Disk.size g.D.Disk.faults old p kept c.in-Some.k f (sym stopped ∙ c.if-self.false) c.close.new.self fl) c.close.result turns

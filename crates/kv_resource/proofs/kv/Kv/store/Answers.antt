@@ -43,7 +43,7 @@ returns-in-Ok g c d e =
     let is : set m.slots c.args.k (Some c.new.result) ≡ set m.slots c.args.k (Some (record_with false c.index.result.now)) = ap (λ (r : KvRecord). set m.slots c.args.k (Some r)) (c.new.ensures ∙ ap (record_with false) draft) in
     let same : d ≡ c.index.result.now = one_draft m.drafts c.args.i d c.index.result.now within (e ∙ sym (ap (λ s. get_or s.memory.drafts c.args.i d) c.self.view_is)) c.index.ensures in
     let left = c.remove-draft.ensures.items in
-    rw (← c.self.view_is, c.in-Ok.is, same, ← left) (turned at (Some (record_with false c.index.result.now)) c.in-Ok.field-0 (λ h. c.in-Ok.ensures.puts h (only at h) (on_disk at h None closed)) c.in-Ok.ensures.works _ c.remove-draft.new.self.items is)
+    rw (← c.self.view_is, c.in-Ok.is, same, ← left, c.min-self-inside.ensures) (turned at (Some (record_with false c.index.result.now)) c.in-Ok.field-0 (λ h. c.in-Ok.ensures.puts h (only at h) (on_disk at h None closed)) c.in-Ok.ensures.works _ c.remove-draft.new.self.items is c.self.inside.earlier _)
 
 pub returns-in-Err : goal.returns-in-Err
 returns-in-Err g c d e =
@@ -52,4 +52,4 @@ returns-in-Err g c d e =
     let closed : get_or m.slots c.args.k None ≡ None = ap (λ s. get_or s.memory.slots c.args.k None) c.self.view_is ∙ c.requires.closed in
     let within : c.args.i < length m.drafts = omega (arith, ap (λ s. length s.memory.drafts) c.self.view_is, c.requires.draft) in
     let same : d ≡ c.index.result.now = one_draft m.drafts c.args.i d c.index.result.now within (e ∙ sym (ap (λ s. get_or s.memory.drafts c.args.i d) c.self.view_is)) c.index.ensures in
-    rw (← c.self.view_is, c.in-Err.is, same) (broken at (Some (record_with false c.index.result.now)) c.in-Err.field-0 (λ h. c.in-Err.ensures.puts h (only at h) (on_disk at h None closed)) c.in-Err.ensures.works _)
+    rw (← c.self.view_is, c.in-Err.is, same) (broken at (Some (record_with false c.index.result.now)) c.in-Err.field-0 (λ h. c.in-Err.ensures.puts h (only at h) (on_disk at h None closed)) c.in-Err.ensures.works _ _ _)
