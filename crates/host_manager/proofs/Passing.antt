@@ -16,7 +16,7 @@ use Rattle.host_manager.specs.declared.clock.HostClock.{HostClock}
 use Rattle.host_manager.specs.declared.host_call.HostCall.{HostCall}
 use Rattle.transactions.specs.declared.error.TxError.{TxError}
 use Rattle.transactions.specs.declared.handle.DependentTransaction.{DependentTransaction}
-use Rattle.transactions.specs.declared.handle.Enlistment.{Enlistment}
+use Rattle.resource_managers.specs.declared.enlistment.Enlistment.{Enlistment}
 use Rattle.transactions.specs.declared.kind.Kind.{Kind}
 use Rattle.transactions.specs.declared.kind.Kind.TheVariants.{Promotable}
 use Rattle.transactions.specs.Doing.{CallsAt, Enters, IsUnidentified, is_done}

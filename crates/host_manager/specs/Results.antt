@@ -8,7 +8,7 @@ use Rattle.host_manager.specs.declared.error.HostError.TheVariants.{Call, Disk, 
 use Rattle.transactions.specs.declared.error.TxError.{TxError}
 use Rattle.transactions.specs.declared.handle.CommittableTransaction.{CommittableTransaction}
 use Rattle.transactions.specs.declared.handle.DependentTransaction.{DependentTransaction}
-use Rattle.transactions.specs.declared.handle.Enlistment.{Enlistment}
+use Rattle.resource_managers.specs.declared.enlistment.Enlistment.{Enlistment}
 
 -- the number of an enlistment that was made
 abbrev pub number_in : Result Enlistment TxError → Result EnlNo TxError

@@ -10,7 +10,7 @@ use Rattle.dtx_model.specs.Words.{has, onto}
 use Rattle.dtx_model.specs.World.{half}
 use Rattle.history_table.proofs.Scans.{each_more}
 use Rattle.transactions.specs.declared.event.Event.{Event}
-use Rattle.transactions.specs.declared.handle.Enlistment.{Enlistment}
+use Rattle.resource_managers.specs.declared.enlistment.Enlistment.{Enlistment}
 use Rattle.transactions.specs.Doing.{AdvancesAt, HeardAt}
 use Rattle.transactions.specs.Events.{note_in}
 use Rattle.transactions.specs.Hearing.{Advances, Given, Hears, HearsNote, IsHeard, Writes, is_one_of, is_reply, says}

@@ -10,9 +10,9 @@ use Rattle.dtx_values.specs.declared.words.CloneKind.{CloneKind}
 use Rattle.coordinator_log.specs.State.{LogState}
 use Rattle.transactions.specs.declared.error.TxError.{TxError}
 use Rattle.transactions.specs.declared.error.TxError.TheVariants.{Refused}
-use Rattle.transactions.specs.declared.handle.Enlistment.{Enlistment}
+use Rattle.resource_managers.specs.declared.enlistment.Enlistment.{Enlistment}
 use Rattle.transactions.specs.declared.kind.Kind.{Kind}
-use Rattle.transactions.specs.Events.{enlistment}
+use Rattle.resource_managers.specs.Pairs.{enlistment}
 use Rattle.transactions.specs.Answered.{Has}
 use Rattle.transactions.specs.Enlisting.{Clones, ClonesAt, Enlists, EnlistsAt, IsAnswered, IsNotEnlisted, MayNotEnlist, NumbersClones, NumbersEnlistments}
 use Rattle.transactions.specs.Slots.{live_at}

@@ -1,8 +1,8 @@
 -- The records that may be freed, and the freeing of them.
-use Rattle.std.specs.Prelude.{IfErr, IsErrOf, IsFalse, IsOkAnd, OnOk}
+use Rattle.std.specs.Prelude.{IfErr, IsErr, IsErrOf, IsFalse, IsOkAnd, IsTrue, OnOk}
 use Rattle.std.specs.List.{filter_map, list_any}
 use Rattle.std.specs.Option.{option_map}
-use Rattle.std.proofs.Common.{◌≡◌, ◌≢◌, ◌⊎◌, inl, inr, ℕ, zero, suc, ◌+◌, ◌==◌, ◌≤◌, ◌<◌, Bool, true, false, ◌||◌, eqb, List, [], ◌∷◌, length, map, get_or, slice_get, Option, Some, None, Result, Ok, Err, refl, ap, sym, ◌∙◌, subst, arith}
+use Rattle.std.proofs.Common.{◌≡◌, ◌≢◌, ◌⊎◌, inl, inr, ℕ, zero, suc, ◌+◌, ◌==◌, ◌≤◌, ◌<◌, ◌++◌, Bool, true, false, ◌||◌, eqb, List, [], ◌∷◌, length, map, get_or, slice_get, Option, Some, None, Result, Ok, Err, refl, ap, sym, ◌∙◌, subst, arith}
 use Rattle.std.proofs.lemmas.Bool.{and_from, both_ways, cases_Bool, eqb-true, false_from_ne_true, not_from_true}
 use Rattle.std.proofs.lemmas.List.Elements.{All-contains_itself}
 use Rattle.dtx_values.specs.TxIds.{identifier_of_id}
@@ -11,6 +11,7 @@ use Rattle.dtx_values.specs.declared.record.LogRecord.{LogRecord}
 use Rattle.dtx_values.specs.declared.tx_id.TxId.{TxId}
 use Rattle.dtx_values.proofs.Ids.{same_id}
 use Rattle.dtx_model.specs.Log.{CommitRecord, first_of, log_has, record_of, without_first_of}
+use Rattle.outside.specs.Faults.{Rose}
 use Rattle.coordinator_log.specs.Crash.{AllHold, AllHoldEither}
 use Rattle.coordinator_log.specs.Slots.{open_records}
 use Rattle.coordinator_log.specs.State.{LogState}
@@ -18,7 +19,7 @@ use Rattle.coordinator_log.specs.declared.refusal.LogRefusal.{LogRefusal}
 use Rattle.coordinator_log.specs.declared.refusal.LogRefusal.TheVariants.{NoSuch, Stopped, StoppedNow}
 use Rattle.log_epochs.specs.Beginning.{AllAre}
 use Rattle.transactions.specs.Keeping.{AreNumbered}
-use Rattle.transactions.specs.Recovering.{OnlyFrees, has_place, is_found, is_passed, may_be_freed}
+use Rattle.transactions.specs.Recovering.{FreesLog, NoneIsFound, OnlyFrees, has_place, is_found, is_passed, may_be_freed, without_each}
 use Rattle.transactions.specs.State.{LiveState}
 use Rattle.log_epochs.proofs.Records.{length-without}
 use Rattle.transactions.proofs.Lasting.{among-without, among_both, found-without, others-without}
@@ -146,3 +147,39 @@ after_free {D} ms xs id old new (Err e) found records only unchanged stopped =
       ]
     ] in
     subst (λ (ss : List (Option CommitRecord)). OnlyFrees ms xs (open_records old.slots) (open_records ss)) (sym same) (frees_none ms xs (open_records old.slots))
+
+-- the open slots are no more than all
+pub few_open : (ss : List (Option LogRecord)) (rs : List CommitRecord) → filter_map (option_map record_of) ss ≡ rs → length rs ≤ length ss
+few_open ss rs is = subst (λ (l : List CommitRecord). length l ≤ length ss) is (few ss)
+  where
+    few : (ss : List (Option LogRecord)) → length (filter_map (option_map record_of) ss) ≤ length ss
+    few [] = omega arith
+    few (None ∷ ss) = let le = few ss in omega (arith, le)
+    few (Some r ∷ ss) = let le = few ss in omega (arith, le)
+
+-- one more is gone
+pub without_more : (ids : List ℕ) (id : ℕ) (rs : List CommitRecord) → without_each (ids ++ id ∷ []) rs ≡ without_first_of id (without_each ids rs)
+without_more [] id rs = refl
+without_more (j ∷ ids) id rs = without_more ids id (without_first_of j rs)
+
+-- the freeing of records that failed
+pub frees_failed : {D A E : Type 0} (honest : Bool) (image : D → List ℕ → Type 0) (faults : D → ℕ) (ms : List RmNo) (xs : List LiveState) (old new : LogState D) (z : Result A E) → IsErr z
+    → OnlyFrees ms xs (open_records old.slots) (open_records new.slots) → (NoneIsFound ms xs (open_records old.slots) → ⊥) → (IsFalse old.is_up → new ≡ old)
+    → (IsTrue honest → IsTrue old.is_up → AllAre (image new.disk) (OnlyFrees ms xs (open_records old.slots))) → IsFalse new.is_up
+    → IsFalse old.is_up ⊎ (old.armed ≡ None → Rose (faults old.disk) (faults new.disk)) → faults old.disk ≤ faults new.disk
+    → FreesLog honest image faults ms xs old new z
+frees_failed honest image faults ms xs old new (Ok x) failed records some down images stopped cause grows = absurd cc
+frees_failed honest image faults ms xs old new (Err e) failed records some down images stopped cause grows =
+    record { records = records; freed = tt; nothing = λ none. absurd (some none); images = images; durable = λ h up. tt; up = tt; down = down; stopped = stopped; cause = cause; smooth = tt; grows = grows }
+
+-- the freeing of records that was done
+pub frees_done : {D A E : Type 0} (honest : Bool) (image : D → List ℕ → Type 0) (faults : D → ℕ) (ms : List RmNo) (xs : List LiveState) (old new : LogState D) (x : A)
+    → OnlyFrees ms xs (open_records old.slots) (open_records new.slots) → NoneIsFound ms xs (open_records new.slots) → (NoneIsFound ms xs (open_records old.slots) → new ≡ old) → (IsFalse old.is_up → new ≡ old)
+    → (IsTrue honest → IsTrue old.is_up → AllAre (image new.disk) (OnlyFrees ms xs (open_records old.slots))) → (IsTrue honest → IsTrue old.is_up → AllHold (image new.disk) (open_records new.slots))
+    → new.is_up ≡ old.is_up → faults new.disk ≡ faults old.disk → FreesLog {D = D} honest image faults ms xs old new {A = A} {E = E} (Ok x)
+frees_done honest image faults ms xs old new x records freed nothing down images durable up smooth =
+    record { records = records; freed = freed; nothing = λ none. (refl, nothing none); images = images; durable = durable; up = up; down = down; stopped = tt; cause = tt; smooth = smooth; grows = omega (arith, smooth) }
+
+-- what is found isn't missing
+pub some_found : (ms : List RmNo) (xs : List LiveState) (id : ℕ) (rs : List CommitRecord) → is_found ms xs (first_of id rs) ≡ true → NoneIsFound ms xs rs → ⊥
+some_found ms xs id rs found none = both_ways (is_found ms xs (first_of id rs)) (none id) found

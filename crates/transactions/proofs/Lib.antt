@@ -26,3 +26,6 @@ pub mod Beginning
 pub mod Scoping
 mod Rolled
 pub mod Turning
+pub mod Obstacles
+pub mod Partly
+pub mod Covering

@@ -15,7 +15,7 @@ use Rattle.coordinator_log.specs.State.{LogState}
 use Rattle.local_half.specs.Half.{fits_due}
 use Rattle.transactions.specs.declared.error.TxError.{TxError}
 use Rattle.transactions.specs.declared.error.TxError.TheVariants.{Memory, Many, Refused}
-use Rattle.transactions.specs.declared.handle.Enlistment.{Enlistment}
+use Rattle.resource_managers.specs.declared.enlistment.Enlistment.{Enlistment}
 use Rattle.transactions.specs.Calling.{IsCalled}
 use Rattle.transactions.specs.declared.event.Event.{Event}
 use Rattle.transactions.specs.Hearing.{Advances, Given, IsHeard}

@@ -18,8 +18,8 @@ use Rattle.dtx_values.specs.declared.words.Vote.TheVariants.{Yes}
 use Rattle.coordinator_log.specs.State.{LogState}
 use Rattle.transactions.specs.declared.error.TxError.{TxError}
 use Rattle.transactions.specs.declared.error.TxError.TheVariants.{Many, Memory, Refused}
-use Rattle.transactions.specs.declared.handle.Enlistment.{Enlistment}
-use Rattle.transactions.specs.Events.{enlistment}
+use Rattle.resource_managers.specs.declared.enlistment.Enlistment.{Enlistment}
+use Rattle.resource_managers.specs.Pairs.{enlistment}
 use Rattle.transactions.specs.declared.handle.Phases.TheVariants.{Two, Single}
 use Rattle.transactions.specs.declared.kind.Kind.{Kind}
 use Rattle.transactions.specs.declared.kind.Kind.TheVariants.{Durable, Promotable, Volatile}

@@ -6,17 +6,13 @@ use Rattle.dtx_values.specs.declared.entry.Entry.TheVariants.{Asked as AskedEntr
 use Rattle.dtx_values.specs.declared.entry.Party.TheVariants.{Client, Enl}
 use Rattle.dtx_values.specs.declared.note.Note.{Note}
 use Rattle.dtx_values.specs.declared.note.Note.TheVariants.{Init, Prepare, Promote, Hand, Single, Commit, Rollback, InDoubt as InDoubtNote}
-use Rattle.dtx_values.specs.declared.number.EnlNo.{EnlNo}
 use Rattle.dtx_values.specs.declared.tx_id.TxId.{TxId}
 use Rattle.dtx_values.specs.declared.words.Outcome.{Outcome}
 use Rattle.dtx_values.specs.declared.words.Outcome.TheVariants.{Committed, Aborted, InDoubt}
 use Rattle.transactions.specs.declared.event.Event.{Event}
 use Rattle.transactions.specs.declared.event.Event.TheVariants.{Asked, Told, Done}
-use Rattle.transactions.specs.declared.handle.Enlistment.{Enlistment}
-
--- the enlistment of transaction t that has this number there
-abbrev pub enlistment : TxId → EnlNo → Enlistment
-enlistment t e = record { transaction = t; number = e }
+use Rattle.resource_managers.specs.Pairs.{enlistment}
+use Rattle.resource_managers.specs.declared.enlistment.Enlistment.{Enlistment}
 
 -- the note that tells an enlistment this outcome
 abbrev pub note_told : Outcome → Note

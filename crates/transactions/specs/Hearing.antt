@@ -19,7 +19,7 @@ use Rattle.transactions.specs.declared.event.Next.{Next}
 use Rattle.transactions.specs.declared.event.Next.TheVariants.{Found, Nothing, Disk}
 use Rattle.transactions.specs.declared.event.Advance.{Advance}
 use Rattle.transactions.specs.declared.event.Advance.TheVariants.{Heard, Did, Idle}
-use Rattle.transactions.specs.declared.handle.Enlistment.{Enlistment}
+use Rattle.resource_managers.specs.declared.enlistment.Enlistment.{Enlistment}
 use Rattle.transactions.specs.Events.{event_of, note_in}
 use Rattle.transactions.specs.State.{LiveState, past, unheard}
 

@@ -15,3 +15,4 @@ pub mod Telling
 pub mod Enlisting
 pub mod Scoping
 pub mod Turning
+pub mod Recovery

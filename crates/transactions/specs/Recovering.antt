@@ -1,13 +1,18 @@
 -- What the log says of transactions of earlier processes, and which of its records may be freed.
-use Rattle.std.specs.Prelude.{ℕ, ◌≡◌, ◌==◌, Bool, true, false, ◌&&◌, not, List, filter, All, Contains, Option, Some, None, if◌then◌else◌}
+use Rattle.std.specs.Prelude.{ℕ, ◌≡◌, ◌⊎◌, ◌≤◌, ◌==◌, Bool, true, false, ◌&&◌, not, List, [], ◌∷◌, filter, All, Contains, Option, Some, None, Result, IsOk, IsTrue, IsFalse, OnOk, OnErr, if◌then◌else◌}
 use Rattle.dtx_values.specs.TxIds.{identifier_of_id}
 use Rattle.dtx_values.specs.declared.number.RmNo.{RmNo}
 use Rattle.dtx_values.specs.declared.words.Outcome.{Outcome}
 use Rattle.dtx_values.specs.declared.words.Outcome.TheVariants.{Committed, Aborted}
-use Rattle.dtx_model.specs.Log.{CommitRecord, first_of}
+use Rattle.dtx_model.specs.Log.{CommitRecord, first_of, without_first_of}
 use Rattle.dtx_model.specs.Promotes.{identifier_of}
 use Rattle.dtx_model.specs.Words.{each, has}
+use Rattle.coordinator_log.specs.Crash.{AllHold}
+use Rattle.coordinator_log.specs.Slots.{open_records}
+use Rattle.coordinator_log.specs.State.{LogState}
+use Rattle.log_epochs.specs.Beginning.{AllAre}
 use Rattle.log_epochs.specs.Epochs.{is_epoch_record}
+use Rattle.outside.specs.Faults.{Rose}
 use Rattle.transactions.specs.State.{LiveState}
 
 -- the record names an enlistment of this number
@@ -62,3 +67,23 @@ NoneIsFound ms xs rs = (id : ℕ) → is_found ms xs (first_of id rs) ≡ false
 abbrev pub is_passed : List RmNo → List LiveState → List CommitRecord → Option CommitRecord → Bool
 is_passed ms xs rs (Some r) = not (may_be_freed ms xs r && is_found ms xs (first_of r.id rs))
 is_passed ms xs rs None = true
+
+-- the records without the first of each of these identifiers, one after the other
+abbrev pub without_each : List ℕ → List CommitRecord → List CommitRecord
+without_each [] rs = rs
+without_each (id ∷ ids) rs = without_each ids (without_first_of id rs)
+
+-- What the freeing of records does to a log: only records go that may be freed, and after Ok none is found that may; so it is in each image of an honest disk; and it fails only where the log was
+-- stopped, or its disk failed now.
+pub record FreesLog {D : Type 0} (honest : Bool) (image : D → List ℕ → Type 0) (faults : D → ℕ) (ms : List RmNo) (xs : List LiveState) (old new : LogState D) {A E : Type 0} (result : Result A E) : Type 0 where
+  pub records : OnlyFrees ms xs (open_records old.slots) (open_records new.slots)
+  pub freed : OnOk result (NoneIsFound ms xs (open_records new.slots))
+  pub nothing : NoneIsFound ms xs (open_records old.slots) → IsOk result × (new ≡ old)
+  pub images : IsTrue honest → IsTrue old.is_up → AllAre (image new.disk) (OnlyFrees ms xs (open_records old.slots))
+  pub durable : IsTrue honest → IsTrue old.is_up → OnOk result (AllHold (image new.disk) (open_records new.slots))
+  pub up : OnOk result (new.is_up ≡ old.is_up)
+  pub down : IsFalse old.is_up → new ≡ old
+  pub stopped : OnErr result (IsFalse new.is_up)
+  pub cause : OnErr result (IsFalse old.is_up ⊎ (old.armed ≡ None → Rose (faults old.disk) (faults new.disk)))
+  pub smooth : OnOk result (faults new.disk ≡ faults old.disk)
+  pub grows : faults old.disk ≤ faults new.disk

@@ -30,7 +30,7 @@ use Rattle.transactions.specs.declared.error.ScopeError.{ScopeError}
 use Rattle.transactions.specs.declared.error.ScopeError.TheVariants.{Refused, Begin}
 use Rattle.transactions.specs.declared.error.TxError.TheVariants.{Many}
 use Rattle.transactions.specs.declared.handle.CommittableTransaction.{CommittableTransaction}
-use Rattle.transactions.specs.declared.handle.Enlistment.{Enlistment}
+use Rattle.resource_managers.specs.declared.enlistment.Enlistment.{Enlistment}
 use Rattle.transactions.specs.declared.handle.TransactionScope.{TransactionScope}
 use Rattle.transactions.specs.Calling.{IsCalled}
 use Rattle.transactions.specs.Doing.{Goes, HeardAt, IsRefused}

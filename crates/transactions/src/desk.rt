@@ -1,5 +1,6 @@
 //! Which resource managers have recovered.
-ghost use Rattle.std.specs.Prelude.{◌≡◌, ◌++◌, ◌∷◌, [], IfErr, OnOk};
+ghost use Rattle.std.specs.Prelude.{◌≡◌, ◌++◌, ◌∷◌, [], List, IfErr, OnOk};
+ghost use Rattle.dtx_values.specs.declared.number.RmNo.{RmNo};
 ghost use Rattle.dtx_model.specs.Log.{record_of};
 ghost use Rattle.transactions.specs.Recovering.{has_recovered, is_covered};
 
@@ -47,6 +48,13 @@ impl RecoveryDesk {
             Ok(()) => Ok(()),
             Err(_) => Err(TxError::Memory),
         }
+    }
+
+    /// The manager that was added last hasn't recovered.
+    pub(crate) fn take_back(&mut self)
+        ensures { (ms : List RmNo) (r : RmNo) → self.old ≡ ms ++ r ∷ [] → self.new ≡ ms }
+    {
+        self.recovered.pop();
     }
 
     /// Whether this manager has recovered.

@@ -2,8 +2,8 @@
 ghost use Rattle.std.specs.Prelude.{◌≡◌};
 ghost use Rattle.transactions.specs.Events.{event_of, note_in, note_told};
 
-use crate::handle::Enlistment;
 use dtx_values::{Ask, Entry, Note, Outcome, Party, TxId};
+use resource_managers::Enlistment;
 
 /// What comes next in a transaction, by the entry of its history that says so.
 #[derive(Clone, Copy, PartialEq, Eq, Debug)]

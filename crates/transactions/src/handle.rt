@@ -2,32 +2,10 @@
 ghost use Rattle.std.specs.Prelude.{◌≡◌};
 ghost use Rattle.std.specs.Option.{option_map};
 ghost use Rattle.dtx_values.specs.TxIds.{number_of};
-ghost use Rattle.transactions.specs.Events.{enlistment};
+ghost use Rattle.resource_managers.specs.Pairs.{enlistment};
 
 use dtx_values::{CloneNo, EnlNo, ScopeNo, TxId};
-
-/// An enlistment: its transaction, and its number there.
-#[derive(Clone, Copy, PartialEq, Eq, Debug)]
-pub struct Enlistment {
-    pub(crate) transaction: TxId,
-    pub(crate) number: EnlNo,
-}
-
-impl Enlistment {
-    /// Its transaction.
-    pub fn transaction(self) -> TxId
-        ensures { result ≡ self.transaction }
-    {
-        self.transaction
-    }
-
-    /// Its number in the transaction.
-    pub fn number(self) -> EnlNo
-        ensures { result ≡ self.number }
-    {
-        self.number
-    }
-}
+use resource_managers::Enlistment;
 
 /// A transaction that its holder may commit. It can't be dropped: `TransactionManager::end` takes it back. (`CommittableTransaction` of System.Transactions.)
 pub struct CommittableTransaction {

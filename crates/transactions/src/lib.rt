@@ -13,9 +13,10 @@
 //!
 //! Neither a scope nor a transaction that its holder may commit can be dropped: a `?` between `open_scope` and `finish` doesn't compile.
 //!
-//! [`TransactionManager::open`] takes up the log of an earlier process. No number of a transaction comes twice in the life of a log ([`TransactionManager::begin`]). Each
-//! resource manager asks there what came of what it had prepared ([`TransactionManager::recovered_outcome`]), and then says at a [`RecoveryDesk`] that it has recovered, which
-//! frees what nobody will ask for ([`TransactionManager::recovery_complete`]).
+//! [`TransactionManager::open`] takes up the log of an earlier process. No number of a transaction comes twice in the life of a log ([`TransactionManager::begin`]). What an
+//! earlier process left in doubt at a [`Recoverable`] is finished there ([`TransactionManager::recover`]). Another one asks what came of what it had
+//! prepared ([`TransactionManager::recovered_outcome`]), and then says at a [`RecoveryDesk`] that it has recovered, which frees what nobody will ask for
+//! ([`TransactionManager::recovery_complete`]).
 //!
 //! What holds of each transaction, on every disk: all that anybody was told in it has its cause, and no two were told opposite outcomes ([`TransactionManager::is_lawful`]).
 #![tactic(auto)]
@@ -24,12 +25,13 @@ mod ambient;
 mod desk;
 mod error;
 mod event;
+mod finishing;
 mod handle;
 mod kind;
 mod live;
 mod manager;
+mod recovered;
 mod recovering;
-mod resource;
 mod usage;
 mod work;
 
@@ -37,10 +39,9 @@ pub use ambient::Ambient;
 pub use desk::RecoveryDesk;
 pub use error::{CommitError, OpenError, ScopeError, TxError};
 pub use event::{Event, Next};
-pub use handle::{
-    CommittableTransaction, DependentTransaction, Enlistment, Phases, TransactionScope,
-};
+pub use handle::{CommittableTransaction, DependentTransaction, Phases, TransactionScope};
 pub use kind::Kind;
 pub use manager::TransactionManager;
-pub use resource::ResourceManager;
+pub use recovered::{Finished, RecoverRefusal, Recovered};
+pub use resource_managers::{Enlistment, Held, Recoverable, ResourceManager};
 pub use work::Work;

@@ -1,13 +1,12 @@
 //! What the log says of transactions of earlier processes, and the freeing of its records.
-ghost use Rattle.std.specs.Prelude.{◌≡◌, ◌⊎◌, ◌≤◌, ◌<◌, None, IfSome, IsFalse, IsOk, IsTrue, Ok, OnErr, OnOk, true, false, length};
+ghost use Rattle.std.specs.Prelude.{◌≡◌, ◌≤◌, ◌<◌, ℕ, [], None, Some, IfOk, IfSome, IsFalse, IsTrue, Ok, OnErr, OnOk, true, length, vec_capacity};
 ghost use Rattle.std.specs.Option.{option_map};
 ghost use Rattle.outside.specs.Faults.{Rose};
-ghost use Rattle.dtx_model.specs.Log.{first_of, record_of};
-ghost use Rattle.coordinator_log.specs.Crash.{AllHold};
+ghost use Rattle.dtx_model.specs.Log.{first_of, record_of, without_first_of};
 ghost use Rattle.coordinator_log.specs.Slots.{open_records};
 ghost use Rattle.log_epochs.specs.Beginning.{AllAre};
 ghost use Rattle.transactions.specs.Keeping.{AreNumbered};
-ghost use Rattle.transactions.specs.Recovering.{NoneIsFound, OnlyFrees, has_place, is_found, is_passed, may_be_freed, names, outcome_by};
+ghost use Rattle.transactions.specs.Recovering.{FreesLog, NoneIsFound, OnlyFrees, has_place, is_found, is_passed, may_be_freed, names, outcome_by, without_each};
 
 use crate::desk::RecoveryDesk;
 use crate::live::Live;
@@ -15,6 +14,7 @@ use coordinator_log::{Log, LogRefusal};
 use dtx_values::{EnlNo, LogRecord, Outcome, TxId};
 use log_epochs::epoch_in;
 use outside::Disk;
+use std::alloc::{AllocError, Global};
 
 /// Whether a record names an enlistment of this number.
 fn names(r: &LogRecord, e: EnlNo) -> bool
@@ -34,7 +34,7 @@ pub(crate) fn outcome_by(found: Option<&LogRecord>, e: EnlNo) -> Outcome
 }
 
 /// Whether a place is that of the transaction with this identifier.
-fn has_place(lives: &[Live], id: u128) -> bool
+pub(crate) fn has_place(lives: &[Live], id: u128) -> bool
     requires { AreNumbered lives.now }
     ensures { result ≡ has_place id lives.now }
 {
@@ -100,18 +100,28 @@ fn next_to_free<D: Disk>(log: &Log<D>, lives: &[Live], desk: &RecoveryDesk) -> O
     None
 }
 
-/// Frees a record that may be freed; false where the log finds none.
+/// Room for as many identifiers as the log has records.
+#[tactic(auto, using(crate::proofs::Freeing::few_open))]
+pub(crate) fn room<D: Disk>(alloc: Global, log: &Log<D>) -> Result<Vec<u128>, AllocError>
+    ensures { IfOk result (λ v. (v.items ≡ []) × (length (open_records log.now.slots) ≤ vec_capacity v)) }
+{
+    Vec::with_capacity(alloc, log.records().len())
+}
+
+/// Frees a record that may be freed, and gives its identifier; `None` where the log finds none.
 fn free_one<D: Disk>(
     log: &mut Log<D>,
     lives: &[Live],
     desk: &RecoveryDesk,
-) -> Result<bool, LogRefusal>
+) -> Result<Option<u128>, LogRefusal>
     requires numbered { AreNumbered lives.now }
     requires up { IsTrue log.old.is_up }
     ensures records { OnlyFrees desk.now lives.now (open_records log.old.slots) (open_records log.new.slots) }
-    ensures fewer { result ≡ Ok true → length (open_records log.new.slots) < length (open_records log.old.slots) }
-    ensures none { result ≡ Ok false → NoneIsFound desk.now lives.now (open_records log.new.slots) }
-    ensures nothing { NoneIsFound desk.now lives.now (open_records log.old.slots) → (result ≡ Ok false) × (log.new ≡ log.old) }
+    ensures fewer { (id : ℕ) → result ≡ Ok (Some id) → length (open_records log.new.slots) < length (open_records log.old.slots) }
+    ensures one { (id : ℕ) → result ≡ Ok (Some id) → open_records log.new.slots ≡ without_first_of id (open_records log.old.slots) }
+    ensures none { result ≡ Ok None → NoneIsFound desk.now lives.now (open_records log.new.slots) }
+    ensures still { result ≡ Ok None → log.new ≡ log.old }
+    ensures nothing { NoneIsFound desk.now lives.now (open_records log.old.slots) → (result ≡ Ok None) × (log.new ≡ log.old) }
     ensures images { IsTrue D.honest → AllAre (D.image log.new.disk) (OnlyFrees desk.now lives.now (open_records log.old.slots)) }
     ensures up { OnOk result (IsTrue log.new.is_up) }
     ensures stopped { OnErr result (IsFalse log.new.is_up) }
@@ -123,39 +133,36 @@ fn free_one<D: Disk>(
     // A proof sees here what the images have.
     let _ = log.is_up();
     let Some(id) = next_to_free(log, lives, desk) else {
-        return Ok(false);
+        return Ok(None);
     };
     log.free(log.life(), id)?;
-    Ok(true)
+    Ok(Some(id))
 }
 
-/// Frees the records that may be freed, where the log is up.
+/// Frees the records that may be freed, where the log is up, and puts their identifiers to the others.
 fn free_all<D: Disk>(
     log: &mut Log<D>,
     lives: &[Live],
     desk: &RecoveryDesk,
+    freed: &mut Vec<u128>,
 ) -> Result<(), LogRefusal>
     requires numbered { AreNumbered lives.now }
     requires up { IsTrue log.old.is_up }
-    ensures records { OnlyFrees desk.now lives.now (open_records log.old.slots) (open_records log.new.slots) }
-    ensures freed { OnOk result (NoneIsFound desk.now lives.now (open_records log.new.slots)) }
-    ensures nothing { NoneIsFound desk.now lives.now (open_records log.old.slots) → IsOk result × (log.new ≡ log.old) }
-    ensures images { IsTrue D.honest → AllAre (D.image log.new.disk) (OnlyFrees desk.now lives.now (open_records log.old.slots)) }
-    ensures durable { IsTrue D.honest → OnOk result (AllHold (D.image log.new.disk) (open_records log.new.slots)) }
-    ensures up { OnOk result (IsTrue log.new.is_up) }
-    ensures stopped { OnErr result (IsFalse log.new.is_up) }
-    ensures cause { OnErr result (log.old.armed ≡ None → Rose (D.faults log.old.disk) (D.faults log.new.disk)) }
+    requires empty { freed.old.items ≡ [] }
+    requires room { length (open_records log.old.slots) ≤ vec_capacity freed.old }
+    ensures frees { FreesLog D.honest D.image D.faults desk.now lives.now log.old log.new result }
+    ensures listed { OnOk result (open_records log.new.slots ≡ without_each freed.new.items (open_records log.old.slots)) }
     ensures unarmed { log.old.armed ≡ None → log.new.armed ≡ None }
-    ensures smooth { OnOk result (D.faults log.new.disk ≡ D.faults log.old.disk) }
-    ensures grows { D.faults log.old.disk ≤ D.faults log.new.disk }
 {
-    while free_one(log, lives, desk)? {}
+    while let Some(id) = free_one(log, lives, desk)? {
+        freed.push_reserved(id);
+    }
     // A proof sees here what the images have.
     let _ = log.is_up();
     Ok(())
 }
 
-/// Frees the records that may be freed, one by one.
+/// Frees the records that may be freed, one by one, and puts their identifiers to the others.
 ///
 /// The log frees the record of the lowest slot with an identifier. Where that one may not be freed, one in a later slot is left.
 ///
@@ -167,23 +174,17 @@ pub(crate) fn free_recovered<D: Disk>(
     log: &mut Log<D>,
     lives: &[Live],
     desk: &RecoveryDesk,
+    freed: &mut Vec<u128>,
 ) -> Result<(), LogRefusal>
-    requires { AreNumbered lives.now }
-    ensures records { OnlyFrees desk.now lives.now (open_records log.old.slots) (open_records log.new.slots) }
-    ensures freed { OnOk result (NoneIsFound desk.now lives.now (open_records log.new.slots)) }
-    ensures nothing { NoneIsFound desk.now lives.now (open_records log.old.slots) → IsOk result × (log.new ≡ log.old) }
-    ensures images { IsTrue D.honest → IsTrue log.old.is_up → AllAre (D.image log.new.disk) (OnlyFrees desk.now lives.now (open_records log.old.slots)) }
-    ensures durable { IsTrue D.honest → IsTrue log.old.is_up → OnOk result (AllHold (D.image log.new.disk) (open_records log.new.slots)) }
-    ensures up { OnOk result (log.new.is_up ≡ log.old.is_up) }
-    ensures down { IsFalse log.old.is_up → log.new ≡ log.old }
-    ensures stopped { OnErr result (IsFalse log.new.is_up) }
-    ensures cause { OnErr result (IsFalse log.old.is_up ⊎ (log.old.armed ≡ None → Rose (D.faults log.old.disk) (D.faults log.new.disk))) }
+    requires numbered { AreNumbered lives.now }
+    requires empty { freed.old.items ≡ [] }
+    requires room { length (open_records log.old.slots) ≤ vec_capacity freed.old }
+    ensures frees { FreesLog D.honest D.image D.faults desk.now lives.now log.old log.new result }
+    ensures listed { OnOk result (open_records log.new.slots ≡ without_each freed.new.items (open_records log.old.slots)) }
     ensures unarmed { log.old.armed ≡ None → log.new.armed ≡ None }
-    ensures smooth { OnOk result (D.faults log.new.disk ≡ D.faults log.old.disk) }
-    ensures grows { D.faults log.old.disk ≤ D.faults log.new.disk }
 {
     if log.is_up() {
-        return free_all(log, lives, desk);
+        return free_all(log, lives, desk, freed);
     }
     match next_to_free(log, lives, desk) {
         Some(_) => Err(LogRefusal::Stopped),

@@ -3,8 +3,8 @@ use crate::ambient::Ambient;
 use crate::error::CommitError;
 use crate::handle::TransactionScope;
 use crate::manager::TransactionManager;
-use crate::resource::ResourceManager;
 use outside::{Clock, Disk};
+use resource_managers::ResourceManager;
 
 /// The work that a program does in a scope. Its meaning is the relation `does`: the work; the manager, the open scopes, its scope and the objects before it; what it comes to; and the
 /// manager, the open scopes and the objects after it.

@@ -21,10 +21,10 @@ ghost use Rattle.transactions.specs.Waiting.{AllAsked};
 use super::{TransactionManager, index};
 use crate::error::{CommitError, TxError};
 use crate::event::Event;
-use crate::handle::{CommittableTransaction, Enlistment};
-use crate::resource::ResourceManager;
+use crate::handle::CommittableTransaction;
 use dtx_values::{Answer, Call, EnlNo, Outcome, Reply, TxId};
 use outside::{Clock, Disk};
+use resource_managers::{Enlistment, ResourceManager};
 
 /// The objects hear what an event says to an enlistment; its reply.
 fn tell<O: ResourceManager>(o: &mut O, x: Event) -> Option<(EnlNo, Reply)>

@@ -9,10 +9,10 @@ ghost use Rattle.transactions.specs.declared.usage.Usage.TheVariants.{Free, Left
 use super::{TransactionManager, index};
 use crate::error::TxError;
 use crate::handle::CommittableTransaction;
-use crate::resource::ResourceManager;
 use crate::usage::Usage;
 use dtx_values::{TxId, TxNo};
 use outside::{Clock, Disk};
+use resource_managers::ResourceManager;
 
 impl<D: Disk + Drop, C: Clock + Drop> TransactionManager<D, C> {
     /// Takes this transaction off. Another may take its place, with a number of its own.

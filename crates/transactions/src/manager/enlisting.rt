@@ -15,11 +15,11 @@ ghost use Rattle.transactions.specs.declared.kind.Kind.TheVariants.{Durable, Pro
 
 use super::{TransactionManager, done, index};
 use crate::error::TxError;
-use crate::handle::{CommittableTransaction, DependentTransaction, Enlistment, Phases};
+use crate::handle::{CommittableTransaction, DependentTransaction, Phases};
 use crate::kind::Kind;
-use crate::resource::ResourceManager;
 use dtx_values::{Answer, Call, CloneKind, CloneNo, EnlNo, EnlistOption, RmNo, TxId};
 use outside::{Clock, Disk};
+use resource_managers::{Enlistment, ResourceManager};
 
 impl<D: Disk + Drop, C: Clock + Drop> TransactionManager<D, C> {
     /// Enters the call that enlists something in a transaction under the next number; it gives that, the line and the answer.

@@ -21,10 +21,11 @@ ghost use Rattle.transactions.specs.declared.kind.Kind.TheVariants.{Durable, Pro
 use super::{NODE, TransactionManager};
 use crate::error::TxError;
 use crate::event::{Advance, Next};
-use crate::handle::{CommittableTransaction, Enlistment, Phases};
+use crate::handle::{CommittableTransaction, Phases};
 use crate::kind::Kind;
 use dtx_values::{Answer, Call, CloneNo, RmNo, Timeout, TxId};
 use outside::{Clock, Disk, Relay};
+use resource_managers::Enlistment;
 
 /// Whether nothing was enlisted since another resource is.
 fn is_taken(e: TxError) -> bool

@@ -20,12 +20,12 @@ use super::driving::commit_error;
 use crate::ambient::{Ambient, isolation, place_of};
 use crate::error::{CommitError, ScopeError, TxError, answer_of};
 use crate::handle::{CommittableTransaction, TransactionScope};
-use crate::resource::ResourceManager;
 use crate::work::Work;
 use dtx_values::{
     Answer, Call, Closed, Entered, IsoWord, Outcome, ScopeNo, ScopeOption, Timeout, TxId,
 };
 use outside::{Clock, Disk};
+use resource_managers::ResourceManager;
 use scope_context::ScopeRefusal;
 
 /// What a rollback says of a scope that isn't complete: the transaction aborted, where it was done, and where it had aborted already.

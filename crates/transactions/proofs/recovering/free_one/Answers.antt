@@ -44,7 +44,7 @@ pub returns-clause-records : goal.returns-clause-records
 returns-clause-records g c = records g (goal.at.returns-clause-records g c).After-free
 
 pub returns-clause-fewer : goal.returns-clause-fewer
-returns-clause-fewer g c = λ done. rw c.in_ok-free.ensures.records (fewer c.args.desk.now c.args.lives.now c.in-Some.id (open_records c.args.log.now.slots) c.in-Some.ensures.found)
+returns-clause-fewer g c = λ id is. rw c.in_ok-free.ensures.records (fewer c.args.desk.now c.args.lives.now c.in-Some.id (open_records c.args.log.now.slots) c.in-Some.ensures.found)
 
 pub returns-clause-images : goal.returns-clause-images
 returns-clause-images g c = images g (goal.at.returns-clause-images g c).After-free

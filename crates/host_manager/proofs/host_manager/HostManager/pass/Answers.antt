@@ -3,7 +3,7 @@ use Rattle.dtx_values.specs.declared.call.Call.TheVariants.{Gone}
 use Rattle.host_manager.proofs.Passing.{enters_as}
 use Rattle.host_manager.specs.Host.{faults}
 use Rattle.transactions.specs.Doing.{Enters}
-use Rattle.transactions.specs.declared.handle.Enlistment.{Enlistment}
+use Rattle.resource_managers.specs.declared.enlistment.Enlistment.{Enlistment}
 use Rattle.host_manager.proofs.host_manager.HostManager.pass.Goals as goal
 
 pub returns-in-Complete-clause-entered : goal.returns-in-Complete-clause-entered

@@ -6,8 +6,8 @@ use Rattle.host_manager.specs.Host.{HostView}
 use Rattle.host_manager.specs.Polls.{Replies}
 use Rattle.host_manager.specs.Results.{replied_in}
 use Rattle.host_manager.specs.declared.error.HostError.{HostError}
-use Rattle.transactions.specs.declared.handle.Enlistment.{Enlistment}
-use Rattle.transactions.specs.Events.{enlistment}
+use Rattle.resource_managers.specs.declared.enlistment.Enlistment.{Enlistment}
+use Rattle.resource_managers.specs.Pairs.{enlistment}
 use Rattle.transactions.specs.Slots.{live_at}
 use Rattle.host_manager.proofs.host_manager.HostManager.reply.Goals as goal
 

@@ -1,0 +1,5 @@
+pub mod Finding
+pub mod Whole
+pub mod Steps
+pub mod Stepwise
+pub mod OneByOne
