@@ -48,24 +48,11 @@ impl<D: Disk + Drop, C: Clock + Drop> Book<D, C> {
             Ok(manager) => manager,
             Err((e, log, _)) => return Err((Trouble::of_log(e), Disks { log, left, right })),
         };
-        let left = match Kv::format(alloc, left) {
-            Ok(left) => left,
+        match Kv::format(alloc, left) {
+            Ok(left) => Book::with_right(manager, left, Kv::format(alloc, right)),
             Err((e, left)) => {
                 let log = manager.into_disk();
-                return Err((Trouble::of_store(Part::Left, e), Disks { log, left, right }));
-            }
-        };
-        match Kv::format(alloc, right) {
-            Ok(right) => Ok(Book {
-                manager,
-                stores: Stores::new(left, right),
-            }),
-            Err((e, right)) => {
-                let (log, left) = (manager.into_disk(), left.into_disk());
-                Err((
-                    Trouble::of_store(Part::Right, e),
-                    Disks { log, left, right },
-                ))
+                Err((Trouble::of_store(Part::Left, e), Disks { log, left, right }))
             }
         }
     }
@@ -85,14 +72,22 @@ impl<D: Disk + Drop, C: Clock + Drop> Book<D, C> {
             Ok(manager) => manager,
             Err((e, log, _)) => return Err((Trouble::of_log(e), Disks { log, left, right })),
         };
-        let left = match Kv::from_disk(alloc, left) {
-            Ok(left) => left,
+        match Kv::from_disk(alloc, left) {
+            Ok(left) => Book::with_right(manager, left, Kv::from_disk(alloc, right)),
             Err((e, left)) => {
                 let log = manager.into_disk();
-                return Err((Trouble::of_store(Part::Left, e), Disks { log, left, right }));
+                Err((Trouble::of_store(Part::Left, e), Disks { log, left, right }))
             }
-        };
-        match Kv::from_disk(alloc, right) {
+        }
+    }
+
+    /// The book of this manager and its stores, where the right one is there too.
+    fn with_right(
+        manager: TransactionManager<D, C>,
+        left: Kv<D>,
+        right: Result<Kv<D>, (KvRefusal, D)>,
+    ) -> Result<Book<D, C>, (Trouble, Disks<D>)> {
+        match right {
             Ok(right) => Ok(Book {
                 manager,
                 stores: Stores::new(left, right),
