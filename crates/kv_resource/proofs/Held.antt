@@ -1,7 +1,7 @@
 -- What a store holds of enlistments, by its slots, and what finishing one makes of it.
 use Rattle.std.specs.Prelude.{IsTrue, OnErr, OnOk, is_some, map, slice_get}
 use Rattle.std.specs.List.{count_by}
-use Rattle.std.proofs.Common.{◌≡◌, ◌⊎◌, inl, inr, ℕ, zero, suc, ◌+◌, ◌<◌, ◌≤◌, Bool, true, false, ◌&&◌, not, cond, nat_le, List, [], ◌∷◌, length, get_or, drop, set, take, Option, Some, None, Result, Ok, Err, refl, sym, ap, ◌∙◌, arith}
+use Rattle.std.proofs.Common.{◌≡◌, ◌⊎◌, inl, inr, ℕ, zero, suc, ◌+◌, ◌<◌, ◌≤◌, Bool, true, false, ◌&&◌, not, cond, nat_le, List, [], ◌∷◌, length, get_or, drop, set, take, Option, Some, None, Result, Ok, Err, refl, sym, subst, ap, ◌∙◌, arith}
 use Rattle.std.proofs.lemmas.Bool.{cases_Bool}
 use Rattle.std.proofs.lemmas.Bool.Decides.{nat_tests}
 use Rattle.std.proofs.lemmas.List.{at_drop_more, drop_all, get_or-take, length-take}
@@ -13,7 +13,7 @@ use Rattle.resource_managers.specs.Holding.{Holding, as_found, finished, first_i
 use Rattle.kv_resource.specs.Bytes.{KvRecord, kv_has, with_mark}
 use Rattle.kv_resource.specs.Held.{MayLeave, holdings_from, holdings_of, record_held}
 use Rattle.kv_resource.specs.Images.{TurnsSlot}
-use Rattle.kv_resource.specs.Store.{KvState, Pair, in_doubt, is_record_of, is_unmarked_of, open_records}
+use Rattle.kv_resource.specs.Store.{KvMemory, KvState, Pair, in_doubt, is_record_of, is_unmarked_of, open_records}
 use Rattle.kv_resource.proofs.Finding.{IsFirst, Slots, first_below}
 
 -- ---- the list
@@ -185,6 +185,14 @@ module _ {D : Type 0} (honest : Bool) (image : D → List ℕ → Type 0) (fault
   pub finish_cause : (result : Result (Unit {0}) Failed) → Turned result → OnErr result (IsTrue old.memory.stopped ⊎ Rose (faults old.disk) (faults new.disk))
   finish_cause (Ok u) turns = tt
   finish_cause (Err e) turns = inr turns.cause
+
+  -- after a finish that was done the store isn't stopped, and its count of faults is as before
+  pub finish_since : (result : Result (Unit {0}) Failed) → Turned result → OnOk result ((x : KvState D) → IsTrue new.memory.stopped ⊎ Rose (faults new.disk) (faults x.disk) → IsTrue old.memory.stopped ⊎ Rose (faults old.disk) (faults x.disk))
+  finish_since (Ok u) turns = λ x failed. elim failed [
+    | inl stopped ↦ absurd (let not : IsTrue false = subst (λ (m : KvMemory). IsTrue m.stopped) turns.done stopped in cc)
+    | inr rose ↦ inr (subst (λ (n : ℕ). Rose n (faults x.disk)) turns.smooth rose)
+  ]
+  finish_since (Err e) turns = tt
 
   -- the records of an image, as a later process finds them
   as_records : (b : List ℕ) (rs : List KvRecord) (hs : List Holding) (ss : Slots) → kv_has b ≡ Ok rs → hs ≡ map (record_held false) rs → kv_has b ≡ Ok (open_records ss) → hs ≡ as_found (holdings_from old.earlier 0 ss)

@@ -6,6 +6,7 @@ use Rattle.dtx_values.specs.declared.number.EnlNo.{EnlNo}
 use Rattle.dtx_values.specs.declared.tx_id.TxId.{TxId}
 use Rattle.dtx_values.specs.TxIds.{number_of}
 use Rattle.slotted.specs.Slotted.{held_in}
+pub use Rattle.resource_managers.specs.Pairs.{Pair}
 use Rattle.kv_resource.specs.Bytes.{KvRecord}
 
 -- writes of a pair that has no open slot: they are seen by nobody, and on no disk. A pair has one draft at most.
@@ -29,10 +30,6 @@ pub record KvState (D : Type 0) : Type 0 where
 -- the records of the open slots, in order of slots
 abbrev pub open_records : List (Option KvRecord) → List KvRecord
 open_records ss = held_in ss
-
--- a pair: a transaction, by its number for good, and an enlistment of it
-abbrev pub Pair : Type 0
-Pair = ℕ × ℕ
 
 -- the pair of a record, of a draft, and of the program's numbers
 abbrev pub pair_of_record : KvRecord → Pair

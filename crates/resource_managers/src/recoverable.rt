@@ -12,7 +12,8 @@ use outside::Failed;
 /// A resource manager that holds what it prepared until it is finished, whatever becomes of the process.
 ///
 /// Its meaning is three members. `holds` is the list of what it holds, in its own order. `leaves` says of a list whether a crash may leave that: whether a later process may
-/// find it. `fails` says of the manager before a call and after it that its disk failed, before the call or in it.
+/// find it. `fails` says of the manager before a call and after it that its disk failed, before the call or in it. What fails after a finish that was done, counted from there,
+/// fails counted from before it too.
 ///
 /// What is held *in doubt* was prepared by no call of this process, and isn't marked as committed.
 pub trait Recoverable: ResourceManager {
@@ -46,5 +47,6 @@ pub trait Recoverable: ResourceManager {
         ensures finished { OnOk result (holds self.new ≡ finished commit (pair_of e) (holds self.old)) }
         ensures failed { OnErr result (holds self.new ≡ holds self.old) }
         ensures images { (hs : List Holding) → leaves self.new hs → leaves self.old hs ⊎ ((hs ≡ as_found (holds self.old)) ⊎ (hs ≡ as_found (finished commit (pair_of e) (holds self.old)))) }
-        ensures cause { OnErr result (fails self.old self.new) };
+        ensures cause { OnErr result (fails self.old self.new) }
+        ensures since { OnOk result ((x : Self) → fails self.new x → fails self.old x) };
 }

@@ -8,22 +8,18 @@ use Rattle.recovery_laws.specs.Finding.{Finding, Commits, Aborts, IsNotNamed, fi
 use Rattle.resource_managers.specs.Holding.{Holding, is_in_doubt, pair_held}
 use Rattle.resource_managers.specs.Pairs.{Pair}
 use Rattle.transactions.specs.Recovering.{has_place}
-use Rattle.transactions.specs.Recovery.{GoesOn, Later, Obstacle, first_obstacle, is_not_named, is_unnamed, obstacle_to, or_else, unnamed}
+use Rattle.transactions.specs.Recovery.{GoesOn, Later, NotNamed, Obstacle, first_obstacle, is_not_named, is_unnamed, obstacle_to, or_else}
 use Rattle.transactions.specs.State.{LiveState}
 
 -- what is there is the same
 some_is : {A : Type 0} (x y : A) → Some x ≡ Some y → x ≡ y
 some_is x y e = cc
 
--- the log decides
-pub found_obstacle : (rs : List CommitRecord) (xs : List LiveState) (m : ℕ) (h : Holding) → is_later rs h ≡ false → is_in_doubt h ≡ true → has_place (identifier_of h.number) xs ≡ false → obstacle_to rs xs m h ≡ unnamed (finding rs m h)
-found_obstacle rs xs m h later doubt placed = rw later (rw doubt (rw placed refl))
-
 -- a holding that is no obstacle is named, where it is in doubt
 clear_one : (rs : List CommitRecord) (xs : List LiveState) (m : ℕ) (h : Holding) → obstacle_to rs xs m h ≡ None → is_unnamed rs m h ≡ false
 clear_one rs xs m h clear = by (is_later rs h) (is_in_doubt h) (has_place (identifier_of h.number) xs) (finding rs m h) clear
   where
-    by : (l d p : Bool) (f : Finding) → cond l (Some Later) (cond (not d) None (cond p (Some GoesOn) (unnamed f))) ≡ None → (d && is_not_named f) ≡ false
+    by : (l d p : Bool) (f : Finding) → cond l (Some Later) (cond (not d) None (cond p (Some GoesOn) (cond (is_not_named f) (Some NotNamed) None))) ≡ None → (d && is_not_named f) ≡ false
     by true d p f clear = absurd cc
     by false false p f clear = refl
     by false true true f clear = absurd cc

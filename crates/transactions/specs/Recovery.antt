@@ -28,13 +28,14 @@ pub data Obstacle : Type 0 where
   GoesOn : Obstacle
   NotNamed : Obstacle
 
-abbrev pub unnamed : Finding → Option Obstacle
-unnamed IsNotNamed = Some NotNamed
-unnamed _ = None
+-- the record of its transaction doesn't name it
+abbrev pub is_not_named : Finding → Bool
+is_not_named IsNotNamed = true
+is_not_named _ = false
 
 abbrev pub obstacle_to : List CommitRecord → List LiveState → ℕ → Holding → Option Obstacle
 obstacle_to rs xs m h =
-    if is_later rs h then Some Later else if not (is_in_doubt h) then None else if has_place (identifier_of h.number) xs then Some GoesOn else unnamed (finding rs m h)
+    if is_later rs h then Some Later else if not (is_in_doubt h) then None else if has_place (identifier_of h.number) xs then Some GoesOn else if is_not_named (finding rs m h) then Some NotNamed else None
 
 abbrev pub or_else : Option Obstacle → Pair → Option (Obstacle × Pair) → Option (Obstacle × Pair)
 or_else (Some o) p rest = Some (o, p)
@@ -52,10 +53,6 @@ finding_told FoundAborted = Aborts
 finding_told FoundNotNamed = IsNotNamed
 
 -- it is in doubt, and the record of its transaction doesn't name it
-abbrev pub is_not_named : Finding → Bool
-is_not_named IsNotNamed = true
-is_not_named _ = false
-
 abbrev pub is_unnamed : List CommitRecord → ℕ → Holding → Bool
 is_unnamed rs m h = is_in_doubt h && is_not_named (finding rs m h)
 

@@ -1,9 +1,7 @@
 //! What a resource holds of earlier processes, which its recovery finishes by the log.
 ghost use Rattle.std.specs.Prelude.{◌≡◌, ◌⊎◌, ◌≤◌, [], List, None, Some, false, OnErr, OnOk, length, map, vec_capacity};
 ghost use Rattle.std.specs.Option.{option_map};
-ghost use Rattle.dtx_values.specs.TxIds.{number_of};
-ghost use Rattle.dtx_model.specs.Log.{first_of, record_of};
-ghost use Rattle.dtx_model.specs.Promotes.{identifier_of};
+ghost use Rattle.dtx_model.specs.Log.{record_of};
 ghost use Rattle.dtx_model.specs.Words.{has};
 ghost use Rattle.coordinator_log.specs.Slots.{open_records};
 ghost use Rattle.log_epochs.specs.Epochs.{epoch_of};
@@ -144,7 +142,7 @@ pub(crate) fn finish_all<D: Disk, R: Recoverable>(
     ensures told { OnOk result (map finish_told finished.new.items ≡ finishes (open_records log.now.slots) rm.value (R.holds r.old)) }
     ensures partly { IsPartly (open_records log.now.slots) rm.value (R.holds r.old) (R.holds r.new) }
     ensures images { (hs : List Holding) → R.leaves r.new hs → R.leaves r.old hs ⊎ IsFoundPartly (open_records log.now.slots) rm.value (R.holds r.old) hs }
-    ensures cause { OnErr result ((before : R) × R.fails before r.new) }
+    ensures cause { OnErr result (R.fails r.old r.new) }
 {
     recovery_is_stepwise();
     while let Some(e) = r.in_doubt() {

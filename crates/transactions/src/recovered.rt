@@ -1,5 +1,4 @@
 //! What a recovery comes to.
-ghost use Rattle.transactions.specs.Recovery.{obstacle_in};
 
 use dtx_values::Outcome;
 use resource_managers::Enlistment;

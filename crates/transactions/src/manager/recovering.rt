@@ -129,7 +129,7 @@ impl<D: Disk + Drop, C: Clock + Drop> TransactionManager<D, C> {
         ensures told { IfOk result (λ x. map finish_told x.finished.items ≡ finishes (open_records self.old.log.slots) rm.value (R.holds r.old)) }
         ensures partly { IsPartly (open_records self.old.log.slots) rm.value (R.holds r.old) (R.holds r.new) }
         ensures images { (hs : List Holding) → R.leaves r.new hs → R.leaves r.old hs ⊎ IsFoundPartly (open_records self.old.log.slots) rm.value (R.holds r.old) hs }
-        ensures failed { result ≡ Err RecoverRefusal.Failed → ((before : R) × R.fails before r.new) × (self.new ≡ self.old) × (desk.new ≡ desk.old) }
+        ensures failed { result ≡ Err RecoverRefusal.Failed → R.fails r.old r.new × (self.new ≡ self.old) × (desk.new ≡ desk.old) }
 
         // The log, of which nothing goes before all is finished.
         ensures added { is_finished result ≡ true → desk.new ≡ desk.old ++ rm ∷ [] }

@@ -1,4 +1,5 @@
-use Rattle.std.proofs.Common.{◌≡◌, ◌∙◌, ◌++◌, ◌⊎◌, ◌∷◌, [], List, ap, arith, inl, inr, map, subst, sym, false}
+use Rattle.std.proofs.Common.{◌≡◌, ◌∙◌, ◌++◌, ◌⊎◌, ◌∷◌, [], List, Result, Ok, Err, ap, arith, inl, inr, map, subst, sym, false}
+use Rattle.std.specs.Prelude.{OnErr}
 use Rattle.std.proofs.lemmas.List.{map-append}
 use Rattle.coordinator_log.specs.Slots.{open_records}
 use Rattle.recovery_laws.specs.Stepwise.{doubts}
@@ -41,6 +42,14 @@ images g c hs left = elim (c.finish.ensures.images hs left) [
       (partly rs m old _ _ c.loop-e.invariant.way) (partly rs m old _ _ (next g c)) since)
 ]
 
+-- what holds holds on an error
+on_err : {A E : Type 0} (z : Result A E) (P : Type 0) → P → OnErr z P
+on_err (Ok x) P holds = tt
+on_err (Err e) P holds = holds
+
+pub returns-in_err-finish-clause-cause : goal.returns-in_err-finish-clause-cause
+returns-in_err-finish-clause-cause g c = on_err c.from_residual.result _ (c.loop-e.invariant.since c.finish.new.self c.in_err-finish.ensures.cause)
+
 pub returns-in_err-finish-clause-images : goal.returns-in_err-finish-clause-images
 returns-in_err-finish-clause-images g c = images g (goal.at.returns-in_err-finish-clause-images g c).After-finish
 
@@ -68,6 +77,7 @@ loop-e-preserved g c =
           let capacity = c.push_reserved.ensures.capacity in
           omega (arith, falls, same, room, len, capacity);
       images = images g at;
+      since = λ x failed. c.loop-e.invariant.since x (c.in_ok-finish.ensures.since x failed);
     }
 
 pub returns-clause-settled : goal.returns-clause-settled

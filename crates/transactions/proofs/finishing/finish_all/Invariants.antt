@@ -6,7 +6,7 @@ use Rattle.transactions.specs.Recovery.{IsFoundPartly, finish_told}
 use Rattle.transactions.proofs.Partly.{IsUnderWay}
 use Rattle.transactions.proofs.finishing.finish_all.Given as goal
 
--- the first that were in doubt are finished, and there is room for the others; a crash leaves what was held at some time
+-- the first that were in doubt are finished, and there is room for the others; a crash leaves what was held at some time; and what fails from now on fails counted from the start
 abbrev pub invariant-loop-e : goal.invariant-loop-e
 invariant-loop-e g l =
     record {
@@ -14,6 +14,7 @@ invariant-loop-e g l =
       room : vec_len l.finished + doubts (g.R.Recoverable.holds l.r) ≤ vec_capacity l.finished;
       images : (hs : List Holding) → g.R.Recoverable.leaves l.r hs
           → g.R.Recoverable.leaves l.initial.r hs ⊎ IsFoundPartly (open_records l.log.slots) l.rm.value (g.R.Recoverable.holds l.initial.r) hs;
+      since : (x : g.row.R.Denot) → g.R.Recoverable.fails l.r x → g.R.Recoverable.fails l.initial.r x;
     }
 
 -- each turn leaves one fewer in doubt
