@@ -4,6 +4,7 @@ use Rattle.std.specs.Prelude.{slice_get}
 use Rattle.std.proofs.lemmas.Bool.Decides.{nat_tests}
 use Rattle.std.proofs.lemmas.Option.{get_or_from_slice_get, slice_get_past}
 use Rattle.dtx_values.specs.declared.message.Message.{Message}
+use Rattle.dtx_model.specs.Wires.{is_next}
 use Rattle.trace_checker.specs.declared.ways.Way.{Way}
 use Rattle.trace_checker.specs.declared.ways.Ways.{Ways}
 use Rattle.trace_checker.specs.Ways.{AreSame, ChangesWay, IsPlaceOf, if_of, is_end_on, is_way_ended, messages, messages_on, place_of, way}
@@ -136,3 +137,12 @@ no_row_past k p ws e l = ap (λ n. if_of k (slice_get ws.rows.items n)) (sym e) 
 
 pub no_row_other : (k p : ℕ) (ws : Ways) (y : Way) → p ≡ place_of k ws → slice_get ws.rows.items p ≡ Some y → y.number ≢ k → way k ws ≡ None
 no_row_other k p ws y e there n = ap (λ n. if_of k (slice_get ws.rows.items n)) (sym e) ∙ (ap (if_of k) there ∙ not_own k y n)
+
+-- the first message n that is on the way, and one that is it or isn't
+pub next_is : (ms : List Message) (n m : Message) → 1 ≤ length ms → n ≡ get_or ms 0 n → m ≡ n → is_next m ms
+next_is [] n m l e f = absurd (omega arith)
+next_is (x ∷ ms) n m l e f = f ∙ e
+
+pub next_is_not : (ms : List Message) (n m : Message) → 1 ≤ length ms → n ≡ get_or ms 0 n → m ≢ n → is_next m ms → ⊥
+next_is_not [] n m l e f k = k
+next_is_not (x ∷ ms) n m l e f k = f (k ∙ sym e)

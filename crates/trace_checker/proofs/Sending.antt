@@ -20,7 +20,6 @@ use Rattle.trace_checker.specs.Names.{has_name}
 use Rattle.trace_checker.specs.Ways.{ChangesWay, is_way_ended, messages}
 use Rattle.trace_checker.specs.Wires.{IsWiresOf, is_intact, is_opened, lost_in}
 use Rattle.trace_checker.proofs.Connections.{same_number_of}
-use Rattle.trace_checker.proofs.Keys.{same_number}
 use Rattle.trace_checker.proofs.Wiring.{kept_end, now_on, same_key, seen_on}
 
 opens_no : (q c : Conn) (d : Dir) (m : Message) → (same_direction d Up && is_opening c m) ≡ false → opens q (Sent c d m) ≡ false
@@ -175,18 +174,6 @@ removed false b = refl
 pub added : (s b : Bool) → (s || b) ≡ cond s true b
 added true b = refl
 added false b = refl
-
--- a way that is opened and sent on
-pub opened_up : (k : ℕ) (m : Message) (old mid new : Ways) → ChangesWay k [] false old mid → ChangesWay k (messages k mid ++ m ∷ []) (is_way_ended k mid) mid new → ChangesWay k (m ∷ []) false old new
-opened_up k m old mid new f g = record { messages = λ q. g.messages q ∙ by q (q == k) refl; ended = λ q. g.ended q ∙ end q (q == k) refl }
-  where
-    by : (q : ℕ) (s : Bool) → (q == k) ≡ s → cond s (messages k mid ++ m ∷ []) (messages q mid) ≡ cond s (m ∷ []) (messages q old)
-    by q true e = ap (λ xs. xs ++ m ∷ []) (f.messages k ∙ ap (λ b. cond b [] (messages k old)) (same_number k))
-    by q false e = f.messages q ∙ ap (λ b. cond b [] (messages q old)) e
-
-    end : (q : ℕ) (s : Bool) → (q == k) ≡ s → cond s (is_way_ended k mid) (is_way_ended q mid) ≡ cond s false (is_way_ended q old)
-    end q true e = f.ended k ∙ ap (λ b. cond b false (is_way_ended k old)) (same_number k)
-    end q false e = f.ended q ∙ ap (λ b. cond b false (is_way_ended q old)) e
 
 pub opening : (c : Conn) (m : Message) (st : Bool) (w : Wires) (k : ℕ) (opened : Names) (intact : Intact) (upward downward : Ways) → k ≡ number_of c
     → ((n : ℕ) → has_name n opened ≡ ((n == k) || has_name n w.opened)) → ((n : ℕ) → is_intact_at n intact ≡ cond (n == k) (not st) (is_intact_at n w.intact))

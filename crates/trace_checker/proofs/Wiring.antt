@@ -1,5 +1,5 @@
 -- What the connections carry, with one more entry.
-use Rattle.std.proofs.Common.{◌≡◌, ℕ, Bool, true, false, cond, ◌==◌, ◌&&◌, ◌||◌, not, List, [], ◌∷◌, Option, Some, None, take, refl, ap, sym, ◌∙◌}
+use Rattle.std.proofs.Common.{◌≡◌, ◌↔◌, IsTrue, subst, ℕ, Bool, true, false, cond, ◌==◌, ◌&&◌, ◌||◌, not, List, [], ◌∷◌, Option, Some, None, take, refl, ap, sym, ◌∙◌}
 use Rattle.std.specs.Result.{OnOk}
 use Rattle.std.specs.declared.result.Result.{Result}
 use Rattle.std.specs.declared.result.Result.TheVariants.{Ok, Err}
@@ -11,14 +11,16 @@ use Rattle.dtx_values.specs.declared.message.Dir.TheVariants.{Up, Down}
 use Rattle.dtx_values.specs.declared.message.Message.{Message}
 use Rattle.dtx_values.specs.Ends.{same_connection, same_direction}
 use Rattle.dtx_values.specs.Lines.{has_line}
-use Rattle.dtx_model.specs.Wires.{in_transit, is_ended, lost_after, lost_since, without_first}
+use Rattle.dtx_model.specs.Outcome.{is_empty}
+use Rattle.dtx_model.specs.Wires.{MayCross, in_transit, is_ended, is_lost_wire, is_next, lost_after, lost_since, without_first}
+use Rattle.dtx_model.specs.Words.{holds}
 use Rattle.trace_checker.specs.declared.intact.Intact.{Intact}
 use Rattle.trace_checker.specs.declared.ways.Ways.{Ways}
 use Rattle.trace_checker.specs.declared.wires.Wires.{Wires}
 use Rattle.trace_checker.specs.Connections.{number_of}
 use Rattle.trace_checker.specs.Intact.{is_intact_at}
 use Rattle.trace_checker.specs.Ways.{ChangesWay, is_way_ended, messages}
-use Rattle.trace_checker.specs.Wires.{IsWiresOf, is_intact, is_opened}
+use Rattle.trace_checker.specs.Wires.{IsWiresOf, is_intact, is_opened, may_end_in}
 use Rattle.trace_checker.proofs.Connections.{same_number_of}
 use Rattle.trace_checker.proofs.Keys.{same_is}
 
@@ -173,6 +175,39 @@ get_down h c m w new y ch k = record {
   ended_down = λ q o. quiet_got (same_connection q c) true (has_line c Down m) (is_ended q Down h) y
       ∙ (k.ended_down q o ∙ sym (seen_on c q (without_first (messages (number_of c) w.downward)) (is_way_ended (number_of c) w.downward) w.downward new ch ∙ kept_end c q w.downward));
 }
+
+-- An end that may be seen on its side crosses.
+end_parts : (o i e s : Bool) → (o && not i && e && not s) ≡ true → (o ≡ true) × (i ≡ false) × (e ≡ true) × (s ≡ false)
+end_parts true false true false k = (refl, refl, refl, refl)
+end_parts true false true true k = absurd cc
+end_parts true false false s k = absurd cc
+end_parts true true e s k = absurd cc
+end_parts false i e s k = absurd cc
+
+crosses : (l e s : Bool) → l ≡ true → e ≡ true → s ≡ false → (l && e && not s) ≡ true
+crosses l e s p q r = rw (p, q, r) refl
+
+lost_is : (h : List Entry) (c : Conn) (w : Wires) → is_opened c w ≡ true → is_intact c w ≡ false → IsWiresOf h w → is_lost_wire c h ≡ true
+lost_is h c w o i k = ap holds (k.lost c) ∙ (ap (λ b. holds (cond b (Some (not (is_intact c w))) None)) o ∙ ap not i)
+
+pub end_crosses : (h : List Entry) (c : Conn) (d : Dir) (w : Wires) → may_end_in c d w ≡ true → IsWiresOf h w → MayCross h (End c d)
+end_crosses h c Up w e k =
+    let p = end_parts (is_opened c w) (is_intact c w) (is_empty (messages (number_of c) w.upward)) (is_way_ended (number_of c) w.upward) e in
+    crosses (is_lost_wire c h) (is_empty (in_transit c Up h)) (is_ended c Up h) (lost_is h c w p.0 p.1 k) (ap is_empty (k.upward c) ∙ p.2) (k.ended_up c p.0 ∙ p.3)
+end_crosses h c Down w e k =
+    let p = end_parts (is_opened c w) (is_intact c w) (is_empty (messages (number_of c) w.downward)) (is_way_ended (number_of c) w.downward) e in
+    crosses (is_lost_wire c h) (is_empty (in_transit c Down h)) (is_ended c Down h) (lost_is h c w p.0 p.1 k) (ap is_empty (k.downward c) ∙ p.2) (k.ended_down c p.0 ∙ p.3)
+
+-- A message is got exactly where it is the next on the way.
+pub next_up : (h : List Entry) (c : Conn) (m : Message) (w : Wires) (n : ℕ) (r : Bool) → n ≡ number_of c → (IsTrue r ↔ is_next m (messages n w.upward)) → IsWiresOf h w → IsTrue r ↔ MayCross h (Got c Up m)
+next_up h c m w n r e next k =
+    let N : List Message → Type 0 = λ ms. IsTrue r ↔ is_next m ms in
+    subst N (ap (λ i. messages i w.upward) e ∙ sym (k.upward c)) next
+
+pub next_down : (h : List Entry) (c : Conn) (m : Message) (w : Wires) (n : ℕ) (r : Bool) → n ≡ number_of c → (IsTrue r ↔ is_next m (messages n w.downward)) → IsWiresOf h w → IsTrue r ↔ MayCross h (Got c Down m)
+next_down h c m w n r e next k =
+    let N : List Message → Type 0 = λ ms. IsTrue r ↔ is_next m ms in
+    subst N (ap (λ i. messages i w.downward) e ∙ sym (k.downward c)) next
 
 -- A message that has no line is the loss of its connection and its end on the side that gets it.
 pub got_lineless : (h : List Entry) (c : Conn) (d : Dir) (m : Message) (w : Wires) → has_line c d m ≡ false → IsWiresOf (End c d ∷ Cut c 0 0 ∷ h) w → IsWiresOf (Got c d m ∷ h) w

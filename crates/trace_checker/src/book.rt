@@ -1,5 +1,5 @@
 //! The book of one transaction.
-ghost use Rattle.std.specs.Prelude.{◌≡◌, List, [], ◌∷◌, ◌&&◌, not, true, OnOk};
+ghost use Rattle.std.specs.Prelude.{◌≡◌, List, [], ◌∷◌, ◌&&◌, not, true, IfOk, None};
 ghost use Rattle.dtx_values.specs.declared.entry.Entry.{Entry};
 ghost use Rattle.dtx_values.specs.declared.message.Conn.TheVariants.{Begin};
 ghost use Rattle.dtx_values.specs.declared.message.Dir.TheVariants.{Up};
@@ -13,8 +13,8 @@ use crate::marks::Marks;
 use crate::members::Members;
 use crate::owner::{Lasting, Owner};
 use crate::voters::Voters;
-use crate::wires::Wires;
-use dtx_values::{Conn, Dir, Entry, Message, Outcome, Party, Request, Vote, has_line};
+use crate::wires::{Wires, may_carry};
+use dtx_values::{Conn, Dir, Entry, Message, Outcome, Party, Request, Vote};
 use std::alloc::{AllocError, Global};
 
 /// What is known of a transaction by its entries so far.
@@ -184,7 +184,7 @@ impl Book {
             Entry::Got(Conn::Begin, Dir::Up, Message::BeginCommitOne) => {
                 !self.heard.lone && self.is_veto_end(Conn::Begin, Dir::Up)
             }
-            Entry::Got(c, d, m) => !has_line(c, d, m) && self.is_veto_end(c, d),
+            Entry::Got(c, d, m) => !may_carry(c, d, &m) && self.is_veto_end(c, d),
             _ => false,
         }
     }
@@ -209,36 +209,30 @@ impl Book {
         !(after.committed && after.aborted) && !again
     }
 
-    /// What the entry loses of what was kept so far, the first of the three.
+    /// Notes the entry, unless it loses something of what was kept so far: then the first of the three comes back.
     #[tactic(auto, using(crate::proofs::Losing::losing))]
     #[inline(always)]
-    pub fn loss(&self, x: &Entry) -> Option<Why>
-        ensures { (h : List Entry) → IsBookOf h self.now → IsKept h → IsLossOf (x.now ∷ h) result }
+    pub fn note(&mut self, x: &Entry) -> Result<Option<Why>, AllocError>
+        ensures lost { IfOk result (λ loss. (h : List Entry) → IsBookOf h self.old → IsKept h → IsLossOf (x.now ∷ h) loss) }
+        ensures noted { IfOk result (λ loss. loss ≡ None → (h : List Entry) → IsBookOf h self.old → IsBookOf (x.now ∷ h) self.new) }
     {
         if !self.is_just(x) {
-            Some(Why::Justified)
-        } else if !self.does_agree(x) {
-            Some(Why::Agree)
-        } else if !self.wires.may_cross(x) {
-            Some(Why::Wire)
-        } else {
-            None
+            return Ok(Some(Why::Justified));
         }
-    }
-
-    /// Notes the entry.
-    #[inline(always)]
-    pub fn follow(&mut self, x: &Entry) -> Result<(), AllocError>
-        ensures { OnOk result ((h : List Entry) → IsBookOf h self.old → IsBookOf (x.now ∷ h) self.new) }
-    {
-        self.vetoed |= self.is_first_veto(x);
+        if !self.does_agree(x) {
+            return Ok(Some(Why::Agree));
+        }
+        let is_first_veto = self.is_first_veto(x);
+        if !self.wires.cross(x)? {
+            return Ok(Some(Why::Wire));
+        }
+        self.vetoed |= is_first_veto;
         self.doubts.follow(&self.members, x);
         self.marks.follow(x);
         self.heard.follow(x);
         self.owner.follow(x);
         self.voters.follow(x)?;
         self.members.follow(x)?;
-        self.wires.follow(x)?;
-        Ok(())
+        Ok(None)
     }
 }

@@ -5,7 +5,7 @@ ghost use Rattle.trace_checker.specs.Keeps.{IsChecked};
 
 use crate::book::Book;
 use crate::checked::{Checked, Why};
-use dtx_values::{Entry, Place, TxNo};
+use dtx_values::{Dir, Entry, Place, TxNo};
 use entry_lists::Trace;
 use std::alloc::{AllocError, Global};
 
@@ -40,13 +40,7 @@ impl Checker {
         match at {
             Place::Transaction(t) => {
                 let book = &mut self.books[t.index()];
-                match book.loss(x) {
-                    Some(why) => Ok(Some(why)),
-                    None => {
-                        book.follow(x)?;
-                        Ok(None)
-                    }
-                }
+                book.note(x)
             }
             Place::Context(_) => Ok(None),
             Place::Log => Ok(None),
@@ -66,8 +60,10 @@ impl Checker {
             Entry::Asked(e, ask) => self.note(at, &Entry::Asked(e, ask)),
             Entry::Voted(e, vote) => self.note(at, &Entry::Voted(e, vote)),
             Entry::Told(party, outcome) => self.note(at, &Entry::Told(party, outcome)),
-            Entry::Sent(c, d, m) => self.note(at, &Entry::Sent(c, d, m)),
-            Entry::Got(c, d, m) => self.note(at, &Entry::Got(c, d, m)),
+            Entry::Sent(c, Dir::Up, m) => self.note(at, &Entry::Sent(c, Dir::Up, m)),
+            Entry::Sent(c, Dir::Down, m) => self.note(at, &Entry::Sent(c, Dir::Down, m)),
+            Entry::Got(c, Dir::Up, m) => self.note(at, &Entry::Got(c, Dir::Up, m)),
+            Entry::Got(c, Dir::Down, m) => self.note(at, &Entry::Got(c, Dir::Down, m)),
             _ => self.note(at, x),
         }
     }

@@ -31,11 +31,11 @@ pub struct Ways {
 }
 
 /// Whether the two messages are one.
-fn is_same(m: Message, n: Message) -> bool
-    ensures same { result ≡ true → m ≡ n }
-    ensures other { result ≡ false → m ≢ n }
+fn is_same(m: &Message, n: &Message) -> bool
+    ensures same { result ≡ true → m.now ≡ n.now }
+    ensures other { result ≡ false → m.now ≢ n.now }
 {
-    m == n
+    *m == *n
 }
 
 impl Ways {
@@ -54,6 +54,7 @@ impl Ways {
     }
 
     /// The place of way k's row.
+    #[inline(always)]
     fn find(&self, k: u32) -> Option<usize>
         ensures some { IfSome result (λ p. IsPlaceOf k p self.now) }
         ensures none { IfNone result (way k self.now ≡ None) }
@@ -76,17 +77,22 @@ impl Ways {
         }
     }
 
-    /// Whether this message is the next on way k.
-    pub fn is_next(&self, k: u32, m: Message) -> bool
-        ensures { IsTrue result ↔ is_next m (messages k self.now) }
+    /// The place of way k's row, where this message is the next on the way.
+    #[inline(always)]
+    fn find_next(&self, k: u32, m: &Message) -> Option<usize>
+        ensures some { IfSome result (λ p. IsPlaceOf k p self.now × is_next m.now (messages k self.now)) }
+        ensures none { IfNone result (is_next m.now (messages k self.now) → ⊥) }
     {
-        match self.way(k) {
-            Some(way) => match way.messages.front() {
-                Some(n) => is_same(m, *n),
-                None => false,
-            },
-            None => false,
-        }
+        let p = self.find(k)?;
+        let next = self.rows[p].messages.front()?;
+        if is_same(m, next) { Some(p) } else { None }
+    }
+
+    /// Whether this message is the next on way k.
+    pub fn is_next(&self, k: u32, m: &Message) -> bool
+        ensures { IsTrue result ↔ is_next m.now (messages k self.now) }
+    {
+        self.find_next(k, m).is_some()
     }
 
     /// Whether nothing is on way k.
@@ -109,15 +115,26 @@ impl Ways {
         }
     }
 
-    /// The place of way k's row, which is made where there is none. It begins with room for one message: on most ways there is never
-    /// more than one.
+    /// The place of way k's row, which is made where there is none.
+    #[inline(always)]
     fn reach(&mut self, k: u32) -> Result<usize, AllocError>
         ensures there { IfOk result (λ p. IsPlaceOf k p self.new) }
         ensures same { OnOk result (AreSame self.old self.new) }
     {
-        if let Some(p) = self.find(k) {
-            return Ok(p);
+        match self.find(k) {
+            Some(p) => Ok(p),
+            None => self.make(k),
         }
+    }
+
+    /// Makes a row for way k, which has none, and gives its place. It begins with room for one message: on most ways there is never
+    /// more than one. This comes seldom, so it stays out of the code of its callers.
+    #[inline(never)]
+    fn make(&mut self, k: u32) -> Result<usize, AllocError>
+        requires { way k self.old ≡ None }
+        ensures there { IfOk result (λ p. IsPlaceOf k p self.new) }
+        ensures same { OnOk result (AreSame self.old self.new) }
+    {
         let p = self.rows.len();
         let Ok(place) = u32::try_from(p) else {
             return Err(AllocError);
@@ -143,6 +160,20 @@ impl Ways {
         Ok(())
     }
 
+    /// Way k begins with this message alone on it.
+    #[inline(always)]
+    pub fn open_with(&mut self, k: u32, m: &Message) -> Result<(), AllocError>
+        ensures { OnOk result (ChangesWay k (m.now ∷ []) false self.old self.new) }
+    {
+        let p = self.reach(k)?;
+        let way = &mut self.rows[p];
+        way.messages.clear();
+        way.messages.reserve(1)?;
+        way.messages.push_back_reserved(*m);
+        way.ended = false;
+        Ok(())
+    }
+
     /// Nothing is on way k, and no end comes.
     pub fn close(&mut self, k: u32)
         ensures { ChangesWay k [] true self.old self.new }
@@ -163,22 +194,27 @@ impl Ways {
     }
 
     /// A message goes last on way k.
-    pub fn send(&mut self, k: u32, m: Message) -> Result<(), AllocError>
-        ensures { OnOk result (ChangesWay k (messages k self.old ++ m ∷ []) (is_way_ended k self.old) self.old self.new) }
+    pub fn send(&mut self, k: u32, m: &Message) -> Result<(), AllocError>
+        ensures { OnOk result (ChangesWay k (messages k self.old ++ m.now ∷ []) (is_way_ended k self.old) self.old self.new) }
     {
         let p = self.reach(k)?;
         let way = &mut self.rows[p];
-        way.messages.push_back(m)?;
+        way.messages.push_back(*m)?;
         Ok(())
     }
 
-    /// The first message on way k comes.
-    pub fn get(&mut self, k: u32)
-        ensures { ChangesWay k (without_first (messages k self.old)) (is_way_ended k self.old) self.old self.new }
+    /// The message comes, if it is the next on way k. It says whether it is.
+    pub fn take(&mut self, k: u32, m: &Message) -> bool
+        ensures next { IsTrue result ↔ is_next m.now (messages k self.old) }
+        ensures taken { IsTrue result → ChangesWay k (without_first (messages k self.old)) (is_way_ended k self.old) self.old self.new }
     {
-        if let Some(p) = self.find(k) {
-            let way = &mut self.rows[p];
-            let _ = way.messages.pop_front();
+        match self.find_next(k, m) {
+            Some(p) => {
+                let way = &mut self.rows[p];
+                let _ = way.messages.pop_front();
+                true
+            }
+            None => false,
         }
     }
 

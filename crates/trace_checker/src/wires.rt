@@ -1,9 +1,8 @@
 //! What the connections carry.
-ghost use Rattle.std.specs.Prelude.{◌≡◌, List, [], ◌∷◌, ◌&&◌, ◌↔◌, true, false, OnOk};
+ghost use Rattle.std.specs.Prelude.{◌≡◌, List, [], ◌∷◌, ◌&&◌, ◌↔◌, true, false, IfOk, IsTrue, OnOk};
 ghost use Rattle.dtx_values.specs.declared.entry.Entry.{Entry as AnEntry};
 ghost use Rattle.dtx_values.specs.declared.entry.Entry.TheVariants.{Sent, Got, Cut, Down, Stopped, Restarted};
 ghost use Rattle.dtx_values.specs.declared.message.Dir.TheVariants.{Up};
-ghost use Rattle.dtx_values.specs.declared.message.Message.{Message as AMessage};
 ghost use Rattle.dtx_values.specs.Lines.{has_line, is_opening};
 ghost use Rattle.dtx_values.specs.Ends.{same_direction};
 ghost use Rattle.dtx_model.specs.Wires.{MayCross};
@@ -17,6 +16,7 @@ use std::alloc::{AllocError, Global};
 
 /// The number of connection c in tables: b, v, and two for each enlistment, of its own connection and of the one on which it came
 /// back. So the tables are short where the enlistments' numbers are low.
+#[inline(always)]
 fn number(c: Conn) -> u32
     ensures { result ≡ number_of c }
 {
@@ -26,6 +26,14 @@ fn number(c: Conn) -> u32
         Conn::Enl(e) => 2 * e.get(),
         Conn::Again(e) => 2 * e.get() + 1,
     }
+}
+
+/// Whether the message has a line on connection c in this direction. One that opens the connection has, and that is found sooner.
+#[inline(always)]
+pub fn may_carry(c: Conn, d: Dir, m: &Message) -> bool
+    ensures { result ≡ has_line c d m.now }
+{
+    (d == Dir::Up && is_opening(c, *m)) || has_line(c, d, *m)
 }
 
 /// What the connections of a transaction carry.
@@ -83,21 +91,9 @@ impl Wires {
         self.opened.contains(k) && !self.intact.contains(k) && ways.is_empty(k) && !ways.is_ended(k)
     }
 
-    /// Whether what is got by the entry is the next on the way, and an end that is seen may come.
-    #[inline(always)]
-    pub fn may_cross(&self, x: &Entry) -> bool
-        ensures { (h : List AnEntry) → IsWiresOf h self.now → (result ≡ true) ↔ MayCross h x.now }
-    {
-        match *x {
-            Entry::Got(c, d, m) => self.ways(d).is_next(number(c), m),
-            Entry::Down(c, d) => self.may_end(c, d),
-            _ => true,
-        }
-    }
-
     /// Connection c is opened with this message. While the coordinator stands stopped it is lost at once.
-    fn open(&mut self, c: Conn, m: Message) -> Result<(), AllocError>
-        ensures { OnOk result ((h : List AnEntry) → is_opening c m ≡ true → IsWiresOf h self.old → IsWiresOf (Sent c Up m ∷ h) self.new) }
+    fn open(&mut self, c: Conn, m: &Message) -> Result<(), AllocError>
+        ensures { OnOk result ((h : List AnEntry) → is_opening c m.now ≡ true → IsWiresOf h self.old → IsWiresOf (Sent c Up m.now ∷ h) self.new) }
     {
         let k = number(c);
         self.opened.add(k)?;
@@ -108,14 +104,12 @@ impl Wires {
             return Ok(());
         }
         self.intact.add(k)?;
-        self.upward.open(k)?;
-        self.upward.send(k, m)?;
-        Ok(())
+        self.upward.open_with(k, m)
     }
 
     /// The message is sent on connection c, which it doesn't open: on one that isn't open it is dropped.
-    fn send(&mut self, c: Conn, d: Dir, m: Message) -> Result<(), AllocError>
-        ensures { OnOk result ((h : List AnEntry) → (same_direction d Up && is_opening c m) ≡ false → IsWiresOf h self.old → IsWiresOf (Sent c d m ∷ h) self.new) }
+    fn send(&mut self, c: Conn, d: Dir, m: &Message) -> Result<(), AllocError>
+        ensures { OnOk result ((h : List AnEntry) → (same_direction d Up && is_opening c m.now) ≡ false → IsWiresOf h self.old → IsWiresOf (Sent c d m.now ∷ h) self.new) }
     {
         if !self.is_open(c) {
             return Ok(());
@@ -127,13 +121,15 @@ impl Wires {
         }
     }
 
-    /// The next message comes on connection c.
-    fn get(&mut self, c: Conn, d: Dir)
-        ensures { (h : List AnEntry) (m : AMessage) → has_line c d m ≡ true → IsWiresOf h self.old → IsWiresOf (Got c d m ∷ h) self.new }
+    /// The message, which has a line, comes on connection c if it is the next there. It says whether it is.
+    #[inline(always)]
+    fn take(&mut self, c: Conn, d: Dir, m: &Message) -> bool
+        ensures next { (h : List AnEntry) → IsWiresOf h self.old → IsTrue result ↔ MayCross h (Got c d m.now) }
+        ensures taken { IsTrue result → (h : List AnEntry) → has_line c d m.now ≡ true → IsWiresOf h self.old → IsWiresOf (Got c d m.now ∷ h) self.new }
     {
         match d {
-            Dir::Up => self.upward.get(number(c)),
-            Dir::Down => self.downward.get(number(c)),
+            Dir::Up => self.upward.take(number(c), m),
+            Dir::Down => self.downward.take(number(c), m),
         }
     }
 
@@ -166,52 +162,50 @@ impl Wires {
         self.upward.close_all();
     }
 
-    /// The message is got on connection c. One that has no line is the loss of the connection, and its end on this side.
-    fn come(&mut self, c: Conn, d: Dir, m: Message)
-        ensures { (h : List AnEntry) → IsWiresOf h self.old → IsWiresOf (Got c d m ∷ h) self.new }
+    /// The message is got on connection c, if it is the next there. It says whether it is. One that has no line is the loss of the
+    /// connection, and its end on this side.
+    #[inline(always)]
+    fn come(&mut self, c: Conn, d: Dir, m: &Message) -> bool
+        ensures next { (h : List AnEntry) → IsWiresOf h self.old → IsTrue result ↔ MayCross h (Got c d m.now) }
+        ensures got { IsTrue result → (h : List AnEntry) → IsWiresOf h self.old → IsWiresOf (Got c d m.now ∷ h) self.new }
     {
-        if has_line(c, d, m) {
-            self.get(c, d);
-        } else {
-            self.cut(c, 0, 0);
-            self.end(c, d);
+        if may_carry(c, d, m) {
+            return self.take(c, d, m);
         }
+        if !self.ways(d).is_next(number(c), m) {
+            return false;
+        }
+        self.cut(c, 0, 0);
+        self.end(c, d);
+        true
     }
 
-    /// Notes the entry.
+    /// Notes the entry, if what is got by it is the next on the way, and an end that is seen by it may come. It says whether that is so.
     #[inline(always)]
-    pub fn follow(&mut self, x: &Entry) -> Result<(), AllocError>
-        ensures { OnOk result ((h : List AnEntry) → IsWiresOf h self.old → IsWiresOf (x.now ∷ h) self.new) }
+    pub fn cross(&mut self, x: &Entry) -> Result<bool, AllocError>
+        ensures may { IfOk result (λ r. (h : List AnEntry) → IsWiresOf h self.old → IsTrue r ↔ MayCross h x.now) }
+        ensures noted { IfOk result (λ r. IsTrue r → (h : List AnEntry) → IsWiresOf h self.old → IsWiresOf (x.now ∷ h) self.new) }
     {
         match *x {
             Entry::Sent(c, d, m) => {
                 if d == Dir::Up && is_opening(c, m) {
-                    self.open(c, m)
+                    self.open(c, &m)?;
                 } else {
-                    self.send(c, d, m)
+                    self.send(c, d, &m)?;
                 }
             }
-            Entry::Got(c, d, m) => {
-                self.come(c, d, m);
-                Ok(())
-            }
-            Entry::Cut(c, up, down) => {
-                self.cut(c, up as usize, down as usize);
-                Ok(())
-            }
+            Entry::Got(c, d, m) => return Ok(self.come(c, d, &m)),
+            Entry::Cut(c, up, down) => self.cut(c, up as usize, down as usize),
             Entry::Down(c, d) => {
+                if !self.may_end(c, d) {
+                    return Ok(false);
+                }
                 self.end(c, d);
-                Ok(())
             }
-            Entry::Stopped => {
-                self.stop();
-                Ok(())
-            }
-            Entry::Restarted(_) => {
-                self.stopped = false;
-                Ok(())
-            }
-            _ => Ok(()),
+            Entry::Stopped => self.stop(),
+            Entry::Restarted(_) => self.stopped = false,
+            _ => {}
         }
+        Ok(true)
     }
 }

@@ -5,7 +5,7 @@ use Rattle.trace_checker.proofs.ways.Ways.send.Goals as goal
 
 pub returns : goal.returns
 returns c =
-    let k = c.args.k in let m = c.args.m in let ws = c.args.self.now in let y = c.index_mut-way.result.now in let mid = c.reach.new.self in
+    let k = c.args.k in let m = c.args.m.now in let ws = c.args.self.now in let y = c.index_mut-way.result.now in let mid = c.reach.new.self in
     let at = c.in_ok-p.ensures.there in let same = c.in_ok-p.ensures.same in
     let is = row_is k c.in_ok-p.p mid y at c.index_mut-way.ensures.value in
     after_same k (messages k ws ++ m ∷ []) (is_way_ended k ws) ws mid _ same
