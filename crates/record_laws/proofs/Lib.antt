@@ -1,0 +1,9 @@
+pub mod AskedOnce
+pub mod FreedAcked
+pub mod HandedAlone
+pub mod LastingCalls
+pub mod ToldByRecord
+pub mod ToldListed
+pub mod NamedDesks
+pub mod NamedManagers
+pub mod TriedRecords
