@@ -246,6 +246,15 @@ impl<D: Disk> Kv<D> {
         InDoubt::of(&self.slots)
     }
 
+    /// Whether a call of its disk failed, which stops it for good. Until then each image that a crash can leave has what the store has in memory. It has 1,024 slots in any case.
+    pub fn is_stopped(&self) -> bool
+        ensures stopped { result ≡ self.now.memory.stopped }
+        ensures many { length self.now.memory.slots ≡ SLOTS }
+        ensures images { IsTrue D.honest → IsFalse self.now.memory.stopped → AllHold (D.image self.now.disk) (open_records self.now.memory.slots) }
+    {
+        self.stopped
+    }
+
     /// Hands the disk back. Until the store is stopped, each image that a crash can leave has its records.
     pub fn into_disk(self) -> D
         ensures disk { result ≡ self.disk }
