@@ -30,12 +30,12 @@ past_more h [] = sym (append-nil (past_of h))
 past_more h (e ∷ es) = past_more (e ∷ h) es ∙ (ap (λ xs. xs ++ es) (past_one h e) ∙ append_assoc (past_of h) (e ∷ []) es)
 
 -- a reply that is one of some is one of more
-one_left : (rs qs : List Given) (x : Entry) → is_one_of rs x ≡ true → is_one_of (rs ++ qs) x ≡ true
+pub one_left : (rs qs : List Given) (x : Entry) → is_one_of rs x ≡ true → is_one_of (rs ++ qs) x ≡ true
 one_left rs qs x k =
     or_case (not (is_reply x)) (has (λ g. says g x) rs) (λ n. or_left (not (is_reply x)) (has (λ g. says g x) (rs ++ qs)) n)
     (λ h. or_right (not (is_reply x)) (has (λ g. says g x) (rs ++ qs)) (list_any-append (λ g. says g x) rs qs ∙ or_left (has (λ g. says g x) rs) (has (λ g. says g x) qs) h)) k
 
-one_right : (rs qs : List Given) (x : Entry) → is_one_of qs x ≡ true → is_one_of (rs ++ qs) x ≡ true
+pub one_right : (rs qs : List Given) (x : Entry) → is_one_of qs x ≡ true → is_one_of (rs ++ qs) x ≡ true
 one_right rs qs x k =
     or_case (not (is_reply x)) (has (λ g. says g x) qs) (λ n. or_left (not (is_reply x)) (has (λ g. says g x) (rs ++ qs)) n)
     (λ h. or_right (not (is_reply x)) (has (λ g. says g x) (rs ++ qs)) (list_any-append (λ g. says g x) rs qs ∙ or_right (has (λ g. says g x) rs) (has (λ g. says g x) qs) h)) k
@@ -85,14 +85,16 @@ pub going_none : (x : LiveState) → Going x x
 going_none x = record { writes = record { written = []; grown = refl; said = refl }; hears = hears_none x x refl; rest = refl }
 
 -- after it, the next entries were heard
-pub going_heard : (e : Option Event) (x y z : LiveState) → Going x y → HearsNext (listed e) y z → z ≡ record y { heard = z.heard } → y.heard ≤ length (past y) → x.heard ≤ length (past x) → Advances e x z
-going_heard e x y z go hears rest within was =
+pub going_heard : (e : Option Event) (x y z : LiveState) → Going x y → HearsNext (listed e) y z → z ≡ record y { heard = z.heard } → y.heard ≤ length (past y) → x.heard ≤ length (past x)
+    → z.heard ≤ length (past z) → Advances e x z
+going_heard e x y z go hears rest within was still =
     let none : Writes [] y z = record { written = []; grown = ap (λ (v : LiveState). past v) rest; said = refl } in
     record {
       writes = writes_on [] [] x y z go.writes none;
       hears = hears_on [] (listed e) [] x y z go.hears none hears (ap (λ (v : LiveState). v.number) go.rest) within;
       rest = rest ∙ (ap (λ (v : LiveState). record v { heard = z.heard }) go.rest ∙ ap (λ t. record x { tx = t; heard = z.heard }) (sym (ap (λ (v : LiveState). v.tx) rest)));
       within = was;
+      still = still;
     }
 
 -- and then a step was done
@@ -106,8 +108,8 @@ going_step x y z go writes rest within =
     }
 
 -- On its way it heard nothing that says something.
-pub going_on : (x y : LiveState) → Going x y → x.heard ≤ length (past x) → Advances None x y
-going_on x y go was = record { writes = go.writes; hears = go.hears; rest = go.rest; within = was }
+pub going_on : (x y : LiveState) → Going x y → x.heard ≤ length (past x) → y.heard ≤ length (past y) → Advances None x y
+going_on x y go was still = record { writes = go.writes; hears = go.hears; rest = go.rest; within = was; still = still }
 
 -- A transaction is as it was, or it went on and nothing was heard that says something.
 abbrev pub Onward : LiveState → LiveState → Type 0
@@ -122,6 +124,7 @@ onward_next e x y z (inr b) a =
       hears = hears_on [] (listed e) [] x y z b.hears a.writes a.hears (ap (λ (v : LiveState). v.number) b.rest) a.within;
       rest = a.rest ∙ ap (λ (v : LiveState). record v { tx = z.tx; heard = z.heard }) b.rest;
       within = b.within;
+      still = a.still;
     }
 
 -- the transaction of a sound state is its number's

@@ -1,7 +1,7 @@
 -- A transaction begins.
-use Rattle.std.proofs.Common.{ℕ, zero, suc, Bool, true, false, ◌≡◌, ◌≢◌, ◌≤◌, ◌<◌, ◌+◌, ◌-◌, ◌∙◌, ◌==◌, ◌&&◌, not, Option, List, [], ◌∷◌, ◌++◌, Some, None, Result, Ok, Err, is_ok, filter, length, slice_get, slice_set, refl, ap, arith, subst, sym, inl, inr, if◌then◌else◌}
+use Rattle.std.proofs.Common.{ℕ, zero, suc, Bool, true, false, ◌≡◌, ◌≢◌, ◌≤◌, ◌<◌, ◌+◌, ◌*◌, ◌-◌, ◌∙◌, ◌==◌, ◌&&◌, not, Option, List, [], ◌∷◌, ◌++◌, Some, None, Result, Ok, Err, is_ok, filter, length, slice_get, slice_set, refl, ap, arith, subst, sym, inl, inr, if◌then◌else◌}
 use Rattle.std.proofs.lemmas.Bool.Decides.{eqb_tells}
-use Rattle.dtx_values.specs.TxIds.{number_of}
+use Rattle.dtx_values.specs.TxIds.{identifier_of_id, number_of}
 use Rattle.dtx_values.specs.declared.call.Call.TheVariants.{Begin}
 use Rattle.dtx_values.specs.declared.entry.Answer.{Answer}
 use Rattle.dtx_values.specs.declared.entry.Answer.TheVariants.{Fine}
@@ -14,18 +14,22 @@ use Rattle.dtx_model.specs.Promotes.{identifier_of}
 use Rattle.dtx_model.specs.World.{World, answer_at}
 use Rattle.coordinator_log.specs.Slots.{open_records}
 use Rattle.coordinator_log.specs.State.{LogState}
+use Rattle.log_epochs.specs.Beginning.{AllAre, IsSameOrNext}
 use Rattle.log_epochs.specs.Epochs.{is_epoch}
-use Rattle.std.specs.Prelude.{IsTrue, IfOk, OnOk}
-use Rattle.tx_world.specs.AtLog.{Fits, id_of}
+use Rattle.log_epochs.proofs.Records.{same_first, same_records}
+use Rattle.std.specs.Prelude.{IsFalse, IsTrue, IfOk, OnOk}
+use Rattle.tx_world.specs.AtLog.{AreFit, Fits, id_of}
 use Rattle.tx_world.specs.State.{TxState}
 use Rattle.tx_world.proofs.Fitting.{fits_same}
 use Rattle.transactions.specs.declared.error.TxError.{TxError}
 use Rattle.transactions.specs.declared.handle.CommittableTransaction.{CommittableTransaction}
 use Rattle.transactions.specs.Calling.{IsCalled}
-use Rattle.transactions.specs.Keeping.{AreNumbered, FitsAll}
-use Rattle.transactions.specs.Numbering.{IsTaken}
+use Rattle.transactions.specs.Keeping.{AreNumbered, FitsAll, IsKept, IsSound}
+use Rattle.transactions.specs.Numbering.{IsRecorded, IsTaken}
 use Rattle.transactions.specs.Slots.{AreSame, Standing, is_live, is_used, is_vacant, live_at, live_in}
 use Rattle.transactions.specs.State.{LiveState, blank}
+use Rattle.transactions.proofs.Fitted.{all_more_are, are_more}
+use Rattle.transactions.proofs.Numbers.{number_at, up_before}
 use Rattle.transactions.proofs.Standing.{get_here, get_there, none_live, not_live, put_at}
 
 -- each number of the epoch after this one, and up to n, is taken
@@ -112,11 +116,55 @@ numbered_put xs i x y here numbered place own j z e = elim (eqb_tells j i) [ inl
         subst (λ (v : LiveState). (v.number.t.value ≡ j + 1) × (v.tx.transaction ≡ v.number)) same (sym place ∙ ap (λ n. n + 1) (sym k), own)
 
 -- the log fits all, where it fits the new one
-pub fits_push : {D : Type 0} (log : LogState D) (xs : List LiveState) (y : LiveState) → Fits y.tx (open_records log.slots) → FitsAll log xs → FitsAll log (xs ++ y ∷ [])
-fits_push log xs y own all = record { fits = λ up. push_at {P = λ j (z : LiveState). Fits z.tx (open_records log.slots)} xs y own (all.fits up) }
+pub fits_push : {D : Type 0} (image : D → List ℕ → Type 0) (log : LogState D) (xs : List LiveState) (y : LiveState) (last : ℕ) → Fits y.tx (open_records log.slots)
+    → AreFit (image log.disk) (Fits y.tx) → last < number_of y.number → FitsAll image log xs last → FitsAll image log (xs ++ y ∷ []) (number_of y.number)
+fits_push image log xs y last own images above all = record {
+  fits = λ up. push_at {P = λ j (z : LiveState). Fits z.tx (open_records log.slots)} xs y own (all.fits up);
+  imaged = push_at {P = λ j (z : LiveState). AreFit (image log.disk) (Fits z.tx)} xs y images all.imaged;
+  upto = push_at {P = λ j (z : LiveState). number_of z.number ≤ number_of y.number} xs y (omega arith) (λ j z there. let low = all.upto j z there in omega arith);
+  unknown = λ t higher none. all.unknown t (omega arith) none;
+}
 
-pub fits_put : {D : Type 0} (log : LogState D) (xs : List LiveState) (i : ℕ) (x y : LiveState) → slice_get xs i ≡ Some x → Fits y.tx (open_records log.slots) → FitsAll log xs → FitsAll log (slice_set xs i y)
-fits_put log xs i x y here own all = record { fits = λ up. put_at {P = λ (z : LiveState). Fits z.tx (open_records log.slots)} xs i x y here own (λ j z n there. all.fits up j z there) }
+pub fits_put : {D : Type 0} (image : D → List ℕ → Type 0) (log : LogState D) (xs : List LiveState) (i : ℕ) (x y : LiveState) (last : ℕ) → slice_get xs i ≡ Some x
+    → Fits y.tx (open_records log.slots) → AreFit (image log.disk) (Fits y.tx) → last < number_of y.number → FitsAll image log xs last → FitsAll image log (slice_set xs i y) (number_of y.number)
+fits_put image log xs i x y last here own images above all = record {
+  fits = λ up. put_at {P = λ (z : LiveState). Fits z.tx (open_records log.slots)} xs i x y here own (λ j z n there. all.fits up j z there);
+  imaged = put_at {P = λ (z : LiveState). AreFit (image log.disk) (Fits z.tx)} xs i x y here images (λ j z n there. all.imaged j z there);
+  upto = put_at {P = λ (z : LiveState). number_of z.number ≤ number_of y.number} xs i x y here (omega arith) (λ j z n there. let low = all.upto j z there in omega arith);
+  unknown = λ t higher none. all.unknown t (omega arith) none;
+}
+
+-- So a manager keeps what it is to keep, with one transaction more, whose number is the last one then.
+pub kept_put : {D : Type 0} (honest : Bool) (image : D → List ℕ → Type 0) (log : LogState D) (t : TxId) (xs : List LiveState) (i : ℕ) (x y : LiveState) (last n : ℕ) → slice_get xs i ≡ Some x
+    → i + 1 ≡ t.t.value → y.number ≡ t → IsSound y → Fits y.tx (open_records log.slots) → (IsTrue honest → AreFit (image log.disk) (Fits y.tx)) → last < number_of t
+    → IsRecorded honest image log (number_of t) → n ≡ number_of t → IsKept honest image log xs last → IsKept honest image log (slice_set xs i y) n
+kept_put honest image log t xs i x y last n here place number sound own images above recorded is was =
+    let same : number_of y.number ≡ number_of t = ap (λ (u : TxId). number_of u) number in
+    let higher : last < number_of y.number = omega arith in
+    let there : i + 1 ≡ y.number.t.value = place ∙ ap (λ (u : TxId). u.t.value) (sym number) in (
+      numbered_put xs i x y here was.0 there sound.own,
+      λ h. subst (FitsAll image log (slice_set xs i y)) (same ∙ sym is) (fits_put image log xs i x y last here own (images h) higher (was.1 h)),
+      was.2,
+      subst (IsRecorded honest image log) (sym is) recorded,
+    )
+
+pub kept_push : {D : Type 0} (honest : Bool) (image : D → List ℕ → Type 0) (log : LogState D) (t : TxId) (xs new : List LiveState) (y : LiveState) (last n : ℕ) → new ≡ xs ++ y ∷ []
+    → length xs + 1 ≡ t.t.value → y.number ≡ t → IsSound y → Fits y.tx (open_records log.slots) → (IsTrue honest → AreFit (image log.disk) (Fits y.tx)) → last < number_of t
+    → IsRecorded honest image log (number_of t) → n ≡ number_of t → IsKept honest image log xs last → IsKept honest image log new n
+kept_push honest image log t xs new y last n items place number sound own images above recorded is was =
+    let same : number_of y.number ≡ number_of t = ap (λ (u : TxId). number_of u) number in
+    let higher : last < number_of y.number = omega arith in
+    let there : y.number.t.value ≡ length xs + 1 = ap (λ (u : TxId). u.t.value) number ∙ sym place in
+    subst (λ (l : List LiveState). IsKept honest image log l n) (sym items) (
+      numbered_push xs y was.0 there sound.own,
+      λ h. subst (FitsAll image log (xs ++ y ∷ [])) (same ∙ sym is) (fits_push image log xs y last own (images h) higher (was.1 h)),
+      was.2,
+      subst (IsRecorded honest image log) (sym is) recorded,
+    )
+
+-- the last number, by its epoch
+pub last_is : (t : TxId) (epoch n : ℕ) → epoch ≡ t.epoch → n ≡ t.t.value → 65536 * epoch + n ≡ number_of t
+last_is t epoch n of_it at = let number = number_at t t.epoch refl in omega arith
 
 -- where no record is the first of this identifier, none is
 none_of : (id : ℕ) (rs : List CommitRecord) → first_of id rs ≡ None → filter (is_record_of id) rs ≡ []
@@ -156,6 +204,10 @@ pushed P (Err e) xs ys new is more same = subst P (sym is) same
 pub pushed_on : {A E : Type 0} (z : Result A E) (r : A) (xs ys new : List LiveState) → new ≡ (if is_ok z then ys else xs) → z ≡ Ok r → new ≡ ys
 pushed_on z r xs ys new is done = is ∙ ap (λ (q : Result _ _). if is_ok q then ys else xs) done
 
+-- and one that failed left the list
+pub pushed_off : {A E : Type 0} (z : Result A E) (e : E) (xs ys new : List LiveState) → new ≡ (if is_ok z then ys else xs) → z ≡ Err e → new ≡ xs
+pushed_off z e xs ys new is failed = is ∙ ap (λ (q : Result _ _). if is_ok q then ys else xs) failed
+
 -- there is an item at each place of a list
 pub inside : {A : Type 0} (xs : List A) (i : ℕ) → i < length xs → (x : A) × (slice_get xs i ≡ Some x)
 inside [] i h = absurd (omega (arith, h))
@@ -163,11 +215,36 @@ inside (x ∷ xs) zero h = (x, refl)
 inside (x ∷ xs) (suc i) h = inside xs i (omega (arith, h))
 
 -- The log fits all still, after what a begin does to it.
-pub fits_next : {D : Type 0} (from to : LogState D) (xs : List LiveState) → ((x : TxId) → is_epoch (identifier_of (number_of x)) ≡ false)
-    → ((id : ℕ) → is_epoch id ≡ false → filter (is_record_of id) (open_records to.slots) ≡ filter (is_record_of id) (open_records from.slots)) → (IsTrue to.is_up → IsTrue from.is_up) → FitsAll from xs
-    → FitsAll to xs
-fits_next from to xs law others still all =
-    record { fits = λ up i x there. fits_same x.tx (open_records from.slots) (open_records to.slots) (others (id_of x.tx) (law x.tx.transaction)) (all.fits (still up) i x there) }
+pub fits_next : {D : Type 0} (image : D → List ℕ → Type 0) (from to : LogState D) (xs : List LiveState) (last next : ℕ) → last ≤ next → ((x : TxId) → is_epoch (identifier_of (number_of x)) ≡ false)
+    → ((id : ℕ) → is_epoch id ≡ false → filter (is_record_of id) (open_records to.slots) ≡ filter (is_record_of id) (open_records from.slots)) → (IsTrue from.is_up → AllAre (image to.disk) (IsSameOrNext (open_records from.slots)))
+    → (IsFalse from.is_up → to ≡ from) → FitsAll image from xs last → FitsAll image to xs next
+fits_next {D} image from to xs last next grows law others images down all =
+    record {
+      fits = λ up i x there. fits_same x.tx (open_records from.slots) (open_records to.slots) (others (id_of x.tx) (law x.tx.transaction)) (all.fits (up_before from to down up) i x there);
+      imaged = imaged from.is_up refl;
+      upto = λ i x there. (let low = all.upto i x there in omega arith);
+      unknown = λ t above none. unknown from.is_up refl t (omega arith) none;
+    }
+  where
+    imaged : (b : Bool) → from.is_up ≡ b → (i : ℕ) (x : LiveState) → slice_get xs i ≡ Some x → AreFit (image to.disk) (Fits x.tx)
+    imaged true up i x there = all_more_are (image to.disk) (IsSameOrNext (open_records from.slots)) (Fits x.tx)
+        (λ rs same. fits_same x.tx (open_records from.slots) rs (same_records (id_of x.tx) (open_records from.slots) rs (law x.tx.transaction) same.commits) (all.fits up i x there)) (images up)
+    imaged false off i x there = subst (λ (l : LogState D). AreFit (image l.disk) (Fits x.tx)) (sym (down off)) (all.imaged i x there)
+
+    unknown : (b : Bool) → from.is_up ≡ b → (t : TxId) → last < number_of t → first_of (identifier_of_id t) (open_records to.slots) ≡ None → AreFit (image to.disk) (λ rs. first_of (identifier_of_id t) rs ≡ None)
+    unknown true up t above none =
+        let id = identifier_of_id t in
+        let was : first_of id (open_records from.slots) ≡ None = sym (same_first id (open_records from.slots) (open_records to.slots) (others id (law t))) ∙ none in
+        all_more_are (image to.disk) (IsSameOrNext (open_records from.slots)) (λ rs. first_of id rs ≡ None)
+        (λ rs same. same_first id (open_records from.slots) rs (same_records id (open_records from.slots) rs (law t) same.commits) ∙ was) (images up)
+    unknown false off t above none =
+        let id = identifier_of_id t in
+        subst (λ (l : LogState D). AreFit (image l.disk) (λ rs. first_of id rs ≡ None)) (sym (down off)) (all.unknown t above (subst (λ (l : LogState D). first_of id (open_records l.slots) ≡ None) (down off) none))
+
+-- a new transaction fits each image, where none has a record of its number
+pub images_new : (image : List ℕ → Type 0) (t : TxId) (x y : TxState) → x.transaction ≡ t → ((rs : List CommitRecord) → Fits x rs → Fits y rs) → Fits x []
+    → AreFit image (λ rs. first_of (identifier_of_id t) rs ≡ None) → AreFit image (Fits y)
+images_new image t x y is keeps f none = are_more image (λ rs. first_of (identifier_of_id t) rs ≡ None) (Fits y) (λ rs n. keeps rs (fits_new t x rs is n f)) none
 
 -- A transaction was begun as this one, after its number was found.
 pub begun_by : {D C : Type 0} (faults : D → ℕ) (timeout : Timeout) (t : TxId) (mid new : Standing D C) (reading : ℕ) (z : Result CommittableTransaction TxError) → mid.reading ≡ reading

@@ -9,7 +9,7 @@ use Rattle.dtx_model.specs.Words.{has}
 use Rattle.coordinator_log.specs.State.{LogState}
 use Rattle.transactions.specs.declared.error.CommitError.{CommitError}
 use Rattle.transactions.specs.Doing.{Called, HeardAt}
-use Rattle.transactions.specs.Slots.{live_at}
+use Rattle.transactions.specs.Slots.{Standing, live_at}
 use Rattle.transactions.specs.State.{LiveState, past}
 use Rattle.transactions.specs.Telling.{IsTold, aborted_by, is_full, told}
 use Rattle.transactions.proofs.Driving.{Gives}
@@ -21,9 +21,9 @@ pub record Asked (t : TxId) (xs : List LiveState) : Type 0 where
   pub at : live_at t xs ≡ Some state
   pub commit : has is_commit (past state) ≡ true
 
-pub asked_of : {D O : Type 0} (faults : D → ℕ) (log : LogState D) (gives : Gives O) (t : TxId) (u : TxNo) (old mid new : List LiveState) (a b : O) → Called faults log t (Commit u) old mid
-    → HeardAt gives [] t mid new a b → Asked t new
-asked_of faults log gives t u old mid new a b k h =
+pub asked_of : {D C O : Type 0} (faults : D → ℕ) (log : LogState D) (honest : Bool) (image : D → List ℕ → Type 0) (gives : Gives O) (t : TxId) (u : TxNo) (old : List LiveState) (mid new : Standing D C) (a b : O)
+    → Called faults log t (Commit u) old mid.lives → HeardAt honest image gives [] t mid new a b → Asked t new.lives
+asked_of faults log honest image gives t u old mid new a b k h =
     let y = k.2.after in
     let z = h y k.2.now in
     record {

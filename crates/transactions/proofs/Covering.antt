@@ -28,7 +28,7 @@ uncovered ms xs r off = ap (λ c. not (is_epoch_record r) && not (has_place r.id
     by false b = refl
 
 -- what was found under an identifier is there, and has it
-first_there : (id : ℕ) (rs : List CommitRecord) (r : CommitRecord) → first_of id rs ≡ Some r → Contains rs r × (r.id ≡ id)
+pub first_there : (id : ℕ) (rs : List CommitRecord) (r : CommitRecord) → first_of id rs ≡ Some r → Contains rs r × (r.id ≡ id)
 first_there id [] r e = absurd cc
 first_there id (x ∷ rs) r e = elim (cases_Bool (eqb x.id id)) [
   | inl same ↦ let is : x ≡ r = let h = rw same at e in cc in ((0, omega arith, is), ap (λ (y : CommitRecord). y.id) (sym is) ∙ eqb-true x.id id same)
@@ -43,7 +43,7 @@ found_before id rs qs unique among (Some r) is =
     inl (is ∙ sym (ap (λ n. first_of n rs) (sym there.1) ∙ All-contains (λ x. first_of x.id rs ≡ Some x) rs r unique (All-contains (Contains rs) qs r among there.0)))
 
 -- what is there is found, or another of its transaction is
-none_there : (id : ℕ) (rs : List CommitRecord) (r : CommitRecord) → first_of id rs ≡ None → Contains rs r → r.id ≡ id → ⊥
+pub none_there : (id : ℕ) (rs : List CommitRecord) (r : CommitRecord) → first_of id rs ≡ None → Contains rs r → r.id ≡ id → ⊥
 none_there id [] r none (k, lt, at) is = absurd (omega (arith, lt))
 none_there id (x ∷ rs) r none there is = elim (cases_Bool (eqb x.id id)) [
   | inl same ↦ let h = rw same at none in absurd cc

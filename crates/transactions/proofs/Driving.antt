@@ -1,9 +1,10 @@
 -- What a turn of the objects makes of a transaction, and what turns one after the other make.
-use Rattle.std.proofs.Common.{Bool, true, false, ◌≡◌, ◌≤◌, ◌∙◌, ◌||◌, not, List, [], ◌∷◌, ◌++◌, Option, Some, None, Result, Ok, length, append_assoc, append-nil, refl, ap, subst, sym}
+use Rattle.std.proofs.Common.{ℕ, zero, suc, inl, inr, Bool, true, false, ◌≡◌, ◌≤◌, ◌∙◌, ◌||◌, not, List, [], ◌∷◌, ◌++◌, Option, Some, None, Result, Ok, length, append_assoc, append-nil, refl, ap, subst, sym}
 use Rattle.std.proofs.lemmas.List.Folds.{list_any-append}
 use Rattle.dtx_values.specs.declared.entry.Entry.{Entry}
 use Rattle.dtx_values.specs.declared.note.Note.{Note}
 use Rattle.dtx_values.specs.declared.note.Reply.{Reply}
+use Rattle.dtx_values.specs.TxIds.{identifier_of_id}
 use Rattle.dtx_values.specs.declared.tx_id.TxId.{TxId}
 use Rattle.dtx_model.specs.Replies.{reply_entries}
 use Rattle.dtx_model.specs.Words.{has, onto}
@@ -13,10 +14,12 @@ use Rattle.transactions.specs.declared.event.Event.{Event}
 use Rattle.resource_managers.specs.declared.enlistment.Enlistment.{Enlistment}
 use Rattle.transactions.specs.Doing.{AdvancesAt, HeardAt}
 use Rattle.transactions.specs.Events.{note_in}
-use Rattle.transactions.specs.Hearing.{Advances, Given, Hears, HearsNote, IsHeard, Writes, is_one_of, is_reply, says}
+use Rattle.transactions.specs.Hearing.{Advances, Given, Hears, HearsNote, IsHeard, Moves, MovesOn, Writes, is_one_of, is_reply, says}
+use Rattle.transactions.specs.Logged.{KeepsRecords}
 use Rattle.transactions.specs.Slots.{AreSame, KeepsRest, KeepsTime, Standing, live_at}
 use Rattle.transactions.specs.State.{LiveState, past}
-use Rattle.transactions.proofs.Advancing.{hears_none, hears_on, writes_on}
+use Rattle.transactions.proofs.Advancing.{hears_none, hears_on, one_left, one_right, writes_on}
+use Rattle.transactions.proofs.Untouched.{keeps_same, keeps_then}
 
 -- what the objects of a type give
 abbrev pub Gives : Type 0 → Type 1
@@ -67,14 +70,52 @@ hears_append gives (x ∷ xs) ys a b c rs qs h k =
 hears_one : {O : Type 0} (gives : Gives O) (e : Event) (a b : O) (rs : List Given) → HearsNote gives (note_in e) a rs b → Hears gives (e ∷ []) a rs b
 hears_one gives e a b rs h = (b, rs, [], h, (refl, refl), sym (append-nil rs))
 
+-- what was written is among more replies
+writes_left : (gs hs : List Given) (x y : LiveState) → Writes gs x y → Writes (gs ++ hs) x y
+writes_left gs hs x y w = record { written = w.written; grown = w.grown; said = each_more (is_one_of gs) (is_one_of (gs ++ hs)) (one_left gs hs) w.written w.said }
+
+writes_right : (gs hs : List Given) (x y : LiveState) → Writes hs x y → Writes (gs ++ hs) x y
+writes_right gs hs x y w = record { written = w.written; grown = w.grown; said = each_more (is_one_of hs) (is_one_of (gs ++ hs)) (one_right gs hs) w.written w.said }
+
+-- A move is one where more replies are given from outside,
+moves_more : {O : Type 0} (gives : Gives O) (gs hs : List Given) → ((x y : LiveState) → Writes gs x y → Writes hs x y) → (x y : LiveState) (a b : O) → Moves gives gs x y a b → Moves gives hs x y a b
+moves_more gives gs hs more x y a b (inl k) = inl k
+moves_more gives gs hs more x y a b (inr (inl k)) = inr (inl (record { writes = more x y k.0.writes; heard = k.0.heard; number = k.0.number }, k.1))
+moves_more gives gs hs more x y a b (inr (inr k)) = inr (inr k)
+
+-- and so are moves one after the other.
+chain_more : {O : Type 0} (gives : Gives O) (gs hs : List Given) → ((x y : LiveState) → Writes gs x y → Writes hs x y) → (n : ℕ) (x y : LiveState) (a b : O) → MovesOn gives gs n x y a b
+    → MovesOn gives hs n x y a b
+chain_more gives gs hs more zero x y a b k = k
+chain_more gives gs hs more (suc n) x y a b k = (k.0, k.1, chain_more gives gs hs more n x k.0 a k.1 k.2, moves_more gives gs hs more k.0 y k.1 b k.3)
+
+-- some moves
+abbrev Chain : {O : Type 0} → Gives O → List Given → LiveState → LiveState → O → O → Type 0
+Chain gives gs x y a b = (n : ℕ) × MovesOn gives gs n x y a b
+
+-- moves, and then moves
+chain_both : {O : Type 0} (gives : Gives O) (gs : List Given) (m n : ℕ) (x y z : LiveState) (a b c : O) → MovesOn gives gs m x y a b → MovesOn gives gs n y z b c → Chain gives gs x z a c
+chain_both {O} gives gs m zero x y z a b c k l =
+    (m, subst (λ (s : LiveState). MovesOn gives gs m x s a c) (sym l.0) (subst (λ (o : O). MovesOn gives gs m x y a o) (sym l.1) k))
+chain_both gives gs m (suc n) x y z a b c k l =
+    let h = chain_both gives gs m n x y l.0 a b l.1 k l.2 in
+    (suc h.0, (l.0, l.1, h.1, l.3))
+
+-- one move
+chain_one : {O : Type 0} (gives : Gives O) (gs : List Given) (x y : LiveState) (a b : O) → Moves gives gs x y a b → MovesOn gives gs 1 x y a b
+chain_one gives gs x y a b k = (x, a, (refl, refl), k)
+
 -- nothing was done
 pub heard_none : {O : Type 0} (gives : Gives O) (x : LiveState) (a : O) → IsHeard gives [] x x a a
-heard_none gives x a = record { said = []; replies = []; hears = (refl, refl); next = hears_none x x refl; writes = writes_nothing [] x; number = refl }
+heard_none gives x a = record { said = []; replies = []; hears = (refl, refl); next = hears_none x x refl; writes = writes_nothing [] x; number = refl; count = 0; moves = (refl, refl) }
 
 -- What one part of a call made of a transaction and the objects, and then the next: where the first part heard no more than there was.
 pub heard_on : {O : Type 0} (gives : Gives O) (gs hs : List Given) (x y z : LiveState) (a b c : O) → IsHeard gives gs x y a b → IsHeard gives hs y z b c → y.heard ≤ length (past y)
     → IsHeard gives (gs ++ hs) x z a c
 heard_on gives gs hs x y z a b c p q within =
+    let first = chain_more gives gs (gs ++ hs) (writes_left gs hs) p.count x y a b p.moves in
+    let second = chain_more gives hs (gs ++ hs) (writes_right gs hs) q.count y z b c q.moves in
+    let both = chain_both gives (gs ++ hs) p.count q.count x y z a b c first second in
     record {
       said = p.said ++ q.said;
       replies = p.replies ++ q.replies;
@@ -82,16 +123,37 @@ heard_on gives gs hs x y z a b c p q within =
       next = hears_on p.said q.said (hs ++ q.replies) x y z p.next q.writes q.next p.number within;
       writes = writes_four gs p.replies hs q.replies x z (writes_on (gs ++ p.replies) (hs ++ q.replies) x y z p.writes q.writes);
       number = q.number ∙ p.number;
+      count = both.0;
+      moves = both.1;
     }
 
 -- A transaction went on, and no event came.
 pub heard_idle : {O : Type 0} (gives : Gives O) (x y : LiveState) (a : O) → Advances None x y → IsHeard gives [] x y a a
-heard_idle gives x y a v = record { said = []; replies = []; hears = (refl, refl); next = v.hears; writes = v.writes; number = ap (λ (s : LiveState). s.number) v.rest }
+heard_idle gives x y a v =
+    record {
+      said = [];
+      replies = [];
+      hears = (refl, refl);
+      next = v.hears;
+      writes = v.writes;
+      number = ap (λ (s : LiveState). s.number) v.rest;
+      count = 1;
+      moves = chain_one gives [] x y a a (inl (v, refl));
+    }
 
 -- A call was entered, or a reply was given by the call itself: nothing was heard.
 pub heard_given : {O : Type 0} (gives : Gives O) (gs : List Given) (x y : LiveState) (a : O) → Writes gs x y → y.heard ≡ x.heard → y.number ≡ x.number → IsHeard gives gs x y a a
 heard_given gives gs x y a w same number =
-    record { said = []; replies = []; hears = (refl, refl); next = hears_none x y same; writes = subst (λ (ps : List Given). Writes ps x y) (sym (append-nil gs)) w; number = number }
+    record {
+      said = [];
+      replies = [];
+      hears = (refl, refl);
+      next = hears_none x y same;
+      writes = subst (λ (ps : List Given). Writes ps x y) (sym (append-nil gs)) w;
+      number = number;
+      count = 1;
+      moves = chain_one gives gs x y a a (inr (inl (record { writes = w; heard = same; number = number }, refl)));
+    }
 
 -- An event came, the objects heard it, and their reply was given, or wasn't written.
 pub heard_turn : {O : Type 0} (gives : Gives O) (e : Event) (rs : List Given) (x y z : LiveState) (a b : O) → Advances (Some e) x y → HearsNote gives (note_in e) a rs b → Writes rs y z
@@ -106,6 +168,8 @@ heard_turn gives e rs x y z a b v h w rest within =
       next = hears_on (e ∷ []) [] rs x y z v.hears w (hears_none y z (ap (λ (s : LiveState). s.heard) rest)) advanced within;
       writes = writes_on [] rs x y z v.writes w;
       number = ap (λ (s : LiveState). s.number) rest ∙ advanced;
+      count = 1;
+      moves = chain_one gives [] x z a b (inr (inr (record { event = e; replies = rs; between = y; comes = v; hears = h; writes = w; rest = rest })));
     }
 
 -- The same, of the transaction of a number, where one goes on.
@@ -121,40 +185,49 @@ pub given_none : (rs : List Given) (t : TxId) (old new : List LiveState) → liv
 given_none rs t old new same x at = (x, same ∙ at, writes_nothing rs x, refl)
 
 -- nothing was done of it
-pub heard_none_at : {O : Type 0} (gives : Gives O) (t : TxId) (old new : List LiveState) (a : O) → live_at t new ≡ live_at t old → HeardAt gives [] t old new a a
-heard_none_at gives t old new a same x at = (x, same ∙ at, heard_none gives x a)
+pub heard_none_at : {D C O : Type 0} (honest : Bool) (image : D → List ℕ → Type 0) (gives : Gives O) (t : TxId) (old new : Standing D C) (a : O) → live_at t new.lives ≡ live_at t old.lives
+    → new.log ≡ old.log → HeardAt honest image gives [] t old new a a
+heard_none_at honest image gives t old new a same log x at = (x, same ∙ at, heard_none gives x a, keeps_same honest image (identifier_of_id t) old.log new.log log)
 
 -- it went on, and no event came
-pub heard_idle_at : {O : Type 0} (gives : Gives O) (t : TxId) (old mid new : List LiveState) (a b : O) → HeardAt gives [] t old mid a b → AdvancesAt None t mid new → HeardAt gives [] t old new a b
-heard_idle_at gives t old mid new a b h v x at =
+pub heard_idle_at : {D C O : Type 0} (honest : Bool) (image : D → List ℕ → Type 0) (gives : Gives O) (t : TxId) (old mid new : Standing D C) (a b : O) → HeardAt honest image gives [] t old mid a b
+    → AdvancesAt None t mid.lives new.lives → KeepsRecords honest image (identifier_of_id t) mid.log new.log → HeardAt honest image gives [] t old new a b
+heard_idle_at honest image gives t old mid new a b h v logged x at =
     let y = h x at in
     let z = v y.0 y.1 in
-    (z.0, z.1, heard_on gives [] [] x y.0 z.0 a b b y.2 (heard_idle gives y.0 z.0 b z.2) z.2.within)
+    (z.0, z.1, heard_on gives [] [] x y.0 z.0 a b b y.2 (heard_idle gives y.0 z.0 b z.2) z.2.within, keeps_then honest image (identifier_of_id t) old.log mid.log new.log y.3 logged)
 
 -- an event came, and its objects heard it
-pub heard_turn_at : {O : Type 0} (gives : Gives O) (t : TxId) (e : Event) (rs : List Given) (old mid on new : List LiveState) (a b c : O) → HeardAt gives [] t old mid a b
-    → AdvancesAt (Some e) t mid on → WithinAt t on
-    → HearsNote gives (note_in e) b rs c → GivenAt rs t on new → HeardAt gives [] t old new a c
-heard_turn_at gives t e rs old mid on new a b c h v within note given x at =
+pub heard_turn_at : {D C O : Type 0} (honest : Bool) (image : D → List ℕ → Type 0) (gives : Gives O) (t : TxId) (e : Event) (rs : List Given) (old mid on new : Standing D C) (a b c : O)
+    → HeardAt honest image gives [] t old mid a b → AdvancesAt (Some e) t mid.lives on.lives → KeepsRecords honest image (identifier_of_id t) mid.log on.log → WithinAt t on.lives
+    → HearsNote gives (note_in e) b rs c → GivenAt rs t on.lives new.lives → new.log ≡ on.log → HeardAt honest image gives [] t old new a c
+heard_turn_at honest image gives t e rs old mid on new a b c h v logged within note given log x at =
     let y = h x at in
     let z = v y.0 y.1 in
     let w = given z.0 z.1 in
-    (w.0, w.1, heard_on gives [] [] x y.0 w.0 a b c y.2 (heard_turn gives e rs y.0 z.0 w.0 b c z.2 note w.2 w.3 (within z.0 z.1)) z.2.within)
+    let id = identifier_of_id t in
+    let on_log = keeps_then honest image id old.log mid.log on.log y.3 logged in (
+      w.0,
+      w.1,
+      heard_on gives [] [] x y.0 w.0 a b c y.2 (heard_turn gives e rs y.0 z.0 w.0 b c z.2 note w.2 w.3 (within z.0 z.1)) z.2.within,
+      keeps_then honest image id old.log on.log new.log on_log (keeps_same honest image id on.log new.log log),
+    )
 
 -- What was done of a transaction and its objects, while the others and the time stood.
-abbrev pub Driven : {D C O : Type 0} → Gives O → TxId → Standing D C → Standing D C → O → O → Type 0
-Driven gives t old now a b = HeardAt gives [] t old.lives now.lives a b × AreSame t old.lives now.lives × KeepsTime old now
+abbrev pub Driven : {D C O : Type 0} → Bool → (D → List ℕ → Type 0) → Gives O → TxId → Standing D C → Standing D C → O → O → Type 0
+Driven honest image gives t old now a b = HeardAt honest image gives [] t old now a b × AreSame t old.lives now.lives × KeepsTime old now
 
 -- nothing was done
-pub driven_none : {D C O : Type 0} (gives : Gives O) (t : TxId) (s : Standing D C) (a : O) → Driven gives t s s a a
-driven_none gives t s a = (heard_none_at gives t s.lives s.lives a refl, λ u n. refl, (refl, refl))
+pub driven_none : {D C O : Type 0} (honest : Bool) (image : D → List ℕ → Type 0) (gives : Gives O) (t : TxId) (s : Standing D C) (a : O) → Driven honest image gives t s s a a
+driven_none honest image gives t s a = (heard_none_at honest image gives t s s a refl refl, λ u n. refl, (refl, refl))
 
 -- and then a turn of its objects
-pub driven_turn : {D C O : Type 0} (gives : Gives O) (t : TxId) (e : Event) (rs : List Given) (old mid on new : Standing D C) (a b c : O) → Driven gives t old mid a b
-    → AdvancesAt (Some e) t mid.lives on.lives → AreSame t mid.lives on.lives → KeepsTime mid on → WithinAt t on.lives → HearsNote gives (note_in e) b rs c
-    → GivenAt rs t on.lives new.lives → AreSame t on.lives new.lives → KeepsRest on new → Driven gives t old new a c
-driven_turn gives t e rs old mid on new a b c d v same time within note given others rest = (
-  heard_turn_at gives t e rs old.lives mid.lives on.lives new.lives a b c d.0 v within note given,
+pub driven_turn : {D C O : Type 0} (honest : Bool) (image : D → List ℕ → Type 0) (gives : Gives O) (t : TxId) (e : Event) (rs : List Given) (old mid on new : Standing D C) (a b c : O)
+    → Driven honest image gives t old mid a b → AdvancesAt (Some e) t mid.lives on.lives → KeepsRecords honest image (identifier_of_id t) mid.log on.log → AreSame t mid.lives on.lives
+    → KeepsTime mid on → WithinAt t on.lives → HearsNote gives (note_in e) b rs c → GivenAt rs t on.lives new.lives → AreSame t on.lives new.lives → KeepsRest on new
+    → Driven honest image gives t old new a c
+driven_turn honest image gives t e rs old mid on new a b c d v logged same time within note given others rest = (
+  heard_turn_at honest image gives t e rs old mid on new a b c d.0 v logged within note given (ap (λ (s : Standing _ _). s.log) rest),
   λ u n. others u n ∙ (same u n ∙ d.1 u n),
   (ap (λ (s : Standing _ _). s.clock) rest ∙ (time.0 ∙ d.2.0), ap (λ (s : Standing _ _). s.reading) rest ∙ (time.1 ∙ d.2.1)),
 )

@@ -12,7 +12,8 @@ use Rattle.transactions.specs.Calling.{Ticks, TicksUnless}
 use Rattle.transactions.specs.Keeping.{AreNumbered, FitsAll}
 use Rattle.transactions.specs.Slots.{is_live, is_used, live_at, live_in}
 use Rattle.transactions.specs.State.{LiveState}
-use Rattle.transactions.proofs.Standing.{fits_set, get_here, numbered_set}
+use Rattle.transactions.proofs.Fitted.{fits_set}
+use Rattle.transactions.proofs.Standing.{get_here, numbered_set}
 
 -- an item that is put back where it stood changes nothing
 pub put_back : {A : Type 0} (xs : List A) (i : ℕ) (x : A) → slice_get xs i ≡ Some x → slice_set xs i x ≡ xs
@@ -40,8 +41,9 @@ numbered_used xs i x y u here e numbered =
     numbered_set xs i x y here numbered number (ap (λ (v : LiveState). v.tx.transaction) e ∙ ((numbered i x here).1 ∙ sym number))
 
 -- and the log fits all, as before
-pub fits_used : {D : Type 0} (log : LogState D) (xs : List LiveState) (i : ℕ) (x y : LiveState) (u : Usage) → slice_get xs i ≡ Some x → y ≡ record x { usage = u } → FitsAll log xs → FitsAll log (slice_set xs i y)
-fits_used log xs i x y u here e all = fits_set log xs i x y here (λ rs f. subst (λ (v : LiveState). Fits v.tx rs) (sym e) f) all
+pub fits_used : {D : Type 0} (image : D → List ℕ → Type 0) (log : LogState D) (xs : List LiveState) (i : ℕ) (x y : LiveState) (u : Usage) (last : ℕ) → slice_get xs i ≡ Some x
+    → y ≡ record x { usage = u } → FitsAll image log xs last → FitsAll image log (slice_set xs i y) last
+fits_used image log xs i x y u last here e all = fits_set image log xs i x y last here (ap (λ (v : LiveState). v.number) e) (λ rs f. subst (λ (v : LiveState). Fits v.tx rs) (sym e) f) all
 
 -- the time's going on leaves the number
 ticks_leave : {D : Type 0} (b : Bool) (faults : D → ℕ) (log : LogState D) (now : ℕ) (x y : LiveState) → TicksUnless b faults log now x y → y.number ≡ x.number

@@ -132,21 +132,37 @@ all_are image P rs all p c left = holds P rs (log_has c) p (all c left)
 pub either_are : (image : List ℕ → Type 0) (P : List CommitRecord → Type 0) (rs qs : List CommitRecord) → AllHoldEither image rs qs → P rs → P qs → AllAre image P
 either_are image P rs qs all p q c left = elim (all c left) [ inl e ↦ holds P rs (log_has c) p e | inr e ↦ holds P qs (log_has c) q e ]
 
+-- a free that is refused leaves the slots
+slots_same : {D : Type 0} (id : ℕ) (old new : LogState D) (e : LogRefusal) → (e ≡ Stopped) ⊎ ((e ≡ NoSuch id) ⊎ (e ≡ StoppedNow)) → (e ≢ StoppedNow → new ≡ old)
+    → (IsErrOf {T = Unit {0}} (Err e) StoppedNow → IsFalse new.is_up × (new.slots ≡ old.slots)) → new.slots ≡ old.slots
+slots_same {D} id old new e only unchanged stopped = elim only [
+  | inl is ↦ ap (λ (l : LogState D). l.slots) (unchanged (λ now. absurd cc))
+  | inr other ↦ elim other [
+    | inl is ↦ ap (λ (l : LogState D). l.slots) (unchanged (λ now. absurd cc))
+    | inr now ↦ (stopped (ap (λ (x : LogRefusal). Err x) now)).1
+  ]
+]
+
 -- Whatever a free answers, only records that may be freed are gone.
 pub after_free : {D : Type 0} (ms : List RmNo) (xs : List LiveState) (id : ℕ) (old new : LogState D) (result : Result (Unit {0}) LogRefusal) → is_found ms xs (first_of id (open_records old.slots)) ≡ true
     → OnOk result (open_records new.slots ≡ without_first_of id (open_records old.slots))
     → IfErr result (λ e. (e ≡ Stopped) ⊎ ((e ≡ NoSuch id) ⊎ (e ≡ StoppedNow))) → IfErr result (λ e. e ≢ StoppedNow → new ≡ old)
     → (IsErrOf result StoppedNow → IsFalse new.is_up × (new.slots ≡ old.slots)) → OnlyFrees ms xs (open_records old.slots) (open_records new.slots)
 after_free ms xs id old new (Ok x) found records only unchanged stopped = rw records (frees_one ms xs id (open_records old.slots) found)
-after_free {D} ms xs id old new (Err e) found records only unchanged stopped =
-    let same : new.slots ≡ old.slots = elim only [
-      | inl is ↦ ap (λ (l : LogState D). l.slots) (unchanged (λ now. absurd cc))
-      | inr other ↦ elim other [
-        | inl is ↦ ap (λ (l : LogState D). l.slots) (unchanged (λ now. absurd cc))
-        | inr now ↦ (stopped (ap (λ (x : LogRefusal). Err x) now)).1
-      ]
-    ] in
-    subst (λ (ss : List (Option CommitRecord)). OnlyFrees ms xs (open_records old.slots) (open_records ss)) (sym same) (frees_none ms xs (open_records old.slots))
+after_free ms xs id old new (Err e) found records only unchanged stopped =
+    subst (λ (ss : List (Option CommitRecord)). OnlyFrees ms xs (open_records old.slots) (open_records ss)) (sym (slots_same id old new e only unchanged stopped))
+    (frees_none ms xs (open_records old.slots))
+
+-- so each image has what is left of what the log has then
+pub left_free : {D : Type 0} (ms : List RmNo) (xs : List LiveState) (id : ℕ) (image : List ℕ → Type 0) (old new : LogState D) (result : Result (Unit {0}) LogRefusal)
+    → is_found ms xs (first_of id (open_records old.slots)) ≡ true → OnOk result (AllHold image (open_records new.slots))
+    → AllHoldEither image (open_records old.slots) (without_first_of id (open_records old.slots)) → IfErr result (λ e. (e ≡ Stopped) ⊎ ((e ≡ NoSuch id) ⊎ (e ≡ StoppedNow)))
+    → IfErr result (λ e. e ≢ StoppedNow → new ≡ old) → (IsErrOf result StoppedNow → IsFalse new.is_up × (new.slots ≡ old.slots)) → AllAre image (OnlyFrees ms xs (open_records new.slots))
+left_free ms xs id image old new (Ok x) found held either only unchanged stopped = all_are image (OnlyFrees ms xs (open_records new.slots)) (open_records new.slots) held (frees_none ms xs (open_records new.slots))
+left_free ms xs id image old new (Err e) found held either only unchanged stopped =
+    let rs = open_records old.slots in
+    subst (λ (ss : List (Option CommitRecord)). AllAre image (OnlyFrees ms xs (open_records ss))) (sym (slots_same id old new e only unchanged stopped))
+    (either_are image (OnlyFrees ms xs rs) rs (without_first_of id rs) either (frees_none ms xs rs) (frees_one ms xs id rs found))
 
 -- the open slots are no more than all
 pub few_open : (ss : List (Option LogRecord)) (rs : List CommitRecord) → filter_map (option_map record_of) ss ≡ rs → length rs ≤ length ss

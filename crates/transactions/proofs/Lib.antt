@@ -2,11 +2,13 @@ pub mod Counting
 pub mod Scanning
 pub mod Hearing
 pub mod Passing
+pub mod Beside
 pub mod Stepping
 pub mod Sound
 pub mod Waiting
 pub mod Advancing
 pub mod Standing
+pub mod Fitted
 pub mod Places
 pub mod Recorded
 pub mod Lasting
@@ -14,6 +16,7 @@ pub mod Freeing
 pub mod Kept
 pub mod Numbers
 pub mod Calls
+pub mod Untouched
 pub mod Nexts
 pub mod Settling
 pub mod Enlisted

@@ -61,7 +61,7 @@ onward_at t old now within o x at =
     (y.0, y.1, onward_none_heard x y.0 (within x at) y.2)
   where
     onward_none_heard : (x y : LiveState) → x.heard ≤ length (past x) → Onward x y → Advances None x y
-    onward_none_heard x y room (inl same) = subst (λ (v : LiveState). Advances None x v) (sym same) (going_on x x (going_none x) room)
+    onward_none_heard x y room (inl same) = subst (λ (v : LiveState). Advances None x v) (sym same) (going_on x x (going_none x) room room)
     onward_none_heard x y room (inr b) = b
 
 -- and then it did this

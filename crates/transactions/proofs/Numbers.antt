@@ -17,6 +17,7 @@ use Rattle.transactions.specs.Slots.{is_vacant}
 use Rattle.transactions.specs.State.{LiveState}
 use Rattle.transactions.specs.declared.error.TxError.{TxError}
 use Rattle.transactions.specs.declared.error.TxError.TheVariants.{LogFull, LogStopped, Many, Memory, NoEpoch, Refused, Waits}
+use Rattle.transactions.proofs.Untouched.{keeps_next}
 
 -- where the log was down it is as it was
 pub down_same : {D : Type 0} (z : Result ℕ LogRefusal) (from to : LogState D) → (IsErrOf z Stopped ↔ IsFalse from.is_up) → IfErr z (λ e. e ≢ StoppedNow → to ≡ from) → IsFalse from.is_up → to ≡ from
@@ -74,7 +75,14 @@ pub numbers_log : {D : Type 0} (honest : Bool) (image : D → List ℕ → Type 
     → (IsTrue honest → IsTrue from.is_up → AllAre (image to.disk) (IsSameOrNext (open_records from.slots))) → (IsErrOf z Stopped ↔ IsFalse from.is_up)
     → IfErr z (λ e. e ≢ StoppedNow → to ≡ from) → faults from.disk ≤ faults to.disk → NumbersLog honest image faults from to
 numbers_log honest image faults z from to records imaged stopped unchanged grows =
-    record { records = records; imaged = λ is up c i. inr (imaged is up c i); still = up_before from to (down_same z from to stopped unchanged); grows = grows }
+    let down = down_same z from to stopped unchanged in
+    record {
+      records = records;
+      imaged = λ is up c i. inr (imaged is up c i);
+      still = up_before from to down;
+      grows = grows;
+      untouched = λ is. keeps_next image from to records (imaged is) down;
+    }
 
 -- why no transaction began, where no epoch did
 pub may_not_begin : {D : Type 0} (faults : D → ℕ) (from to : LogState D) (xs : List LiveState) (e : TxError) → MayNotNumber faults from to e → MayNotBegin faults from to xs e

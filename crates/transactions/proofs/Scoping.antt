@@ -15,12 +15,13 @@ use Rattle.transactions.specs.State.{LiveState}
 use Rattle.transactions.proofs.Driving.{Gives}
 
 -- where the work was Ok, and what came after it was Ok, both were as they had to be
-pub works_in : {D C O T : Type 0} (faults : D → ℕ) (gives : Gives O) (does : Manager D C → Scopes → TransactionScope → O → Result T CommitError → Manager D C → Scopes → O → Type 0)
+pub works_in : {D C O T : Type 0} (faults : D → ℕ) (honest : Bool) (image : D → List ℕ → Type 0) (gives : Gives O)
+    (does : Manager D C → Scopes → TransactionScope → O → Result T CommitError → Manager D C → Scopes → O → Type 0)
     (k : ScopeOption) (timeout : Timeout) (iso : Iso) (s : TransactionScope) (run result : Result T CommitError) (old opened worked new : Manager D C) (a within left b : Scopes) (before objects after : O)
     → IsOpened k iso s opened.lives a.scopes within.scopes → BeginsWhere faults timeout (made_in s) old opened → AreSameBut (made_in s) old.lives opened.lives
-    → does opened within s before run worked left objects → IfOk result (λ x. run ≡ Ok x) → OnOk result (Finishes faults gives s worked new left.scopes b.scopes objects after)
-    → IfOk result (λ x. WorksIn faults gives does k timeout iso x old new a b before after)
-works_in faults gives does k timeout iso s run (Ok x) old opened worked new a within left b before objects after opens begins others did was finished = record {
+    → does opened within s before run worked left objects → IfOk result (λ x. run ≡ Ok x) → OnOk result (Finishes faults honest image gives s worked new left.scopes b.scopes objects after)
+    → IfOk result (λ x. WorksIn faults honest image gives does k timeout iso x old new a b before after)
+works_in faults honest image gives does k timeout iso s run (Ok x) old opened worked new a within left b before objects after opens begins others did was finished = record {
   scope = s;
   opened = opened;
   within = within;
@@ -33,7 +34,7 @@ works_in faults gives does k timeout iso s run (Ok x) old opened worked new a wi
   does_it = subst (λ (r : Result _ CommitError). does opened within s before r worked left objects) was did;
   finishes = finished;
 }
-works_in faults gives does k timeout iso s run (Err e) old opened worked new a within left b before objects after opens begins others did was finished = tt
+works_in faults honest image gives does k timeout iso s run (Err e) old opened worked new a within left b before objects after opens begins others did was finished = tt
 
 -- every transaction but this one is as it was
 pub same_but : (o : Option TxId) (old new : List LiveState) → AreSameBut o old new → (u : TxId) → o ≢ Some u → live_at u new ≡ live_at u old

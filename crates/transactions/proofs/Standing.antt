@@ -1,19 +1,16 @@
 -- One transaction of a manager goes on, and what holds of all is kept.
-use Rattle.std.proofs.Common.{ℕ, zero, suc, Bool, true, false, ◌&&◌, ◌==◌, ◌≡◌, ◌≢◌, ◌+◌, ◌-◌, ◌∙◌, List, [], ◌∷◌, Some, None, slice_get, slice_set, refl, ap, arith, subst, sym, inl, inr, if◌then◌else◌}
+use Rattle.std.proofs.Common.{ℕ, zero, suc, Bool, true, false, ◌&&◌, ◌==◌, ◌≡◌, ◌≢◌, ◌≤◌, ◌<◌, length, ◌+◌, ◌-◌, ◌∙◌, List, [], ◌∷◌, Some, None, slice_get, slice_set, refl, ap, arith, subst, sym, inl, inr, if◌then◌else◌}
 use Rattle.dtx_values.specs.TxIds.{number_of}
-use Rattle.std.specs.Prelude.{IsTrue}
+use Rattle.std.specs.Prelude.{nat_lt}
 use Rattle.std.proofs.lemmas.Bool.{eqb-true}
+use Rattle.std.proofs.lemmas.Option.{slice_get_past}
 use Rattle.std.proofs.lemmas.Bool.Decides.{eqb_tells, nat_tests}
 use Rattle.dtx_values.specs.declared.tx_id.TxId.{TxId}
-use Rattle.dtx_model.specs.Log.{CommitRecord}
 use Rattle.dtx_values.proofs.Ids.{same_id}
 use Rattle.dtx_model.proofs.Bools.{and_right}
-use Rattle.coordinator_log.specs.Slots.{open_records}
-use Rattle.coordinator_log.specs.State.{LogState}
-use Rattle.tx_world.specs.AtLog.{Fits, id_of}
-use Rattle.tx_world.specs.Leaves.{Leaves}
-use Rattle.tx_world.proofs.Fitting.{fits_same, kept_other, own_identifier}
-use Rattle.transactions.specs.Keeping.{AreNumbered, FitsAll}
+use Rattle.tx_world.specs.AtLog.{id_of}
+use Rattle.tx_world.proofs.Fitting.{own_identifier}
+use Rattle.transactions.specs.Keeping.{AreNumbered}
 use Rattle.transactions.specs.Slots.{AreSame, is_live, is_used, live_at, live_in}
 use Rattle.transactions.specs.State.{LiveState}
 
@@ -82,6 +79,19 @@ live_off t xs i x place here off =
     let same : t.t.value - 1 ≡ i = omega (arith, place) in
     ap (live_in t) (ap (slice_get xs) same ∙ here) ∙ ap (λ b. if b then Some x else None) off
 
+-- and none goes on at a place past the list
+pub live_past : (t : TxId) (xs : List LiveState) (n i : ℕ) → i + 1 ≡ t.t.value → n ≡ length xs → (i < n → false ≡ true) → live_at t xs ≡ None
+live_past t xs n i place len none =
+    let same : t.t.value - 1 ≡ i = omega (arith, place) in
+    ap (λ (j : ℕ). live_in t (slice_get xs j)) same ∙ ap (live_in t) (by (nat_lt i n) refl)
+  where
+    never : false ≡ true → ⊥
+    never q = cc
+
+    by : (b : Bool) → nat_lt i n ≡ b → slice_get xs i ≡ None
+    by true low = let under : i < n = grind (arith, nat_tests) in absurd (never (none under))
+    by false high = let over : n ≤ i = grind (arith, nat_tests) in slice_get_past xs i (omega arith)
+
 -- none goes on where no transaction of that number does
 pub none_live : (u : TxId) (x : LiveState) → is_live u x ≡ false → live_in u (Some x) ≡ None
 none_live u x off = ap (λ b. if b then Some x else None) off
@@ -115,26 +125,8 @@ numbered_set xs i x y here numbered number own j z e = elim (eqb_tells j i) [ in
         (ap (λ (t : TxId). t.t.value) number ∙ ((numbered i x here).0 ∙ ap (λ n. n + 1) (sym k)), own)
 
 -- the identifiers of two transactions at two places are two
-apart : (xs : List LiveState) (i j : ℕ) (x z : LiveState) → AreNumbered xs → slice_get xs i ≡ Some x → slice_get xs j ≡ Some z → j ≢ i → id_of z.tx ≢ id_of x.tx
+pub apart : (xs : List LiveState) (i j : ℕ) (x z : LiveState) → AreNumbered xs → slice_get xs i ≡ Some x → slice_get xs j ≡ Some z → j ≢ i → id_of z.tx ≢ id_of x.tx
 apart xs i j x z numbered here there n =
     let a : x.tx.transaction.t.value ≡ i + 1 = ap (λ (t : TxId). t.t.value) (numbered i x here).1 ∙ (numbered i x here).0 in
     let b : z.tx.transaction.t.value ≡ j + 1 = ap (λ (t : TxId). t.t.value) (numbered j z there).1 ∙ (numbered j z there).0 in
     own_identifier z.tx.transaction x.tx.transaction (λ e. let same : z.tx.transaction.t.value ≡ x.tx.transaction.t.value = ap (λ (t : TxId). t.t.value) e in n (omega (arith, a, b, same)))
-
--- A call that doesn't touch the log keeps that the log fits all.
-pub fits_set : {D : Type 0} (log : LogState D) (xs : List LiveState) (i : ℕ) (x y : LiveState) → slice_get xs i ≡ Some x → ((rs : List CommitRecord) → Fits x.tx rs → Fits y.tx rs) → FitsAll log xs → FitsAll log (slice_set xs i y)
-fits_set log xs i x y here keeps all =
-    record {
-      fits = λ up. put_at {P = λ (z : LiveState). Fits z.tx (open_records log.slots)} xs i x y here (keeps (open_records log.slots) (all.fits up i x here)) (λ j z n there. all.fits up j z there);
-    }
-
--- And so does what the log does for one transaction.
-pub fits_left : {D : Type 0} (honest : Bool) (image : D → List ℕ → Type 0) (faults : D → ℕ) (from to : LogState D) (xs : List LiveState) (i : ℕ) (x y : LiveState) → IsTrue honest → AreNumbered xs → slice_get xs i ≡ Some x
-    → Leaves honest image faults x.tx from y.tx to → FitsAll from xs → FitsAll to (slice_set xs i y)
-fits_left honest image faults from to xs i x y is numbered here leaves all =
-    let keeps = leaves.kept is in
-    record {
-      fits = λ up. put_at {P = λ (z : LiveState). Fits z.tx (open_records to.slots)} xs i x y here (keeps.fits up)
-          (λ j z n there. fits_same z.tx (open_records from.slots) (open_records to.slots)
-          (kept_other (id_of x.tx) (id_of z.tx) (open_records from.slots) (open_records to.slots) keeps.others (apart xs i j x z numbered here there n)) (all.fits (leaves.later.still up) j z there));
-    }

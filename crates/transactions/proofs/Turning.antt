@@ -1,6 +1,7 @@
 -- The time of a transaction goes on at its place, and the objects hear what came of it.
 use Rattle.std.proofs.Common.{ℕ, zero, suc, Bool, true, false, ◌≡◌, ◌≢◌, ◌≤◌, ◌<◌, ◌+◌, ◌-◌, ◌^◌, ◌⊎◌, ◌∙◌, List, [], ◌∷◌, length, Some, None, Result, Ok, Err, IfErr, OnOk, OnErr, slice_get, refl, ap, arith, subst, sym, inl, inr}
 use Rattle.dtx_values.specs.declared.number.TxNo.{TxNo}
+use Rattle.dtx_values.specs.TxIds.{identifier_of_id}
 use Rattle.dtx_values.specs.declared.tx_id.TxId.{TxId}
 use Rattle.dtx_values.specs.declared.entry.Answer.TheVariants.{NoSuch}
 use Rattle.coordinator_log.specs.State.{LogState}
@@ -11,12 +12,13 @@ use Rattle.transactions.specs.declared.usage.Usage.TheVariants.{Left}
 use Rattle.transactions.specs.Doing.{HeardAt}
 use Rattle.transactions.specs.Ending.{IsOver}
 use Rattle.transactions.specs.Keeping.{AreNumbered}
-use Rattle.transactions.specs.Slots.{AreSame, KeepsTime, Standing, live_at, standing_at}
+use Rattle.transactions.specs.Slots.{AreSame, KeepsRest, KeepsTime, Standing, live_at, standing_at}
 use Rattle.transactions.specs.State.{LiveState, past}
 use Rattle.transactions.specs.Turning.{PassedAt, Stopped, StoppedAfter, TickFails, Turned, TurnedUpTo}
 use Rattle.transactions.specs.Waiting.{AllAsked}
 use Rattle.transactions.proofs.Driving.{Gives}
 use Rattle.transactions.proofs.Nexts.{one_at}
+use Rattle.transactions.proofs.Untouched.{keeps_same, keeps_then}
 
 -- the time's going on leaves what the number is used for
 ticks_used : {D : Type 0} (b : Bool) (faults : D → ℕ) (log : LogState D) (now : ℕ) (x y : LiveState) → TicksUnless b faults log now x y → y.usage ≡ x.usage
@@ -94,53 +96,71 @@ turn_fails t xs e (inl out) = inl out
 turn_fails t xs e (inr many) = inr many.0
 
 -- its time went on, its objects heard what came of it, and it goes on or was taken off: it had its turn
-pub turned_by : {D C O : Type 0} (faults : D → ℕ) (gives : Gives O) (t : TxId) (old mid on new : Standing D C) (a b : O) (x : LiveState) → live_at t old.lives ≡ Some x
-    → PassedAt faults old.log old.reading t old.lives mid.lives → HeardAt gives [] t mid.lives on.lives a b
+pub turned_by : {D C O : Type 0} (faults : D → ℕ) (honest : Bool) (image : D → List ℕ → Type 0) (gives : Gives O) (t : TxId) (old mid on new : Standing D C) (a b : O) (x : LiveState) → live_at t old.lives ≡ Some x
+    → PassedAt faults old.log old.reading t old.lives mid.lives → KeepsRest old mid → HeardAt honest image gives [] t mid on a b → KeepsRest on new
     → ((z : LiveState) → live_at t on.lives ≡ Some z → (z.heard ≡ length (past z)) × AllAsked z.tx.world)
-    → ((z : LiveState) → live_at t on.lives ≡ Some z → (live_at t new.lives ≡ Some z) ⊎ ((live_at t new.lives ≡ None) × IsOver z × (z.usage ≡ Left))) → Turned faults gives t old new a b
-turned_by faults gives t old mid on new a b x was passed heard all ended =
-    (λ v at. let y = passed v at in let z = heard y.0 y.1 in record { passed = y.0; done = z.0; ticked = y.2; heard = z.2; all = all z.0 z.1; ended = ended z.0 z.1 }, λ none. absurd (never (sym was ∙ none)))
+    → ((z : LiveState) → live_at t on.lives ≡ Some z → (live_at t new.lives ≡ Some z) ⊎ ((live_at t new.lives ≡ None) × IsOver z × (z.usage ≡ Left))) → Turned faults honest image gives t old new a b
+turned_by faults honest image gives t old mid on new a b x was passed rest heard swept all ended = (
+  λ v at.
+      let y = passed v at in
+      let z = heard y.0 y.1 in
+      let id = identifier_of_id t in
+      let before = keeps_same honest image id old.log mid.log (ap (λ (s : Standing _ _). s.log) rest) in
+      let after = keeps_same honest image id on.log new.log (ap (λ (s : Standing _ _). s.log) swept) in
+      record {
+        passed = y.0;
+        done = z.0;
+        ticked = y.2;
+        heard = z.2;
+        all = all z.0 z.1;
+        logged = keeps_then honest image id old.log on.log new.log (keeps_then honest image id old.log mid.log on.log before z.3) after;
+        ended = ended z.0 z.1;
+      },
+  λ none. absurd (never (sym was ∙ none)),
+)
   where
     never : Some x ≡ None → ⊥
     never q = cc
 
 -- its time didn't go on, and it is as it was
-pub stopped_before : {D C O : Type 0} (faults : D → ℕ) (gives : Gives O) (t : TxId) (old new : Standing D C) (a : O) (x : LiveState) → live_at t old.lives ≡ Some x
-    → live_at t new.lives ≡ live_at t old.lives → Stopped faults gives t old new a a
-stopped_before faults gives t old new a x was same = (x, was, inl (same ∙ was, refl))
+pub stopped_before : {D C O : Type 0} (faults : D → ℕ) (honest : Bool) (image : D → List ℕ → Type 0) (gives : Gives O) (t : TxId) (old new : Standing D C) (a : O) (x : LiveState) → live_at t old.lives ≡ Some x
+    → live_at t new.lives ≡ live_at t old.lives → KeepsRest old new → Stopped faults honest image gives t old new a a
+stopped_before faults honest image gives t old new a x was same rest = (x, was, inl (same ∙ was, ap (λ (s : Standing _ _). s.log) rest, refl))
 
 -- its time went on, and its objects heard a part of what came of it
-pub stopped_within : {D C O : Type 0} (faults : D → ℕ) (gives : Gives O) (t : TxId) (old mid new : Standing D C) (a b : O) (x : LiveState) → live_at t old.lives ≡ Some x
-    → PassedAt faults old.log old.reading t old.lives mid.lives → HeardAt gives [] t mid.lives new.lives a b → Stopped faults gives t old new a b
-stopped_within faults gives t old mid new a b x was passed heard =
+pub stopped_within : {D C O : Type 0} (faults : D → ℕ) (honest : Bool) (image : D → List ℕ → Type 0) (gives : Gives O) (t : TxId) (old mid new : Standing D C) (a b : O) (x : LiveState) → live_at t old.lives ≡ Some x
+    → PassedAt faults old.log old.reading t old.lives mid.lives → KeepsRest old mid → HeardAt honest image gives [] t mid new a b → Stopped faults honest image gives t old new a b
+stopped_within faults honest image gives t old mid new a b x was passed rest heard =
     let y = passed x was in
     let z = heard y.0 y.1 in
-    (x, was, inr (record { passed = y.0; done = z.0; ticked = y.2; heard = z.2; on = z.1 }))
+    let id = identifier_of_id t in
+    let before = keeps_same honest image id old.log mid.log (ap (λ (s : Standing _ _). s.log) rest) in
+    (x, was, inr (record { passed = y.0; done = z.0; ticked = y.2; heard = z.2; on = z.1; logged = keeps_then honest image id old.log mid.log new.log before z.3 }))
 
 -- the turns begin with the same time, however it is named
-turned_from : {D C O : Type 0} (faults : D → ℕ) (gives : Gives O) (n : ℕ) (old mid new : Standing D C) (a m : O) → KeepsTime mid new
-    → TurnedUpTo faults gives n (record old { clock = mid.clock; reading = mid.reading }) mid a m → TurnedUpTo faults gives n (record old { clock = new.clock; reading = new.reading }) mid a m
-turned_from {D} {C} faults gives n old mid new a m time up =
-    subst (λ (k : ℕ). TurnedUpTo faults gives n (record old { clock = new.clock; reading = k }) mid a m) (sym time.1)
-    (subst (λ (k : C). TurnedUpTo faults gives n (record old { clock = k; reading = mid.reading }) mid a m) (sym time.0) up)
+turned_from : {D C O : Type 0} (faults : D → ℕ) (honest : Bool) (image : D → List ℕ → Type 0) (gives : Gives O) (n : ℕ) (old mid new : Standing D C) (a m : O) → KeepsTime mid new
+    → TurnedUpTo faults honest image gives n (record old { clock = mid.clock; reading = mid.reading }) mid a m → TurnedUpTo faults honest image gives n (record old { clock = new.clock; reading = new.reading }) mid a m
+turned_from {D} {C} faults honest image gives n old mid new a m time up =
+    subst (λ (k : ℕ). TurnedUpTo faults honest image gives n (record old { clock = new.clock; reading = k }) mid a m) (sym time.1)
+    (subst (λ (k : C). TurnedUpTo faults honest image gives n (record old { clock = k; reading = mid.reading }) mid a m) (sym time.0) up)
 
 -- and then the next one had its turn
-pub turned_next : {D C O : Type 0} (faults : D → ℕ) (gives : Gives O) (n : ℕ) (p : TxNo) (t : TxId) (old mid new : Standing D C) (a m b : O) → p.value ≡ n + 1 → t ≡ standing_at p mid.lives
-    → TurnedUpTo faults gives n (record old { clock = mid.clock; reading = mid.reading }) mid a m → Turned faults gives t mid new m b → AreSame t mid.lives new.lives → KeepsTime mid new
-    → TurnedUpTo faults gives (n + 1) (record old { clock = new.clock; reading = new.reading }) new a b
-turned_next faults gives n p t old mid new a m b number at up turned same time =
-    let so = subst (λ (u : TxId). Turned faults gives u mid new m b × AreSame u mid.lives new.lives) at (turned, same) in
+pub turned_next : {D C O : Type 0} (faults : D → ℕ) (honest : Bool) (image : D → List ℕ → Type 0) (gives : Gives O) (n : ℕ) (p : TxNo) (t : TxId) (old mid new : Standing D C) (a m b : O) → p.value ≡ n + 1 → t ≡ standing_at p mid.lives
+    → TurnedUpTo faults honest image gives n (record old { clock = mid.clock; reading = mid.reading }) mid a m → Turned faults honest image gives t mid new m b → AreSame t mid.lives new.lives → KeepsTime mid new
+    → TurnedUpTo faults honest image gives (n + 1) (record old { clock = new.clock; reading = new.reading }) new a b
+turned_next faults honest image gives n p t old mid new a m b number at up turned same time =
+    let so = subst (λ (u : TxId). Turned faults honest image gives u mid new m b × AreSame u mid.lives new.lives) at (turned, same) in
     let next : suc n ≡ n + 1 = omega arith in
-    subst (λ (k : ℕ). TurnedUpTo faults gives k (record old { clock = new.clock; reading = new.reading }) new a b) next
-    (p, mid, m, number, turned_from faults gives n old mid new a m time up, so.0, so.1, time)
+    subst (λ (k : ℕ). TurnedUpTo faults honest image gives k (record old { clock = new.clock; reading = new.reading }) new a b) next
+    (p, mid, m, number, turned_from faults honest image gives n old mid new a m time up, so.0, so.1, time)
 
 -- or its turn failed
-pub stopped_next : {D C O : Type 0} (faults : D → ℕ) (gives : Gives O) (n : ℕ) (p : TxNo) (t : TxId) (old mid new : Standing D C) (a m b : O) → p.value ≡ n + 1 → t ≡ standing_at p mid.lives
-    → TurnedUpTo faults gives n (record old { clock = mid.clock; reading = mid.reading }) mid a m → Stopped faults gives t mid new m b → AreSame t mid.lives new.lives → KeepsTime mid new
-    → StoppedAfter faults gives (record old { clock = new.clock; reading = new.reading }) new a b
-stopped_next faults gives n p t old mid new a m b number at up stopped same time =
-    let so = subst (λ (u : TxId). Stopped faults gives u mid new m b × AreSame u mid.lives new.lives) at (stopped, same) in
-    (n, p, mid, m, number, turned_from faults gives n old mid new a m time up, so.0, so.1, time)
+pub stopped_next : {D C O : Type 0} (faults : D → ℕ) (honest : Bool) (image : D → List ℕ → Type 0) (gives : Gives O) (n : ℕ) (p : TxNo) (t : TxId) (old mid new : Standing D C) (a m b : O) → p.value ≡ n + 1 → t ≡ standing_at p mid.lives
+    → TurnedUpTo faults honest image gives n (record old { clock = mid.clock; reading = mid.reading }) mid a m → Stopped faults honest image gives t mid new m b → AreSame t mid.lives new.lives → KeepsTime mid new
+    → StoppedAfter faults honest image gives (record old { clock = new.clock; reading = new.reading }) new a b
+stopped_next faults honest image gives n p t old mid new a m b number at up stopped same time =
+    let so = subst (λ (u : TxId). Stopped faults honest image gives u mid new m b × AreSame u mid.lives new.lives) at (stopped, same) in
+    (n, p, mid, m, number, turned_from faults honest image gives n old mid new a m time up, so.0, so.1, time)
 
 -- a place within a list has an item
 get_within : {A : Type 0} (xs : List A) (i : ℕ) → i < length xs → (x : A) × (slice_get xs i ≡ Some x)

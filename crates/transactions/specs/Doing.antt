@@ -7,6 +7,7 @@ use Rattle.dtx_values.specs.declared.entry.Answer.TheVariants.{Id, NoSuch, Wait}
 use Rattle.dtx_values.specs.declared.note.Note.{Note}
 use Rattle.dtx_values.specs.declared.note.Reply.{Reply}
 use Rattle.dtx_values.specs.declared.number.EnlNo.{EnlNo}
+use Rattle.dtx_values.specs.TxIds.{identifier_of_id}
 use Rattle.dtx_values.specs.declared.tx_id.TxId.{TxId}
 use Rattle.dtx_model.specs.Facts.{has_facts}
 use Rattle.dtx_model.specs.Replies.{due_of}
@@ -19,7 +20,8 @@ use Rattle.resource_managers.specs.declared.enlistment.Enlistment.{Enlistment}
 use Rattle.transactions.specs.Calling.{IsCalled}
 use Rattle.transactions.specs.declared.event.Event.{Event}
 use Rattle.transactions.specs.Hearing.{Advances, Given, IsHeard}
-use Rattle.transactions.specs.Slots.{live_at}
+use Rattle.transactions.specs.Logged.{KeepsRecords}
+use Rattle.transactions.specs.Slots.{Standing, live_at}
 use Rattle.transactions.specs.State.{LiveState}
 
 -- the answer says that the call was done, or waits: it has facts
@@ -38,9 +40,11 @@ pub record CallsAt {D : Type 0} (faults : D → ℕ) (log : LogState D) (t : TxI
   pub now : live_at t new ≡ Some after
   pub called : IsCalled faults log c line answer before after
 
--- Where a transaction of this number goes on, its objects heard what came of it.
-abbrev pub HeardAt : {O : Type 0} → (O → Enlistment → Note → Option Reply → O → Type 0) → List Given → TxId → List LiveState → List LiveState → O → O → Type 0
-HeardAt gives given t old new a b = (x : LiveState) → live_at t old ≡ Some x → (z : LiveState) × (live_at t new ≡ Some z) × IsHeard gives given x z a b
+-- Where a transaction of this number goes on, its objects heard what came of it, and no other's record of the log was touched.
+abbrev pub HeardAt : {D C O : Type 0} → Bool → (D → List ℕ → Type 0) → (O → Enlistment → Note → Option Reply → O → Type 0) → List Given → TxId → Standing D C → Standing D C → O → O → Type 0
+HeardAt honest image gives given t old new a b =
+    (x : LiveState) → live_at t old.lives ≡ Some x → (z : LiveState) × (live_at t new.lives ≡ Some z) × IsHeard gives given x z a b
+    × KeepsRecords honest image (identifier_of_id t) old.log new.log
 
 -- Where a transaction of this number goes on, it did this next.
 abbrev pub AdvancesAt : Option Event → TxId → List LiveState → List LiveState → Type 0
@@ -70,5 +74,5 @@ Enters faults log t c old new (Ok x) = Called faults log t c old new
 Enters faults log t c old new (Err e) = (MayFail t old e × (live_at t new ≡ live_at t old)) ⊎ ((answer : Answer) × (e ≡ Refused answer) × IsRefused faults log t c answer old new)
 
 -- The call was done or waits, and the objects heard what came of it.
-abbrev pub Goes : {D O : Type 0} → (D → ℕ) → LogState D → (O → Enlistment → Note → Option Reply → O → Type 0) → TxId → Call → List LiveState → List LiveState → O → O → Type 0
-Goes faults log gives t c old new a b = (mid : List LiveState) × Called faults log t c old mid × HeardAt gives [] t mid new a b
+abbrev pub Goes : {D C O : Type 0} → (D → ℕ) → Bool → (D → List ℕ → Type 0) → (O → Enlistment → Note → Option Reply → O → Type 0) → TxId → Call → Standing D C → Standing D C → O → O → Type 0
+Goes faults honest image gives t c old new a b = (mid : List LiveState) × Called faults old.log t c old.lives mid × HeardAt honest image gives [] t (record old { lives = mid }) new a b

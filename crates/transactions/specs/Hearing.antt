@@ -1,13 +1,13 @@
 -- What the objects of a program hear, and what they reply.
-use Rattle.std.specs.Prelude.{◌≡◌, ◌≤◌, ◌||◌, ◌==◌, ◌&&◌, not, Bool, true, false, List, [], ◌∷◌, ◌++◌, Option, Some, None, length}
+use Rattle.std.specs.Prelude.{ℕ, zero, suc, ◌≡◌, ◌⊎◌, ◌≤◌, ◌||◌, ◌==◌, ◌&&◌, not, Bool, true, false, List, [], ◌∷◌, ◌++◌, Option, Some, None, length}
 use Rattle.std.specs.List.{filter_map}
 use Rattle.dtx_values.specs.declared.entry.Entry.{Entry}
-use Rattle.dtx_values.specs.declared.entry.Entry.TheVariants.{OwnerAnswered, PromoteReply, Requested, Voted}
+use Rattle.dtx_values.specs.declared.entry.Entry.TheVariants.{Acked, OwnerAnswered, PromoteReply, Requested, Voted}
 use Rattle.dtx_values.specs.declared.entry.Request.{Request}
 use Rattle.dtx_values.specs.declared.entry.Request.TheVariants.{Commit as RequestCommit, Abort as RequestAbort}
 use Rattle.dtx_values.specs.declared.note.Note.{Note}
 use Rattle.dtx_values.specs.declared.note.Reply.{Reply}
-use Rattle.dtx_values.specs.declared.note.Reply.TheVariants.{Vote as VoteReply, Promote as Promotes, Owner as OwnerReply}
+use Rattle.dtx_values.specs.declared.note.Reply.TheVariants.{Vote as VoteReply, Promote as Promotes, Owner as OwnerReply, Ack}
 use Rattle.dtx_values.specs.declared.number.EnlNo.{EnlNo}
 use Rattle.dtx_values.specs.declared.tx_id.TxId.{TxId}
 use Rattle.dtx_model.specs.Words.{each, has, onto, same}
@@ -27,12 +27,13 @@ use Rattle.transactions.specs.State.{LiveState, past, unheard}
 abbrev pub Given : Type 0
 Given = EnlNo × Reply
 
--- the entry is a reply of an enlistment, but for an acknowledgement
+-- the entry is a reply of an enlistment
 abbrev pub is_reply : Entry → Bool
 is_reply (Voted e v) = true
 is_reply (PromoteReply e ok) = true
 is_reply (OwnerAnswered e o) = true
 is_reply (Requested e r) = true
+is_reply (Acked e) = true
 is_reply _ = false
 
 -- the request that an owner's answer makes: to abort, or else to commit
@@ -46,6 +47,7 @@ says (e, VoteReply v) (Voted f w) = (e.value == f.value) && same_vote v w
 says (e, Promotes a) (PromoteReply f b) = (e.value == f.value) && same a b
 says (e, OwnerReply x) (OwnerAnswered f y) = (e.value == f.value) && same_outcome x y
 says (e, OwnerReply x) (Requested f r) = (e.value == f.value) && is_requested r (is_aborted x)
+says (e, Ack) (Acked f) = e.value == f.value
 says _ _ = false
 
 -- the entry is no reply, or it is one of these
@@ -110,9 +112,35 @@ pub record Advances (x : Option Event) (old new : LiveState) : Type 0 where
   pub hears : HearsNext (listed x) old new
   pub rest : new ≡ record old { tx = new.tx; heard = new.heard }
   pub within : old.heard ≤ length (past old)
+  pub still : new.heard ≤ length (past new)
+
+-- A call was entered, or a reply was given from outside: the history went on, each reply among what was written is one of those that were given, and nobody heard of it.
+pub record Takes (given : List Given) (old new : LiveState) : Type 0 where
+  pub writes : Writes given old new
+  pub heard : new.heard ≡ old.heard
+  pub number : new.number ≡ old.number
+
+-- An event came, the objects heard it, and what they replied was written, or wasn't.
+pub record Turns {O : Type 0} (gives : O → Enlistment → Note → Option Reply → O → Type 0) (old new : LiveState) (before after : O) : Type 0 where
+  pub event : Event
+  pub replies : List Given
+  pub between : LiveState
+  pub comes : Advances (Some event) old between
+  pub hears : HearsNote gives (note_in event) before replies after
+  pub writes : Writes replies between new
+  pub rest : new ≡ record between { tx = new.tx }
+
+-- One move of a transaction and the objects: it goes on by itself, and nobody hears of it; a call or a reply comes from outside; or an event comes, and the objects hear it.
+abbrev pub Moves : {O : Type 0} → (O → Enlistment → Note → Option Reply → O → Type 0) → List Given → LiveState → LiveState → O → O → Type 0
+Moves gives given old new a b = (Advances None old new × (b ≡ a)) ⊎ ((Takes given old new × (b ≡ a)) ⊎ Turns gives old new a b)
+
+-- so many moves, one after the other
+abbrev pub MovesOn : {O : Type 0} → (O → Enlistment → Note → Option Reply → O → Type 0) → List Given → ℕ → LiveState → LiveState → O → O → Type 0
+MovesOn gives given zero old new a b = (new ≡ old) × (b ≡ a)
+MovesOn {O} gives given (suc n) old new a b = (mid : LiveState) × (m : O) × MovesOn gives given n old mid a m × Moves gives given mid new m b
 
 -- What a call makes of a transaction and the objects: its history went on; the objects heard the next entries that nobody had heard, in order, and nothing else; and each reply
--- that was written is one of theirs, or one that the call itself gave.
+-- that was written is one of theirs, or one that the call itself gave. It came to that move by move.
 pub record IsHeard {O : Type 0} (gives : O → Enlistment → Note → Option Reply → O → Type 0) (given : List Given) (old new : LiveState) (before after : O) : Type 0 where
   pub said : List Event
   pub replies : List Given
@@ -120,3 +148,5 @@ pub record IsHeard {O : Type 0} (gives : O → Enlistment → Note → Option Re
   pub next : HearsNext said old new
   pub writes : Writes (given ++ replies) old new
   pub number : new.number ≡ old.number
+  pub count : ℕ
+  pub moves : MovesOn gives given count old new before after

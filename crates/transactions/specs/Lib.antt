@@ -3,6 +3,7 @@ pub mod State
 pub mod Counting
 pub mod Calling
 pub mod Hearing
+pub mod Logged
 pub mod Keeping
 pub mod Numbering
 pub mod Recovering

@@ -9,7 +9,8 @@ use Rattle.coordinator_log.specs.State.{LogState}
 use Rattle.coordinator_log.specs.declared.refusal.LogRefusal.{LogRefusal}
 use Rattle.coordinator_log.specs.declared.refusal.LogRefusal.TheVariants.{Full, NoSuch as NoRecord, Memory as LogMemory}
 use Rattle.log_epochs.specs.Beginning.{AllAre, IsSameOrNext}
-use Rattle.log_epochs.specs.Epochs.{epoch_of}
+use Rattle.log_epochs.specs.Epochs.{epoch_of, is_epoch}
+use Rattle.transactions.specs.Logged.{KeepsRecord}
 use Rattle.outside.specs.Faults.{Rose}
 use Rattle.transactions.specs.declared.error.TxError.{TxError}
 use Rattle.transactions.specs.declared.error.TxError.TheVariants.{Many, Memory, LogFull, LogStopped, NoEpoch}
@@ -42,12 +43,13 @@ abbrev pub AreNone : {D : Type 0} → LogState D → ℕ → ℕ → List LiveSt
 AreNone log epoch after xs = (p : TxNo) → after < p.value → p.value ≤ length xs + 1 → IsTaken log epoch xs p.value
 
 -- What a begin may do to the log: it has the same records of transactions, and the same epoch or the next one; each image of an honest disk is one of before or has so too, where
--- the log was up; it is up only where it was, and no fault is taken back.
+-- the log was up; it is up only where it was, and no fault is taken back; and no transaction's record was touched.
 pub record NumbersLog {D : Type 0} (honest : Bool) (image : D → List ℕ → Type 0) (faults : D → ℕ) (from to : LogState D) : Type 0 where
   pub records : IsSameOrNext (open_records from.slots) (open_records to.slots)
   pub imaged : IsTrue honest → IsTrue from.is_up → (c : List ℕ) → image to.disk c → image from.disk c ⊎ IsOkAnd (log_has c) (IsSameOrNext (open_records from.slots))
   pub still : IsTrue to.is_up → IsTrue from.is_up
   pub grows : faults from.disk ≤ faults to.disk
+  pub untouched : IsTrue honest → (other : ℕ) → is_epoch other ≡ false → KeepsRecord image other from to
 
 -- why no epoch begins, where the log refused so
 abbrev pub number_refusal : LogRefusal → TxError

@@ -19,7 +19,6 @@ use Rattle.dtx_values.specs.declared.words.ScopeOption.TheVariants.{Required, Re
 use Rattle.dtx_values.specs.Entered.{transaction_in}
 use Rattle.dtx_model.specs.Scopes.{ambient, beneath, closing, entering, is_scope, with_complete}
 use Rattle.dtx_model.specs.Words.{has}
-use Rattle.coordinator_log.specs.State.{LogState}
 use Rattle.scope_context.specs.declared.refusal.ScopeRefusal.{ScopeRefusal}
 use Rattle.scope_context.specs.declared.refusal.ScopeRefusal.TheVariants.{TooDeep, IsolationDiffers, NoScope, AlreadyComplete, NestedWrongly}
 use Rattle.scope_context.specs.Standing.{Standing as Scopes}
@@ -35,7 +34,7 @@ use Rattle.transactions.specs.declared.handle.TransactionScope.{TransactionScope
 use Rattle.transactions.specs.Calling.{IsCalled}
 use Rattle.transactions.specs.Doing.{Goes, HeardAt, IsRefused}
 use Rattle.transactions.specs.Numbering.{MayNotBegin}
-use Rattle.transactions.specs.Slots.{AreSame, Standing as Manager, live_at, standing_at}
+use Rattle.transactions.specs.Slots.{AreSame, KeepsRest, Standing as Manager, live_at, standing_at}
 use Rattle.transactions.specs.State.{LiveState, blank}
 use Rattle.transactions.specs.Telling.{IsTold}
 
@@ -126,43 +125,48 @@ ended_by Nothing xs = None
 
 -- The rollback of a scope's transaction is never Ok. Where the transaction aborted, the call was entered and the objects heard what came of it, or the call was refused since it had
 -- aborted already. It is in doubt only where the call was refused.
-abbrev pub IsRolledBack : {D O : Type 0} → (D → ℕ) → LogState D → (O → Enlistment → Note → Option Reply → O → Type 0) → TxId → Result (Unit {0}) CommitError → List LiveState → List LiveState → O → O
-    → Type 0
-IsRolledBack faults log gives t (Ok x) old new a b = ⊥
-IsRolledBack faults log gives t (Err Aborted) old new a b = Goes faults log gives t (RollbackCall t.t) old new a b ⊎ IsRefused faults log t (RollbackCall t.t) (Ended AbortedOutcome) old new
-IsRolledBack faults log gives t (Err InDoubt) old new a b = ⊥
-IsRolledBack faults log gives t (Err _) old new a b = Unit {0}
+abbrev pub IsRolledBack : {D C O : Type 0} → (D → ℕ) → Bool → (D → List ℕ → Type 0) → (O → Enlistment → Note → Option Reply → O → Type 0) → TxId → Result (Unit {0}) CommitError → Manager D C
+    → Manager D C → O → O → Type 0
+IsRolledBack faults honest image gives t (Ok x) old new a b = ⊥
+IsRolledBack faults honest image gives t (Err Aborted) old new a b =
+    Goes faults honest image gives t (RollbackCall t.t) old new a b ⊎ IsRefused faults old.log t (RollbackCall t.t) (Ended AbortedOutcome) old.lives new.lives
+IsRolledBack faults honest image gives t (Err InDoubt) old new a b = ⊥
+IsRolledBack faults honest image gives t (Err _) old new a b = Unit {0}
 
 -- What closing a scope comes to. A transaction that it commits is told so as any commit; one that it rolls back isn't committed; and where it has nothing to do, nothing is done.
-abbrev pub Settles : {D O : Type 0} → (D → ℕ) → LogState D → (O → Enlistment → Note → Option Reply → O → Type 0) → Closed → Result (Unit {0}) CommitError → List LiveState → List LiveState → O → O
-    → Type 0
-Settles faults log gives (Commit p) r old new a b = IsTold r (live_at (standing_at p old) new) × HeardAt gives [] (standing_at p old) old new a b
-Settles faults log gives (Rollback p) r old new a b = IsRolledBack faults log gives (standing_at p old) r old new a b × HeardAt gives [] (standing_at p old) old new a b
-Settles faults log gives Nothing r old new a b = (r ≡ Ok tt) × (new ≡ old) × (b ≡ a)
+abbrev pub Settles : {D C O : Type 0} → (D → ℕ) → Bool → (D → List ℕ → Type 0) → (O → Enlistment → Note → Option Reply → O → Type 0) → Closed → Result (Unit {0}) CommitError → Manager D C
+    → Manager D C → O → O → Type 0
+Settles faults honest image gives (Commit p) r old new a b =
+    IsTold r (live_at (standing_at p old.lives) new.lives) × HeardAt honest image gives [] (standing_at p old.lives) old new a b
+Settles faults honest image gives (Rollback p) r old new a b =
+    IsRolledBack faults honest image gives (standing_at p old.lives) r old new a b × HeardAt honest image gives [] (standing_at p old.lives) old new a b
+Settles faults honest image gives Nothing r old new a b = (r ≡ Ok tt) × (new ≡ old) × (b ≡ a)
 
 -- The same, before the holder of the scope left the transaction that it made, which is then swept where it is over.
-pub record SettlesBefore {D O : Type 0} (faults : D → ℕ) (log : LogState D) (gives : O → Enlistment → Note → Option Reply → O → Type 0) (s : TransactionScope) (c : Closed)
-    (r : Result (Unit {0}) CommitError) (old new : List LiveState) (a b : O) : Type 0 where
-  pub mid : List LiveState
-  pub settled : Settles faults log gives c r old mid a b
-  pub others : AreSameBut (ended_by c old) old mid
-  pub left : AreSameBut (made_in s) mid new
+pub record SettlesBefore {D C O : Type 0} (faults : D → ℕ) (honest : Bool) (image : D → List ℕ → Type 0) (gives : O → Enlistment → Note → Option Reply → O → Type 0) (s : TransactionScope)
+    (c : Closed) (r : Result (Unit {0}) CommitError) (old new : Manager D C) (a b : O) : Type 0 where
+  pub mid : Manager D C
+  pub settled : Settles faults honest image gives c r old mid a b
+  pub others : AreSameBut (ended_by c old.lives) old.lives mid.lives
+  pub left : AreSameBut (made_in s) mid.lives new.lives
+  pub rest : KeepsRest mid new
 
 -- A scope whose work is done was completed and disposed, and that was Ok: it was open, not complete yet and the innermost one; what it made was committed; and those beneath it are open.
-pub record Finishes {D C O : Type 0} (faults : D → ℕ) (gives : O → Enlistment → Note → Option Reply → O → Type 0) (s : TransactionScope) (old new : Manager D C) (a b : List OpenScope)
-    (before after : O) : Type 0 where
+pub record Finishes {D C O : Type 0} (faults : D → ℕ) (honest : Bool) (image : D → List ℕ → Type 0) (gives : O → Enlistment → Note → Option Reply → O → Type 0) (s : TransactionScope)
+    (old new : Manager D C) (a b : List OpenScope) (before after : O) : Type 0 where
   pub may_complete : complete_refusal s.scope a ≡ None
   pub innermost : is_top s.scope.value (with_complete s.scope.value a) ≡ true
-  pub settles : SettlesBefore faults old.log gives s (closing (with_complete s.scope.value a)) (Ok tt) old.lives new.lives before after
+  pub settles : SettlesBefore faults honest image gives s (closing (with_complete s.scope.value a)) (Ok tt) old new before after
   pub left : b ≡ beneath s.scope.value (with_complete s.scope.value a)
 
 -- A scope whose work failed was disposed as it was, whatever that came to: where it is the innermost one and isn't complete, its transaction is rolled back.
-abbrev pub Fails : {D C O : Type 0} → (D → ℕ) → (O → Enlistment → Note → Option Reply → O → Type 0) → TransactionScope → Manager D C → Manager D C → List OpenScope → O → O → Type 0
-Fails faults gives s old new a before after =
-    is_top s.scope.value a ≡ true → (r : Result (Unit {0}) CommitError) × SettlesBefore faults old.log gives s (closing a) r old.lives new.lives before after
+abbrev pub Fails : {D C O : Type 0} → (D → ℕ) → Bool → (D → List ℕ → Type 0) → (O → Enlistment → Note → Option Reply → O → Type 0) → TransactionScope → Manager D C → Manager D C
+    → List OpenScope → O → O → Type 0
+Fails faults honest image gives s old new a before after =
+    is_top s.scope.value a ≡ true → (r : Result (Unit {0}) CommitError) × SettlesBefore faults honest image gives s (closing a) r old new before after
 
 -- Work was done in a scope, and it was Ok: the scope was opened, the work was done in it, and the scope was completed and disposed.
-pub record WorksIn {D C O T : Type 0} (faults : D → ℕ) (gives : O → Enlistment → Note → Option Reply → O → Type 0)
+pub record WorksIn {D C O T : Type 0} (faults : D → ℕ) (honest : Bool) (image : D → List ℕ → Type 0) (gives : O → Enlistment → Note → Option Reply → O → Type 0)
     (does : Manager D C → Scopes → TransactionScope → O → Result T CommitError → Manager D C → Scopes → O → Type 0) (k : ScopeOption) (timeout : Timeout) (iso : Iso) (x : T)
     (old new : Manager D C) (a b : Scopes) (before after : O) : Type 0 where
   pub scope : TransactionScope
@@ -175,4 +179,4 @@ pub record WorksIn {D C O T : Type 0} (faults : D → ℕ) (gives : O → Enlist
   pub begins : BeginsWhere faults timeout (made_in scope) old opened
   pub others : AreSameBut (made_in scope) old.lives opened.lives
   pub does_it : does opened within scope before (Ok x) worked left objects
-  pub finishes : Finishes faults gives scope worked new left.scopes b.scopes objects after
+  pub finishes : Finishes faults honest image gives scope worked new left.scopes b.scopes objects after

@@ -1,8 +1,9 @@
 -- What the time and a turn of the manager make of its transactions.
-use Rattle.std.specs.Prelude.{ℕ, zero, suc, ◌≡◌, ◌⊎◌, ◌+◌, ◌-◌, ◌^◌, List, [], Option, Some, None, length}
+use Rattle.std.specs.Prelude.{ℕ, zero, suc, ◌≡◌, ◌⊎◌, ◌+◌, ◌-◌, ◌^◌, Bool, List, [], Option, Some, None, length}
 use Rattle.dtx_values.specs.declared.note.Note.{Note}
 use Rattle.dtx_values.specs.declared.note.Reply.{Reply}
 use Rattle.dtx_values.specs.declared.number.TxNo.{TxNo}
+use Rattle.dtx_values.specs.TxIds.{identifier_of_id}
 use Rattle.dtx_values.specs.declared.tx_id.TxId.{TxId}
 use Rattle.coordinator_log.specs.State.{LogState}
 use Rattle.transactions.specs.declared.error.TxError.{TxError}
@@ -12,6 +13,7 @@ use Rattle.transactions.specs.declared.usage.Usage.TheVariants.{Left}
 use Rattle.transactions.specs.Calling.{Ticks}
 use Rattle.transactions.specs.Ending.{IsOver}
 use Rattle.transactions.specs.Hearing.{IsHeard}
+use Rattle.transactions.specs.Logged.{KeepsRecords}
 use Rattle.transactions.specs.Slots.{AreSame, KeepsTime, Standing, live_at, standing_at}
 use Rattle.transactions.specs.State.{LiveState, past}
 use Rattle.transactions.specs.Waiting.{AllAsked}
@@ -25,40 +27,42 @@ abbrev pub TickFails : TxId → List LiveState → TxError → Type 0
 TickFails t old e = (e ≡ Memory) ⊎ ((e ≡ Many) × (x : LiveState) × (live_at t old ≡ Some x) × (x.lines ≡ 2 ^ 32 - 1))
 
 -- A turn of the transaction x: its time went on to the greatest reading of the clock; the objects heard all that came of it then, until it goes on only by a call, a reply or the time;
--- and so it goes on, or it is over, nobody held it, and it was taken off.
-pub record HadTurn {D C O : Type 0} (faults : D → ℕ) (gives : O → Enlistment → Note → Option Reply → O → Type 0) (t : TxId) (x : LiveState) (old new : Standing D C) (before after : O) : Type 0 where
+-- no other's record of the log was touched; and so it goes on, or it is over, nobody held it, and it was taken off.
+pub record HadTurn {D C O : Type 0} (faults : D → ℕ) (honest : Bool) (image : D → List ℕ → Type 0) (gives : O → Enlistment → Note → Option Reply → O → Type 0) (t : TxId) (x : LiveState) (old new : Standing D C) (before after : O) : Type 0 where
   pub passed : LiveState
   pub done : LiveState
   pub ticked : Ticks faults old.log old.reading x passed
   pub heard : IsHeard gives [] passed done before after
   pub all : (done.heard ≡ length (past done)) × AllAsked done.tx.world
+  pub logged : KeepsRecords honest image (identifier_of_id t) old.log new.log
   pub ended : (live_at t new.lives ≡ Some done) ⊎ ((live_at t new.lives ≡ None) × IsOver done × (done.usage ≡ Left))
 
 -- Where a transaction of this number goes on, it had a turn. Where none does, nothing was done.
-abbrev pub Turned : {D C O : Type 0} → (D → ℕ) → (O → Enlistment → Note → Option Reply → O → Type 0) → TxId → Standing D C → Standing D C → O → O → Type 0
-Turned faults gives t old new a b = ((x : LiveState) → live_at t old.lives ≡ Some x → HadTurn faults gives t x old new a b) × (live_at t old.lives ≡ None → (new ≡ old) × (b ≡ a))
+abbrev pub Turned : {D C O : Type 0} → (D → ℕ) → Bool → (D → List ℕ → Type 0) → (O → Enlistment → Note → Option Reply → O → Type 0) → TxId → Standing D C → Standing D C → O → O → Type 0
+Turned faults honest image gives t old new a b = ((x : LiveState) → live_at t old.lives ≡ Some x → HadTurn faults honest image gives t x old new a b) × (live_at t old.lives ≡ None → (new ≡ old) × (b ≡ a))
 
--- A turn of the transaction x that failed: its time went on, and the objects heard what came of it until then; so it goes on.
-pub record HadPart {D C O : Type 0} (faults : D → ℕ) (gives : O → Enlistment → Note → Option Reply → O → Type 0) (t : TxId) (x : LiveState) (old new : Standing D C) (before after : O) : Type 0 where
+-- A turn of the transaction x that failed: its time went on, and the objects heard what came of it until then, while no other's record of the log was touched; so it goes on.
+pub record HadPart {D C O : Type 0} (faults : D → ℕ) (honest : Bool) (image : D → List ℕ → Type 0) (gives : O → Enlistment → Note → Option Reply → O → Type 0) (t : TxId) (x : LiveState) (old new : Standing D C) (before after : O) : Type 0 where
   pub passed : LiveState
   pub done : LiveState
   pub ticked : Ticks faults old.log old.reading x passed
   pub heard : IsHeard gives [] passed done before after
   pub on : live_at t new.lives ≡ Some done
+  pub logged : KeepsRecords honest image (identifier_of_id t) old.log new.log
 
--- The turn of the transaction of this number failed: it is as it was, and nothing was heard; or a part was done.
-abbrev pub Stopped : {D C O : Type 0} → (D → ℕ) → (O → Enlistment → Note → Option Reply → O → Type 0) → TxId → Standing D C → Standing D C → O → O → Type 0
-Stopped faults gives t old new a b = (x : LiveState) × (live_at t old.lives ≡ Some x) × (((live_at t new.lives ≡ Some x) × (b ≡ a)) ⊎ HadPart faults gives t x old new a b)
+-- The turn of the transaction of this number failed: it is as it was, as the log is, and nothing was heard; or a part was done.
+abbrev pub Stopped : {D C O : Type 0} → (D → ℕ) → Bool → (D → List ℕ → Type 0) → (O → Enlistment → Note → Option Reply → O → Type 0) → TxId → Standing D C → Standing D C → O → O → Type 0
+Stopped faults honest image gives t old new a b = (x : LiveState) × (live_at t old.lives ≡ Some x) × (((live_at t new.lives ≡ Some x) × (new.log ≡ old.log) × (b ≡ a)) ⊎ HadPart faults honest image gives t x old new a b)
 
 -- The transactions of the places from 1 up to this one had a turn each, one after the other, while all others and the time stood.
-abbrev pub TurnedUpTo : {D C O : Type 0} → (D → ℕ) → (O → Enlistment → Note → Option Reply → O → Type 0) → ℕ → Standing D C → Standing D C → O → O → Type 0
-TurnedUpTo faults gives zero old new a b = (new ≡ old) × (b ≡ a)
-TurnedUpTo {D} {C} {O} faults gives (suc n) old new a b =
-    (p : TxNo) × (mid : Standing D C) × (m : O) × (p.value ≡ n + 1) × TurnedUpTo faults gives n old mid a m
-    × Turned faults gives (standing_at p mid.lives) mid new m b × AreSame (standing_at p mid.lives) mid.lives new.lives × KeepsTime mid new
+abbrev pub TurnedUpTo : {D C O : Type 0} → (D → ℕ) → Bool → (D → List ℕ → Type 0) → (O → Enlistment → Note → Option Reply → O → Type 0) → ℕ → Standing D C → Standing D C → O → O → Type 0
+TurnedUpTo faults honest image gives zero old new a b = (new ≡ old) × (b ≡ a)
+TurnedUpTo {D} {C} {O} faults honest image gives (suc n) old new a b =
+    (p : TxNo) × (mid : Standing D C) × (m : O) × (p.value ≡ n + 1) × TurnedUpTo faults honest image gives n old mid a m
+    × Turned faults honest image gives (standing_at p mid.lives) mid new m b × AreSame (standing_at p mid.lives) mid.lives new.lives × KeepsTime mid new
 
 -- The transactions up to some place had a turn each, and the turn of the next one failed.
-abbrev pub StoppedAfter : {D C O : Type 0} → (D → ℕ) → (O → Enlistment → Note → Option Reply → O → Type 0) → Standing D C → Standing D C → O → O → Type 0
-StoppedAfter {D} {C} {O} faults gives old new a b =
-    (n : ℕ) × (p : TxNo) × (mid : Standing D C) × (m : O) × (p.value ≡ n + 1) × TurnedUpTo faults gives n old mid a m
-    × Stopped faults gives (standing_at p mid.lives) mid new m b × AreSame (standing_at p mid.lives) mid.lives new.lives × KeepsTime mid new
+abbrev pub StoppedAfter : {D C O : Type 0} → (D → ℕ) → Bool → (D → List ℕ → Type 0) → (O → Enlistment → Note → Option Reply → O → Type 0) → Standing D C → Standing D C → O → O → Type 0
+StoppedAfter {D} {C} {O} faults honest image gives old new a b =
+    (n : ℕ) × (p : TxNo) × (mid : Standing D C) × (m : O) × (p.value ≡ n + 1) × TurnedUpTo faults honest image gives n old mid a m
+    × Stopped faults honest image gives (standing_at p mid.lives) mid new m b × AreSame (standing_at p mid.lives) mid.lives new.lives × KeepsTime mid new

@@ -1,8 +1,9 @@
 //! One transaction that goes on.
-ghost use Rattle.std.specs.Prelude.{ℕ, ◌≡◌, ◌≢◌, ◌⊎◌, ◌≤◌, ◌<◌, ◌+◌, ◌-◌, ◌^◌, ◌↔◌, ◌∷◌, List, [], Option, Some, None, Ok, Err, IfOk, IfErr, OnOk, OnErr, IfSome, IsTrue, true, false, is_some, length, filter};
+ghost use Rattle.std.specs.Prelude.{ℕ, ◌≡◌, ◌≢◌, ◌⊎◌, ◌≤◌, ◌<◌, ◌+◌, ◌-◌, ◌^◌, ◌↔◌, ◌∷◌, List, [], Option, Some, None, Ok, Err, IfOk, IfErr, OnOk, OnErr, IfSome, IsFalse, IsTrue, true, false, is_some, length, filter};
+ghost use Rattle.dtx_values.specs.TxIds.{number_of};
 ghost use Rattle.dtx_values.specs.declared.entry.Answer.{Answer};
 ghost use Rattle.dtx_values.specs.declared.entry.Entry.TheVariants.{Answered};
-ghost use Rattle.dtx_model.specs.Caused.{made_by};
+ghost use Rattle.dtx_model.specs.Caused.{AreMadeOnce, IsIn, IsOwnRun, made_by};
 ghost use Rattle.dtx_model.specs.Entries.{is_commit};
 ghost use Rattle.dtx_model.specs.Grammar.{OfClone, OfEnlistment};
 ghost use Rattle.dtx_model.specs.Log.{CommitRecord};
@@ -10,13 +11,14 @@ ghost use Rattle.dtx_model.specs.Outcome.{agree, justified};
 ghost use Rattle.dtx_model.specs.Learned.{Learned};
 ghost use Rattle.dtx_model.specs.Steps.{Calls, Replies, pending};
 ghost use Rattle.dtx_model.specs.Words.{has, kth};
-ghost use Rattle.dtx_model.specs.World.{half};
+ghost use Rattle.dtx_model.specs.World.{core, half};
 ghost use Rattle.coordinator_log.specs.Slots.{open_records};
-ghost use Rattle.tx_world.specs.AtLog.{Fits};
+ghost use Rattle.tx_world.specs.AtLog.{Fits, IsOurs, id_of, kept_of};
 ghost use Rattle.tx_world.specs.Leaves.{Leaves};
 ghost use Rattle.tx_world.specs.OwnCalls.{status_of};
 ghost use Rattle.tx_world.specs.State.{is_maker};
 ghost use Rattle.tx_world.specs.Stepping.{Does, reply_in};
+ghost use Rattle.tx_world.specs.Tried.{IsTried};
 ghost use Rattle.transactions.specs.Calling.{IsCalled, Ticks};
 ghost use Rattle.transactions.specs.Answered.{Has, is_answer_to};
 ghost use Rattle.transactions.specs.Counting.{is_given, is_plain};
@@ -250,6 +252,7 @@ impl Live {
         ensures all { result ≡ None → self.new.heard ≡ length (past self.new) }
         ensures rest { self.new ≡ record self.old { heard = self.new.heard } }
         ensures within { self.old.heard ≤ length (past self.old) }
+        ensures still { self.new.heard ≤ length (past self.new) }
     {
         let history = self.world.history();
         let mut next = self.heard;
@@ -288,6 +291,7 @@ impl Live {
         ensures leaves { Leaves D.honest D.image D.faults self.old.tx log.old self.new.tx log.new }
         ensures none { result ≡ Ok false → (self.new ≡ self.old) × AllAsked self.new.tx.world }
         ensures still { result ≡ Ok false → log.new ≡ log.old }
+        ensures down { IsFalse log.old.is_up → log.new ≡ log.old }
         ensures memory { IfErr result (λ e. (e ≡ TxError.Memory) × (self.new ≡ self.old)) }
     {
         let Some(k) = self.place() else {
@@ -315,6 +319,7 @@ impl Live {
         ensures heard { IfOk result (λ x. x ≢ Did → log.new ≡ log.old) }
         ensures idle { result ≡ Ok Idle → (self.new.heard ≡ length (past self.new)) × AllAsked self.new.tx.world }
         ensures leaves { Leaves D.honest D.image D.faults self.old.tx log.old self.new.tx log.new }
+        ensures down { IsFalse log.old.is_up → log.new ≡ log.old }
         ensures memory { IfErr result (λ e. e ≡ TxError.Memory) }
     {
         if let Some(event) = self.hear() {
@@ -470,6 +475,18 @@ impl Live {
         ensures learned { Learned (past self.now) }
     {
         own_outcome();
+        stops();
+        self.world.is_own_run();
+    }
+
+    /// What holds of it and of what it keeps of the log, whatever its disk did. It does nothing when it runs.
+    pub fn has_run(&self)
+        ensures sound { IsSound self.now }
+        ensures run { IsOwnRun (number_of self.now.tx.transaction) self.now.tx.world }
+        ensures once { AreMadeOnce (IsIn self.now.tx.world.calls) }
+        ensures ours { IsOurs (id_of self.now.tx) (core self.now.tx.world) (kept_of self.now.tx) }
+        ensures tried { IsTried (past self.now) (kept_of self.now.tx) }
+    {
         stops();
         self.world.is_own_run();
     }

@@ -1,6 +1,7 @@
 //! The transaction manager of one program.
 ghost use Rattle.std.specs.Prelude.{ℕ, ◌≡◌, ◌≢◌, ◌⊎◌, ◌≤◌, ◌<◌, ◌+◌, ◌-◌, ◌^◌, ◌∷◌, List, [], Option, Some, None, Ok, Err, IfOk, IfErr, OnOk, OnErr, IfSome, IsTrue, true, false, is_some, length, slice_get};
 ghost use Rattle.std.specs.Option.{option_map};
+ghost use Rattle.dtx_values.specs.TxIds.{identifier_of_id};
 ghost use Rattle.dtx_values.specs.declared.entry.Answer.TheVariants.{NoSuch};
 ghost use Rattle.dtx_model.specs.Caused.{made_by};
 ghost use Rattle.dtx_model.specs.Learned.{Learned};
@@ -10,6 +11,8 @@ ghost use Rattle.tx_world.specs.OwnCalls.{status_of};
 ghost use Rattle.transactions.specs.Counting.{is_plain};
 ghost use Rattle.transactions.specs.Doing.{AdvancesAt, CallsAt, Enters, MayFail, is_done};
 ghost use Rattle.transactions.specs.Hearing.{Advances, heard_in};
+ghost use Rattle.transactions.specs.Keeping.{HasRun};
+ghost use Rattle.transactions.specs.Logged.{KeepsRecords};
 ghost use Rattle.transactions.specs.Slots.{AreSame, KeepsRest, KeepsTime, live_at, standing_at};
 ghost use Rattle.transactions.specs.State.{LiveState, past};
 ghost use Rattle.transactions.specs.Waiting.{AllAsked};
@@ -184,6 +187,7 @@ impl<D: Disk + Drop, C: Clock + Drop> TransactionManager<D, C> {
         ensures comes { IfOk result (λ e. AdvancesAt e tx.now.number self.old.lives self.new.lives) }
         ensures stays { OnErr result (AdvancesAt None tx.now.number self.old.lives self.new.lives) }
         ensures all { result ≡ Ok None → (y : LiveState) → live_at tx.now.number self.new.lives ≡ Some y → (y.heard ≡ length (past y)) × AllAsked y.tx.world }
+        ensures logged { KeepsRecords D.honest D.image (identifier_of_id tx.now.number) self.old.log self.new.log }
         ensures others { AreSame tx.now.number self.old.lives self.new.lives }
         ensures time { KeepsTime self.old self.new }
         ensures cause { IfErr result (λ e. (e ≡ TxError.Memory) ⊎ ((e ≡ TxError.Refused NoSuch) × (live_at tx.now.number self.old.lives ≡ None))) }
@@ -195,6 +199,7 @@ impl<D: Disk + Drop, C: Clock + Drop> TransactionManager<D, C> {
         ensures comes { IfOk result (λ e. AdvancesAt e t self.old.lives self.new.lives) }
         ensures stays { OnErr result (AdvancesAt None t self.old.lives self.new.lives) }
         ensures all { result ≡ Ok None → (y : LiveState) → live_at t self.new.lives ≡ Some y → (y.heard ≡ length (past y)) × AllAsked y.tx.world }
+        ensures logged { KeepsRecords D.honest D.image (identifier_of_id t) self.old.log self.new.log }
         ensures others { AreSame t self.old.lives self.new.lives }
         ensures time { KeepsTime self.old self.new }
         ensures cause { IfErr result (λ e. (e ≡ TxError.Memory) ⊎ ((e ≡ TxError.Refused NoSuch) × (live_at t self.old.lives ≡ None))) }
@@ -222,6 +227,7 @@ impl<D: Disk + Drop, C: Clock + Drop> TransactionManager<D, C> {
         ensures stays { OnErr result (AdvancesAt None t self.old.lives self.new.lives) }
         ensures heard { IfOk result (λ x. x ≢ Did → self.new.log ≡ self.old.log) }
         ensures idle { result ≡ Ok Idle → (y : LiveState) → live_at t self.new.lives ≡ Some y → (y.heard ≡ length (past y)) × AllAsked y.tx.world }
+        ensures logged { KeepsRecords D.honest D.image (identifier_of_id t) self.old.log self.new.log }
         ensures others { AreSame t self.old.lives self.new.lives }
         ensures time { KeepsTime self.old self.new }
         ensures cause { IfErr result (λ e. (e ≡ TxError.Memory) ⊎ ((e ≡ TxError.Refused NoSuch) × (live_at t self.old.lives ≡ None))) }
@@ -247,6 +253,16 @@ impl<D: Disk + Drop, C: Clock + Drop> TransactionManager<D, C> {
     {
         if let Some(live) = self.live(tx.number) {
             live.is_lawful();
+        }
+    }
+
+    /// What holds of a transaction and of the log's records of it, whatever its disk did. It does nothing when it runs; a caller's proof asks for it.
+    pub fn has_run(&self, tx: &CommittableTransaction)
+        ensures { (x : LiveState) → live_at tx.now.number self.now.lives ≡ Some x → HasRun D.honest D.image self.now.log x }
+    {
+        let _ = &self.given;
+        if let Some(live) = self.live(tx.number) {
+            live.has_run();
         }
     }
 }

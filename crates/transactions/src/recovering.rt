@@ -123,6 +123,7 @@ fn free_one<D: Disk>(
     ensures still { result ≡ Ok None → log.new ≡ log.old }
     ensures nothing { NoneIsFound desk.now lives.now (open_records log.old.slots) → (result ≡ Ok None) × (log.new ≡ log.old) }
     ensures images { IsTrue D.honest → AllAre (D.image log.new.disk) (OnlyFrees desk.now lives.now (open_records log.old.slots)) }
+    ensures left { IsTrue D.honest → AllAre (D.image log.new.disk) (OnlyFrees desk.now lives.now (open_records log.new.slots)) }
     ensures up { OnOk result (IsTrue log.new.is_up) }
     ensures stopped { OnErr result (IsFalse log.new.is_up) }
     ensures cause { OnErr result (log.old.armed ≡ None → Rose (D.faults log.old.disk) (D.faults log.new.disk)) }
@@ -152,6 +153,7 @@ fn free_all<D: Disk>(
     requires room { length (open_records log.old.slots) ≤ vec_capacity freed.old }
     ensures frees { FreesLog D.honest D.image D.faults desk.now lives.now log.old log.new result }
     ensures listed { OnOk result (open_records log.new.slots ≡ without_each freed.new.items (open_records log.old.slots)) }
+    ensures left { IsTrue D.honest → AllAre (D.image log.new.disk) (OnlyFrees desk.now lives.now (open_records log.new.slots)) }
     ensures unarmed { log.old.armed ≡ None → log.new.armed ≡ None }
 {
     while let Some(id) = free_one(log, lives, desk)? {
@@ -181,6 +183,7 @@ pub(crate) fn free_recovered<D: Disk>(
     requires room { length (open_records log.old.slots) ≤ vec_capacity freed.old }
     ensures frees { FreesLog D.honest D.image D.faults desk.now lives.now log.old log.new result }
     ensures listed { OnOk result (open_records log.new.slots ≡ without_each freed.new.items (open_records log.old.slots)) }
+    ensures left { IsTrue D.honest → IsTrue log.old.is_up → AllAre (D.image log.new.disk) (OnlyFrees desk.now lives.now (open_records log.new.slots)) }
     ensures unarmed { log.old.armed ≡ None → log.new.armed ≡ None }
 {
     if log.is_up() {

@@ -10,7 +10,7 @@ ghost use Rattle.dtx_model.specs.Promotes.{identifier_of};
 ghost use Rattle.coordinator_log.specs.Slots.{open_records};
 ghost use Rattle.log_epochs.specs.Epochs.{epoch_of};
 ghost use Rattle.transactions.specs.Calling.{IsCalled};
-ghost use Rattle.tx_world.specs.AtLog.{Fits};
+ghost use Rattle.tx_world.specs.AtLog.{AreFit, Fits};
 ghost use Rattle.transactions.specs.Numbering.{AreFrom, AreNone, IsRecorded, MayNotBegin, MayNotNumber, NumbersLog, last_in};
 ghost use Rattle.transactions.specs.Slots.{AreSame, KeepsRest, KeepsTime, is_live, is_vacant, live_at};
 ghost use Rattle.transactions.specs.State.{LiveState, blank};
@@ -140,9 +140,11 @@ impl<D: Disk + Drop, C: Clock + Drop> TransactionManager<D, C> {
 
     /// A transaction of this number, whose begin is entered.
     fn begun(&mut self, t: TxId, timeout: Timeout) -> Result<Live, TxError>
-        requires { first_of (identifier_of (number_of t)) (open_records self.old.log.slots) ≡ None }
+        requires unrecorded { first_of (identifier_of (number_of t)) (open_records self.old.log.slots) ≡ None }
+        requires above { self.old.last < number_of t }
         ensures begun { IfOk result (λ y. IsCalled D.faults self.old.log (Begin t.t timeout) 1 Fine (blank t self.old.reading) y) }
         ensures fits { IfOk result (λ y. Fits y.tx (open_records self.old.log.slots)) }
+        ensures imaged { IsTrue D.honest → IfOk result (λ y. AreFit (D.image self.old.log.disk) (Fits y.tx)) }
         ensures kept { self.new ≡ self.old }
         ensures memory { IfErr result (λ e. e ≡ TxError.Memory) }
     {
@@ -158,38 +160,37 @@ impl<D: Disk + Drop, C: Clock + Drop> TransactionManager<D, C> {
         Ok(live)
     }
 
-    /// Puts a transaction that begins at its place.
+    /// Puts a transaction that begins at its place: its number is the last that was given.
     fn put(&mut self, t: TxId, live: Live) -> Result<(), TxError>
         requires live { is_live t live ≡ true }
         requires free { is_vacant (slice_get self.old.lives (t.t.value - 1)) ≡ true }
         requires within { t.t.value ≤ length self.old.lives + 1 }
         requires fits { Fits live.tx (open_records self.old.log.slots) }
+        requires imaged { IsTrue D.honest → AreFit (D.image self.old.log.disk) (Fits live.tx) }
+        requires above { self.old.last < number_of t }
+        requires recorded { IsRecorded D.honest D.image self.old.log (number_of t) }
         ensures now { OnOk result (live_at t self.new.lives ≡ Some live) }
         ensures others { OnOk result (AreSame t self.old.lives self.new.lives) }
+        ensures last { OnOk result (self.new.last ≡ number_of t) }
         ensures refused { OnErr result (self.new ≡ self.old) }
-        ensures rest { KeepsRest self.old self.new }
+        ensures rest { self.new ≡ record self.old { lives = self.new.lives; last = self.new.last } }
         ensures memory { IfErr result (λ e. e ≡ TxError.Memory) }
     {
         live.is_sound();
         let i = index(t);
         if i < self.lives.len() {
             self.lives[i] = live;
+            self.epoch = t.epoch();
+            self.given = t.t().get();
             return Ok(());
         }
         match self.lives.push(live) {
             Ok(()) => {}
             Err(_) => return Err(TxError::Memory),
         }
-        Ok(())
-    }
-
-    /// This number is the last that was given.
-    fn give(&mut self, t: TxId)
-        requires { IsRecorded D.honest D.image self.old.log (number_of t) }
-        ensures { self.new ≡ record self.old { last = number_of t } }
-    {
         self.epoch = t.epoch();
         self.given = t.t().get();
+        Ok(())
     }
 
     /// Begins a transaction, under a number for good that is above all that were given before, by this process or by an earlier one over the log.
@@ -232,6 +233,7 @@ impl<D: Disk + Drop, C: Clock + Drop> TransactionManager<D, C> {
         requires within { t.t.value ≤ length self.old.lives + 1 }
         requires unrecorded { first_of (identifier_of (number_of t)) (open_records self.old.log.slots) ≡ None }
         requires recorded { IsRecorded D.honest D.image self.old.log (number_of t) }
+        requires above { self.old.last < number_of t }
         ensures number { IfOk result (λ tx. tx.number ≡ t) }
         ensures fresh { live_at t self.old.lives ≡ None }
         ensures begun { OnOk result ((y : LiveState) × (live_at t self.new.lives ≡ Some y) × IsCalled D.faults self.old.log (Begin t.t timeout) 1 Fine (blank t self.old.reading) y) }
@@ -248,7 +250,6 @@ impl<D: Disk + Drop, C: Clock + Drop> TransactionManager<D, C> {
         if let Err(e) = self.put(t, live) {
             return Err(e);
         }
-        self.give(t);
         Ok(CommittableTransaction { number: t })
     }
 

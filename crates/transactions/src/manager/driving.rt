@@ -93,7 +93,7 @@ impl<D: Disk + Drop, C: Clock + Drop> TransactionManager<D, C> {
 
     /// Does what is pending in a transaction: the objects hear what its history says to their enlistments, and their replies are given.
     pub(super) fn drive<O: ResourceManager>(&mut self, t: TxId, o: &mut O) -> Result<(), TxError>
-        ensures heard { HeardAt O.gives [] t self.old.lives self.new.lives o.old o.new }
+        ensures heard { HeardAt D.honest D.image O.gives [] t self.old self.new o.old o.new }
         ensures nobody { live_at t self.old.lives ≡ None → (live_at t self.new.lives ≡ None) × (o.new ≡ o.old) }
         ensures all { OnOk result ((z : LiveState) → live_at t self.new.lives ≡ Some z → (z.heard ≡ length (past z)) × AllAsked z.tx.world) }
         ensures others { AreSame t self.old.lives self.new.lives }
@@ -164,7 +164,7 @@ impl<D: Disk + Drop, C: Clock + Drop> TransactionManager<D, C> {
         o: &mut O,
     ) -> Result<(), CommitError>
         ensures told { IsTold result (live_at tx.now.number self.new.lives) }
-        ensures heard { HeardAt O.gives [] tx.now.number self.old.lives self.new.lives o.old o.new }
+        ensures heard { HeardAt D.honest D.image O.gives [] tx.now.number self.old self.new o.old o.new }
         ensures refused { (a : Answer) → result ≡ Err (CommitError.Refused a) → ((a ≡ NoSuch) × (live_at tx.now.number self.old.lives ≡ None)) ⊎ IsRefused D.faults self.old.log tx.now.number (CommitCall tx.now.number.t) a self.old.lives self.new.lives }
         ensures others { AreSame tx.now.number self.old.lives self.new.lives }
         ensures time { KeepsTime self.old self.new }
@@ -206,8 +206,8 @@ impl<D: Disk + Drop, C: Clock + Drop> TransactionManager<D, C> {
     ) -> Result<(), TxError>
         requires plain { is_plain c.now ≡ true }
         requires makes { made_by c.now ≡ None }
-        ensures goes { OnOk result (Goes D.faults self.old.log O.gives t c.now self.old.lives self.new.lives o.old o.new) }
-        ensures heard { HeardAt O.gives [] t self.old.lives self.new.lives o.old o.new }
+        ensures goes { OnOk result (Goes D.faults D.honest D.image O.gives t c.now self.old self.new o.old o.new) }
+        ensures heard { HeardAt D.honest D.image O.gives [] t self.old self.new o.old o.new }
         ensures refused { (a : Answer) → result ≡ Err (TxError.Refused a) → ((a ≡ NoSuch) × (live_at t self.old.lives ≡ None)) ⊎ IsRefused D.faults self.old.log t c.now a self.old.lives self.new.lives }
         ensures others { AreSame t self.old.lives self.new.lives }
         ensures time { KeepsTime self.old self.new }
@@ -228,8 +228,8 @@ impl<D: Disk + Drop, C: Clock + Drop> TransactionManager<D, C> {
         tx: &CommittableTransaction,
         o: &mut O,
     ) -> Result<(), TxError>
-        ensures goes { OnOk result (Goes D.faults self.old.log O.gives tx.now.number (RollbackCall tx.now.number.t) self.old.lives self.new.lives o.old o.new) }
-        ensures heard { HeardAt O.gives [] tx.now.number self.old.lives self.new.lives o.old o.new }
+        ensures goes { OnOk result (Goes D.faults D.honest D.image O.gives tx.now.number (RollbackCall tx.now.number.t) self.old self.new o.old o.new) }
+        ensures heard { HeardAt D.honest D.image O.gives [] tx.now.number self.old self.new o.old o.new }
         ensures refused { (a : Answer) → result ≡ Err (TxError.Refused a) → ((a ≡ NoSuch) × (live_at tx.now.number self.old.lives ≡ None)) ⊎ IsRefused D.faults self.old.log tx.now.number (RollbackCall tx.now.number.t) a self.old.lives self.new.lives }
         ensures others { AreSame tx.now.number self.old.lives self.new.lives }
         ensures time { KeepsTime self.old self.new }
@@ -252,7 +252,7 @@ impl<D: Disk + Drop, C: Clock + Drop> TransactionManager<D, C> {
         ensures due { IfOk result (λ b. (x : LiveState) → live_at e.transaction self.old.lives ≡ Some x → b ≡ is_due e.number r x) }
         ensures replied { result ≡ Ok true → (x : LiveState) → live_at e.transaction self.old.lives ≡ Some x
             → (z : LiveState) × (live_at e.transaction self.new.lives ≡ Some z) × (es : List Entry) × (past z ≡ onto (onto (past x) (reply_entries (half x.tx.world) e.number r)) es) }
-        ensures heard { HeardAt O.gives ((e.number, r) ∷ []) e.transaction self.old.lives self.new.lives o.old o.new }
+        ensures heard { HeardAt D.honest D.image O.gives ((e.number, r) ∷ []) e.transaction self.old self.new o.old o.new }
         ensures others { AreSame e.transaction self.old.lives self.new.lives }
         ensures time { KeepsTime self.old self.new }
         ensures cause { IfErr result (λ x. (x ≡ TxError.Memory) ⊎ ((x ≡ TxError.Refused NoSuch) × (live_at e.transaction self.old.lives ≡ None))) }
@@ -269,8 +269,8 @@ impl<D: Disk + Drop, C: Clock + Drop> TransactionManager<D, C> {
     ///
     /// As of [`TransactionManager::rollback`].
     pub fn lost<O: ResourceManager>(&mut self, e: Enlistment, o: &mut O) -> Result<(), TxError>
-        ensures goes { OnOk result (Goes D.faults self.old.log O.gives e.transaction (Gone e.number) self.old.lives self.new.lives o.old o.new) }
-        ensures heard { HeardAt O.gives [] e.transaction self.old.lives self.new.lives o.old o.new }
+        ensures goes { OnOk result (Goes D.faults D.honest D.image O.gives e.transaction (Gone e.number) self.old self.new o.old o.new) }
+        ensures heard { HeardAt D.honest D.image O.gives [] e.transaction self.old self.new o.old o.new }
         ensures refused { (a : Answer) → result ≡ Err (TxError.Refused a) → ((a ≡ NoSuch) × (live_at e.transaction self.old.lives ≡ None)) ⊎ IsRefused D.faults self.old.log e.transaction (Gone e.number) a self.old.lives self.new.lives }
         ensures others { AreSame e.transaction self.old.lives self.new.lives }
         ensures time { KeepsTime self.old self.new }

@@ -125,8 +125,8 @@ impl<D: Disk + Drop, C: Clock + Drop> TransactionManager<D, C> {
 
     /// Lets the time of a transaction go on, and does what is pending there.
     fn turn<O: ResourceManager>(&mut self, t: TxId, o: &mut O) -> Result<(), TxError>
-        ensures turned { OnOk result (Turned D.faults O.gives t self.old self.new o.old o.new) }
-        ensures stopped { OnErr result (Stopped D.faults O.gives t self.old self.new o.old o.new) }
+        ensures turned { OnOk result (Turned D.faults D.honest D.image O.gives t self.old self.new o.old o.new) }
+        ensures stopped { OnErr result (Stopped D.faults D.honest D.image O.gives t self.old self.new o.old o.new) }
         ensures cause { IfErr result (TickFails t self.old.lives) }
         ensures others { AreSame t self.old.lives self.new.lives }
         ensures time { KeepsTime self.old self.new }
@@ -151,8 +151,8 @@ impl<D: Disk + Drop, C: Clock + Drop> TransactionManager<D, C> {
     /// [`TxError::Memory`] where memory ran out, and [`TxError::Many`] where a transaction has no number left for the tick.
     pub fn pump<O: ResourceManager>(&mut self, o: &mut O) -> Result<(), TxError>
         ensures reads { (r : ℕ) × C.reads self.old.clock r self.new.clock × (self.new.reading ≡ max self.old.reading r) }
-        ensures heard { OnOk result (TurnedUpTo D.faults O.gives (length self.old.lives) (record self.old { clock = self.new.clock; reading = self.new.reading }) self.new o.old o.new) }
-        ensures stopped { OnErr result (StoppedAfter D.faults O.gives (record self.old { clock = self.new.clock; reading = self.new.reading }) self.new o.old o.new) }
+        ensures heard { OnOk result (TurnedUpTo D.faults D.honest D.image O.gives (length self.old.lives) (record self.old { clock = self.new.clock; reading = self.new.reading }) self.new o.old o.new) }
+        ensures stopped { OnErr result (StoppedAfter D.faults D.honest D.image O.gives (record self.old { clock = self.new.clock; reading = self.new.reading }) self.new o.old o.new) }
         ensures cause { IfErr result (λ e. (e ≡ TxError.Memory) ⊎ (e ≡ TxError.Many)) }
     {
         let reading = self.clock.now();

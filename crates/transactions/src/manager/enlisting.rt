@@ -89,7 +89,7 @@ impl<D: Disk + Drop, C: Clock + Drop> TransactionManager<D, C> {
         o: &mut O,
     ) -> Result<Answer, TxError>
         ensures answered { IfOk result (λ a. IsAnswered t line first a self.new.lives) }
-        ensures heard { HeardAt O.gives [] t self.old.lives self.new.lives o.old o.new }
+        ensures heard { HeardAt D.honest D.image O.gives [] t self.old self.new o.old o.new }
         ensures waits { result ≡ Err TxError.Waits → (z : LiveState) → live_at t self.new.lives ≡ Some z → has (is_answer_to line) (past z) ≡ false }
         ensures others { AreSame t self.old.lives self.new.lives }
         ensures time { KeepsTime self.old self.new }
@@ -134,7 +134,7 @@ impl<D: Disk + Drop, C: Clock + Drop> TransactionManager<D, C> {
         o: &mut O,
     ) -> Result<Enlistment, TxError>
         ensures enlisted { IfOk result (λ e. (e.transaction ≡ tx.now.number) × (mid : List LiveState) × (line : ℕ) × (first : Answer) × EnlistsAt D.faults self.old.log tx.now.number (Durable rm p) e.number line first self.old.lives mid
-            × HeardAt O.gives [] tx.now.number mid self.new.lives o.old o.new × (a : Answer) × IsAnswered tx.now.number line first a self.new.lives × (is_done a ≡ true)) }
+            × HeardAt D.honest D.image O.gives [] tx.now.number (record self.old { lives = mid }) self.new o.old o.new × (a : Answer) × IsAnswered tx.now.number line first a self.new.lives × (is_done a ≡ true)) }
         ensures others { AreSame tx.now.number self.old.lives self.new.lives }
         ensures time { KeepsTime self.old self.new }
     {
@@ -169,7 +169,7 @@ impl<D: Disk + Drop, C: Clock + Drop> TransactionManager<D, C> {
         o: &mut O,
     ) -> Result<Option<Enlistment>, TxError>
         ensures enlisted { IfOk result (λ r. (mid : List LiveState) × (number : EnlNo) × (line : ℕ) × (a : Answer) × EnlistsAt D.faults self.old.log tx.now.number (Promotable rm) number line a self.old.lives mid
-            × HeardAt O.gives [] tx.now.number mid self.new.lives o.old o.new × IsTaken tx.now.number number a r) }
+            × HeardAt D.honest D.image O.gives [] tx.now.number (record self.old { lives = mid }) self.new o.old o.new × IsTaken tx.now.number number a r) }
         ensures others { AreSame tx.now.number self.old.lives self.new.lives }
         ensures time { KeepsTime self.old self.new }
     {
@@ -194,7 +194,7 @@ impl<D: Disk + Drop, C: Clock + Drop> TransactionManager<D, C> {
         o: &mut O,
     ) -> Result<u128, TxError>
         ensures identified { IfOk result (λ id. (mid : List LiveState) × (line : ℕ) × (first : Answer) × CallsAt D.faults self.old.log tx.now.number (Marshal tx.now.number.t) line first self.old.lives mid
-            × HeardAt O.gives [] tx.now.number mid self.new.lives o.old o.new × IsAnswered tx.now.number line first (Id id) self.new.lives) }
+            × HeardAt D.honest D.image O.gives [] tx.now.number (record self.old { lives = mid }) self.new o.old o.new × IsAnswered tx.now.number line first (Id id) self.new.lives) }
         ensures others { AreSame tx.now.number self.old.lives self.new.lives }
         ensures time { KeepsTime self.old self.new }
     {
@@ -267,8 +267,8 @@ impl<D: Disk + Drop, C: Clock + Drop> TransactionManager<D, C> {
         d: DependentTransaction,
         o: &mut O,
     ) -> Result<(), TxError>
-        ensures goes { OnOk result (Goes D.faults self.old.log O.gives d.transaction (Complete d.clone) self.old.lives self.new.lives o.old o.new) }
-        ensures heard { HeardAt O.gives [] d.transaction self.old.lives self.new.lives o.old o.new }
+        ensures goes { OnOk result (Goes D.faults D.honest D.image O.gives d.transaction (Complete d.clone) self.old self.new o.old o.new) }
+        ensures heard { HeardAt D.honest D.image O.gives [] d.transaction self.old self.new o.old o.new }
         ensures refused { (a : Answer) → result ≡ Err (TxError.Refused a) → ((a ≡ NoSuch) × (live_at d.transaction self.old.lives ≡ None)) ⊎ IsRefused D.faults self.old.log d.transaction (Complete d.clone) a self.old.lives self.new.lives }
         ensures others { AreSame d.transaction self.old.lives self.new.lives }
         ensures time { KeepsTime self.old self.new }

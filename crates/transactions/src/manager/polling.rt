@@ -1,7 +1,7 @@
 //! What a program calls that asks what comes next and has no objects: calls that only enter, numbers in place of handles, and the work of the log's disk.
 ghost use Rattle.std.specs.Prelude.{ℕ, ◌≡◌, ◌≢◌, ◌⊎◌, ◌≤◌, ◌<◌, List, Option, Some, None, Ok, Err, IfOk, IfErr, OnOk, OnErr, IfSome, IsTrue, true, false, length};
 ghost use Rattle.outside.specs.Disk.{AreWithin};
-ghost use Rattle.dtx_values.specs.TxIds.{number_of};
+ghost use Rattle.dtx_values.specs.TxIds.{identifier_of_id, number_of};
 ghost use Rattle.dtx_values.specs.declared.call.Call.TheVariants.{Begin, Complete, Gone, Marshal, Tick};
 ghost use Rattle.dtx_values.specs.declared.entry.Answer.{Answer};
 ghost use Rattle.dtx_values.specs.declared.entry.Answer.TheVariants.{False, Fine, Id, NoSuch, Wait};
@@ -11,6 +11,7 @@ ghost use Rattle.transactions.specs.Calling.{IsCalled};
 ghost use Rattle.transactions.specs.Doing.{AdvancesAt, CallsAt, Enters, IsUnidentified, is_done};
 ghost use Rattle.transactions.specs.Enlisting.{EnlistsAt, IsNotEnlisted, IsTaken};
 ghost use Rattle.transactions.specs.Hearing.{found_in};
+ghost use Rattle.transactions.specs.Logged.{KeepsRecords};
 ghost use Rattle.transactions.specs.Numbering.{MayNotBegin, NumbersLog};
 ghost use Rattle.transactions.specs.Slots.{AreSame, KeepsRest, KeepsTime, live_at};
 ghost use Rattle.transactions.specs.State.{LiveState, blank, past};
@@ -248,6 +249,7 @@ impl<D: Relay + Drop, C: Clock + Drop> TransactionManager<D, C> {
         ensures unsettled { D.is_settled self.old.log.disk ≡ false → self.new ≡ self.old }
         ensures disk { result ≡ Ok FirstDisk → D.is_settled self.new.log.disk ≡ false }
         ensures all { result ≡ Ok Nothing → (y : LiveState) → live_at tx.now.number self.new.lives ≡ Some y → (y.heard ≡ length (past y)) × AllAsked y.tx.world }
+        ensures logged { KeepsRecords D.honest D.image (identifier_of_id tx.now.number) self.old.log self.new.log }
         ensures nobody { live_at tx.now.number self.old.lives ≡ None → result ≡ Err (TxError.Refused NoSuch) }
         ensures others { AreSame tx.now.number self.old.lives self.new.lives }
         ensures time { KeepsTime self.old self.new }

@@ -151,8 +151,8 @@ impl<D: Disk + Drop, C: Clock + Drop> TransactionManager<D, C> {
 
     /// Rolls back the transaction of a scope that isn't complete.
     fn abandon<O: ResourceManager>(&mut self, t: TxId, o: &mut O) -> Result<(), CommitError>
-        ensures rolled { IsRolledBack D.faults self.old.log O.gives t result self.old.lives self.new.lives o.old o.new }
-        ensures heard { HeardAt O.gives [] t self.old.lives self.new.lives o.old o.new }
+        ensures rolled { IsRolledBack D.faults D.honest D.image O.gives t result self.old self.new o.old o.new }
+        ensures heard { HeardAt D.honest D.image O.gives [] t self.old self.new o.old o.new }
         ensures others { AreSame t self.old.lives self.new.lives }
         ensures time { KeepsTime self.old self.new }
     {
@@ -174,7 +174,7 @@ impl<D: Disk + Drop, C: Clock + Drop> TransactionManager<D, C> {
     /// Commits the transaction of a scope that is complete.
     fn conclude<O: ResourceManager>(&mut self, t: TxId, o: &mut O) -> Result<(), CommitError>
         ensures told { IsTold result (live_at t self.new.lives) }
-        ensures heard { HeardAt O.gives [] t self.old.lives self.new.lives o.old o.new }
+        ensures heard { HeardAt D.honest D.image O.gives [] t self.old self.new o.old o.new }
         ensures others { AreSame t self.old.lives self.new.lives }
         ensures time { KeepsTime self.old self.new }
     {
@@ -186,7 +186,7 @@ impl<D: Disk + Drop, C: Clock + Drop> TransactionManager<D, C> {
 
     /// What closing a scope does to its transaction.
     fn settle<O: ResourceManager>(&mut self, x: Closed, o: &mut O) -> Result<(), CommitError>
-        ensures settled { Settles D.faults self.old.log O.gives x result self.old.lives self.new.lives o.old o.new }
+        ensures settled { Settles D.faults D.honest D.image O.gives x result self.old self.new o.old o.new }
         ensures others { AreSameBut (ended_by x self.old.lives) self.old.lives self.new.lives }
         ensures idle { x ≡ Closed.Nothing → self.new ≡ self.old }
         ensures time { KeepsTime self.old self.new }
@@ -211,7 +211,7 @@ impl<D: Disk + Drop, C: Clock + Drop> TransactionManager<D, C> {
         s: ScopeNo,
         o: &mut O,
     ) -> Result<(), CommitError>
-        ensures settled { is_top s.value a.old.scopes ≡ true → Settles D.faults self.old.log O.gives (closing a.old.scopes) result self.old.lives self.new.lives o.old o.new }
+        ensures settled { is_top s.value a.old.scopes ≡ true → Settles D.faults D.honest D.image O.gives (closing a.old.scopes) result self.old self.new o.old o.new }
         ensures others { is_top s.value a.old.scopes ≡ true → AreSameBut (ended_by (closing a.old.scopes) self.old.lives) self.old.lives self.new.lives }
         ensures idle { is_top s.value a.old.scopes ≡ true → closing a.old.scopes ≡ Closed.Nothing → self.new ≡ self.old }
         ensures innermost { OnOk result (is_top s.value a.old.scopes ≡ true) }
@@ -264,7 +264,7 @@ impl<D: Disk + Drop, C: Clock + Drop> TransactionManager<D, C> {
         s: TransactionScope,
         o: &mut O,
     ) -> Result<(), CommitError>
-        ensures settled { is_top s.scope.value a.old.scopes ≡ true → SettlesBefore D.faults self.old.log O.gives s (closing a.old.scopes) result self.old.lives self.new.lives o.old o.new }
+        ensures settled { is_top s.scope.value a.old.scopes ≡ true → SettlesBefore D.faults D.honest D.image O.gives s (closing a.old.scopes) result self.old self.new o.old o.new }
         ensures others { is_top s.scope.value a.old.scopes ≡ true → (u : TxId) → ended_by (closing a.old.scopes) self.old.lives ≢ Some u → made_in s ≢ Some u → live_at u self.new.lives ≡ live_at u self.old.lives }
         ensures idle { is_top s.scope.value a.old.scopes ≡ true → closing a.old.scopes ≡ Closed.Nothing → KeepsRest self.old self.new }
         ensures innermost { OnOk result (is_top s.scope.value a.old.scopes ≡ true) }
@@ -287,7 +287,7 @@ impl<D: Disk + Drop, C: Clock + Drop> TransactionManager<D, C> {
         s: TransactionScope,
         o: &mut O,
     ) -> Result<(), CommitError>
-        ensures finishes { OnOk result (Finishes D.faults O.gives s self.old self.new a.old.scopes a.new.scopes o.old o.new) }
+        ensures finishes { OnOk result (Finishes D.faults D.honest D.image O.gives s self.old self.new a.old.scopes a.new.scopes o.old o.new) }
         ensures time { KeepsTime self.old self.new }
     {
         let completed = a.context.complete(s.scope);
@@ -311,9 +311,9 @@ impl<D: Disk + Drop, C: Clock + Drop> TransactionManager<D, C> {
         o: &mut O,
     ) -> Result<T, CommitError>
         ensures work { IfOk result (λ x. worked ≡ Ok x) }
-        ensures finishes { OnOk result (Finishes D.faults O.gives s self.old self.new a.old.scopes a.new.scopes o.old o.new) }
+        ensures finishes { OnOk result (Finishes D.faults D.honest D.image O.gives s self.old self.new a.old.scopes a.new.scopes o.old o.new) }
         ensures error { IfErr worked (λ e. result ≡ Err e) }
-        ensures fails { OnErr worked (Fails D.faults O.gives s self.old self.new a.old.scopes o.old o.new) }
+        ensures fails { OnErr worked (Fails D.faults D.honest D.image O.gives s self.old self.new a.old.scopes o.old o.new) }
         ensures time { KeepsTime self.old self.new }
     {
         match worked {
@@ -346,7 +346,7 @@ impl<D: Disk + Drop, C: Clock + Drop> TransactionManager<D, C> {
         T: Drop,
         O: ResourceManager,
         W: Work<D, C, O, T>,
-        ensures { IfOk result (λ x. WorksIn D.faults O.gives (W.does w) k t (asked_by i) x self.old self.new a.old a.new o.old o.new) }
+        ensures { IfOk result (λ x. WorksIn D.faults D.honest D.image O.gives (W.does w) k t (asked_by i) x self.old self.new a.old a.new o.old o.new) }
     {
         let s = match self.open_scope(a, k, t, i) {
             Ok(s) => s,

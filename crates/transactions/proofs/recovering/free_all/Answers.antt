@@ -4,8 +4,8 @@ use Rattle.outside.specs.Faults.{Rose}
 use Rattle.dtx_model.specs.Log.{without_first_of}
 use Rattle.coordinator_log.specs.Slots.{open_records}
 use Rattle.coordinator_log.specs.State.{LogState}
-use Rattle.transactions.specs.Recovering.{NoneIsFound, without_each}
-use Rattle.transactions.proofs.Freeing.{frees_both, frees_failed, frees_none, images_both, without_more}
+use Rattle.transactions.specs.Recovering.{NoneIsFound, OnlyFrees, without_each}
+use Rattle.transactions.proofs.Freeing.{all_are, frees_both, frees_failed, frees_none, images_both, without_more}
 use Rattle.transactions.proofs.recovering.free_all.Goals as goal
 
 -- what is done isn't refused
@@ -65,3 +65,8 @@ loop-id-preserved g c =
           omega (arith, fewer, room, len, capacity);
       smooth = c.in_ok-id.ensures.smooth ∙ was.smooth;
     }
+
+pub returns-clause-left : goal.returns-clause-left
+returns-clause-left g c h =
+    let rs = open_records c.free_one.new.log.slots in
+    all_are _ (OnlyFrees c.args.desk.now c.args.lives.now rs) rs (c.is_up.ensures.images h c.in_ok-id.ensures.up) (frees_none c.args.desk.now c.args.lives.now rs)

@@ -17,3 +17,9 @@ returns-in-None-clause-frees g c =
     let down : log.is_up ≡ false = sym c.is_up.ensures.up ∙ c.if-is_up.false in
     frees_done g.D.Disk.honest g.D.Disk.image g.D.Disk.faults c.args.desk.now c.args.lives.now log log tt (frees_none c.args.desk.now c.args.lives.now (open_records log.slots))
     (c.in-None.ensures.none refl) (λ none. refl) (λ d. refl) (λ h up. absurd (both_ways log.is_up down up)) (λ h up. absurd (both_ways log.is_up down up)) refl refl
+
+pub returns-in-Some-clause-left : goal.returns-in-Some-clause-left
+returns-in-Some-clause-left g c h up = absurd (both_ways c.args.log.now.is_up (sym c.is_up.ensures.up ∙ c.if-is_up.false) up)
+
+pub returns-in-None-clause-left : goal.returns-in-None-clause-left
+returns-in-None-clause-left g c h up = absurd (both_ways c.args.log.now.is_up (sym c.is_up.ensures.up ∙ c.if-is_up.false) up)

@@ -25,7 +25,7 @@ pub invariant_of-self-2 : goal.invariant_of-self-2
 invariant_of-self-2 g c =
     let x : LiveState = the_view c.self.inside in
     called_sound g.D.Disk.faults c.args.log.now c.args.actor c.in-Some.line c.args.c.now x c.enter.new.self c.in-Some.ensures.1
-    (subst (λ (l : LiveState). is_given l.enlisted l.cloned (made_by c.args.c.now) ≡ true) (sym c.self.view_is) c.requires.counted) c.in_ok-answer.ensures.done c.self.invariant
+    (subst (λ (l : LiveState). is_given l.enlisted l.cloned (made_by c.args.c.now) ≡ true) (sym c.self.view_is) c.requires.counted) c.requires.plain c.enter.ensures.named c.in_ok-answer.ensures.done c.self.invariant
 
 pub returns-clause-called : goal.returns-clause-called
 returns-clause-called g c =

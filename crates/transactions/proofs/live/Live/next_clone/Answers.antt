@@ -20,6 +20,8 @@ invariant_of-self c =
       unrestarted = was.unrestarted;
       within = was.within;
       counted = counted_more s.lines s.enlisted s.cloned s.lines s.enlisted n s.world.world.calls (omega arith) (omega arith) more was.counted;
+      unrecovered = was.unrecovered;
+      named = was.named;
     }
 
 pub returns-clause-unmade : goal.returns-clause-unmade

@@ -8,7 +8,7 @@ use Rattle.transactions.proofs.live.Live.reply.Goals as goal
 pub invariant_of-self-2 : goal.invariant_of-self-2
 invariant_of-self-2 g c =
     let e = c.reply.ensures in
-    replied_sound g.D.Disk.faults c.args.log.now c.args.e c.args.r (the_view c.self.inside) c.reply.new.self c.in_ok-reply.field-0 c.reply.result c.in_ok-reply.was e.done e.unchanged c.self.invariant
+    replied_sound g.D.Disk.faults c.args.log.now c.args.e c.args.r (the_view c.self.inside) c.reply.new.self c.in_ok-reply.field-0 c.reply.result c.in_ok-reply.was e.done e.unchanged e.named c.self.invariant
 
 pub returns-clause-writes : goal.returns-clause-writes
 returns-clause-writes g c = λ answer.

@@ -1,11 +1,12 @@
-use Rattle.std.proofs.Common.{◌≡◌, Some, List, IfOk, IfErr, true, ap, refl, slice_get, slice_set, subst, sym}
+use Rattle.std.proofs.Common.{◌≡◌, Some, List, IfOk, IfErr, true, ap, refl, slice_get, slice_set, subst, sym, ◌+◌, ◌*◌}
 use Rattle.std.proofs.lemmas.Option.{slice_get_read}
 use Rattle.std.specs.Vec.{vec_len}
 use Rattle.transactions.specs.Slots.{AreSame, Standing, is_live}
 use Rattle.transactions.specs.State.{LiveState}
 use Rattle.transactions.specs.Doing.{CallsAt, MayFail}
 use Rattle.transactions.proofs.Calls.{call_leaves, calls_at, may_fail, none_made}
-use Rattle.transactions.proofs.Standing.{fits_set, live_here, live_was, numbered_set, others_same, still_live}
+use Rattle.transactions.proofs.Fitted.{fits_set}
+use Rattle.transactions.proofs.Standing.{live_here, live_was, numbered_set, others_same, still_live}
 use Rattle.transactions.proofs.manager.TransactionManager.call.Goals as goal
 
 pub call-called-requires-clause-unmade : goal.call-called-requires-clause-unmade
@@ -20,7 +21,7 @@ invariant_of-self-2 g c =
     let leaves = call_leaves g.D.Disk.faults c.self.inside.log c.args.c.now c.call-called.result x y e.called e.refused in
     let there : slice_get xs c.index.result ≡ Some x = slice_get_read xs (vec_len c.self.inside.lives) c.index.result x c.self.inside.lives.ok.0 (c.in-Some.ensures.variant.0 refl) c.in-Some.ensures.value in (
       numbered_set xs c.index.result x y there c.self.invariant.0 leaves.1 c.is_sound.ensures.own,
-      λ honest. fits_set c.self.inside.log xs c.index.result x y there e.fits (c.self.invariant.1 honest),
+      λ honest. fits_set g.D.Disk.image c.self.inside.log xs c.index.result x y (65536 * c.self.inside.epoch + c.self.inside.given) there leaves.1 e.fits (c.self.invariant.1 honest),
       c.self.invariant.2,
       c.self.invariant.3,
     )

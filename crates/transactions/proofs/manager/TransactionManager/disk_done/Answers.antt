@@ -9,7 +9,7 @@ invariant_of-self g c =
     let from = c.self.inside.log in
     let to = c.settle.new.self in (
       c.self.invariant.0,
-      λ honest. fits_settled from to c.self.inside.lives.items e.kept (c.self.invariant.1 honest),
+      λ honest. fits_settled g.D.Disk.image from to c.self.inside.lives.items (65536 * c.self.inside.epoch + c.self.inside.given) e.kept e.images (c.self.invariant.1 honest),
       ap (λ (l : LogState _). l.armed) e.kept ∙ c.self.invariant.2,
       recorded_settled g.D.Disk.honest g.D.Disk.image from to (65536 * c.self.inside.epoch + c.self.inside.given) e.kept e.images c.self.invariant.3,
     )

@@ -1,4 +1,4 @@
-use Rattle.std.proofs.Common.{◌≡◌, ◌≤◌, Some, List, IfOk, IfErr, OnErr, true, ap, refl, slice_get, slice_set, subst, sym}
+use Rattle.std.proofs.Common.{◌≡◌, ◌≤◌, Some, List, IfOk, IfErr, OnErr, true, ap, refl, slice_get, slice_set, subst, sym, ◌+◌, ◌*◌}
 use Rattle.std.proofs.lemmas.Option.{slice_get_read}
 use Rattle.std.specs.Vec.{vec_len}
 use Rattle.dtx_values.specs.declared.number.TheConstants.EnlNo.{MAX as ENLISTMENTS}
@@ -7,7 +7,8 @@ use Rattle.transactions.specs.Slots.{AreSame, Standing, is_live}
 use Rattle.transactions.specs.State.{LiveState}
 use Rattle.transactions.proofs.Calls.{may_not_make}
 use Rattle.transactions.proofs.Enlisted.{enlist_leaves, enlisted_at, not_enlisted_at}
-use Rattle.transactions.proofs.Standing.{fits_set, live_here, live_number, live_was, numbered_set, others_same, still_live}
+use Rattle.transactions.proofs.Fitted.{fits_set}
+use Rattle.transactions.proofs.Standing.{live_here, live_number, live_was, numbered_set, others_same, still_live}
 use Rattle.transactions.proofs.manager.TransactionManager.enlist.Goals as goal
 
 pub invariant_of-self-2 : goal.invariant_of-self-2
@@ -18,7 +19,7 @@ invariant_of-self-2 g c =
     let e = c.enlist-enlisted.ensures in
     let there : slice_get xs c.index.result ≡ Some x = slice_get_read xs (vec_len c.self.inside.lives) c.index.result x c.self.inside.lives.ok.0 (c.in-Some.ensures.variant.0 refl) c.in-Some.ensures.value in (
       numbered_set xs c.index.result x y there c.self.invariant.0 (enlist_leaves g.D.Disk.faults c.self.inside.log c.args.k c.enlist-enlisted.result x y e.enlisted e.failed).1 c.is_sound.ensures.own,
-      λ honest. fits_set c.self.inside.log xs c.index.result x y there e.fits (c.self.invariant.1 honest),
+      λ honest. fits_set g.D.Disk.image c.self.inside.log xs c.index.result x y (65536 * c.self.inside.epoch + c.self.inside.given) there (enlist_leaves g.D.Disk.faults c.self.inside.log c.args.k c.enlist-enlisted.result x y e.enlisted e.failed).1 e.fits (c.self.invariant.1 honest),
       c.self.invariant.2,
       c.self.invariant.3,
     )

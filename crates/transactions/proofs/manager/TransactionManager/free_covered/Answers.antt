@@ -16,4 +16,5 @@ invariant_of-self g c =
     kept_freed g.D.Disk.honest g.D.Disk.image ms xs c.self.inside.log to (65536 * c.self.inside.epoch + c.self.inside.given)
     (subst (λ (l : List LiveState). OnlyFrees ms l rs (open_records to.slots)) c.deref.ensures.value e.records)
     (λ honest up. subst (λ (l : List LiveState). AllAre (g.D.Disk.image to.disk) (OnlyFrees ms l rs)) c.deref.ensures.value (e.images honest up))
+    (λ honest up. subst (λ (l : List LiveState). AllAre (g.D.Disk.image to.disk) (OnlyFrees ms l (open_records to.slots))) c.deref.ensures.value (c.free_recovered.ensures.left honest up))
     e.down c.free_recovered.ensures.unarmed c.self.invariant

@@ -4,6 +4,7 @@ use Rattle.dtx_values.specs.declared.call.Call.TheVariants.{Marshal}
 use Rattle.dtx_values.specs.declared.number.TxNo.{TxNo}
 use Rattle.transactions.specs.Doing.{CallsAt}
 use Rattle.transactions.specs.Enlisting.{IsAnswered}
+use Rattle.transactions.proofs.Entering.{heard_from}
 use Rattle.transactions.proofs.manager.TransactionManager.identifier.Goals as goal
 
 pub returns-in-Ok-Id-clause-identified : goal.returns-in-Ok-Id-clause-identified
@@ -13,6 +14,6 @@ returns-in-Ok-Id-clause-identified g c =
       called.0,
       called.1,
       subst (λ (p : TxNo). CallsAt g.D.Disk.faults c.args.self.now.log c.args.tx.now.number (Marshal p) called.0 called.1 c.args.self.now.lives c.call.new.self.lives) c.t.ensures c.in-Ok.ensures.called,
-      c.wait.ensures.heard,
+      heard_from g.D.Disk.honest g.D.Disk.image g.O.ResourceManager.gives c.args.tx.now.number c.args.self.now c.call.new.self c.wait.new.self c.args.o.now c.wait.new.o c.call.ensures.rest c.wait.ensures.heard,
       subst (λ (a : Answer). IsAnswered c.args.tx.now.number called.0 called.1 a c.wait.new.self.lives) c.in-Ok-Id.field-0-is c.in-Ok-Id.ensures.answered,
     )

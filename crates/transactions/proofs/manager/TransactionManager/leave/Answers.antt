@@ -17,7 +17,7 @@ invariant_of-self-2 g c =
     let y = c.set_usage.new.self in
     let there : slice_get xs c.index.result ≡ Some x = slice_get_read xs (vec_len c.self.inside.lives) c.index.result x c.self.inside.lives.ok.0 (c.in-Some.ensures.variant.0 refl) c.in-Some.ensures.value in (
       numbered_used xs c.index.result x y Left there c.set_usage.ensures c.self.invariant.0,
-      λ honest. fits_used c.self.inside.log xs c.index.result x y Left there c.set_usage.ensures (c.self.invariant.1 honest),
+      λ honest. fits_used g.D.Disk.image c.self.inside.log xs c.index.result x y Left (65536 * c.self.inside.epoch + c.self.inside.given) there c.set_usage.ensures (c.self.invariant.1 honest),
       c.self.invariant.2,
       c.self.invariant.3,
     )

@@ -5,7 +5,7 @@ use Rattle.transactions.specs.Numbering.{IsUpTo, MayNotNumber, NumbersLog, last_
 use Rattle.transactions.specs.declared.error.TxError.{TxError}
 use Rattle.transactions.specs.Slots.{Standing}
 use Rattle.transactions.proofs.Beginning.{fits_next}
-use Rattle.transactions.proofs.Numbers.{down_same, may_not_number, numbers_log, up_before}
+use Rattle.transactions.proofs.Numbers.{down_same, may_not_number, numbers_log}
 use Rattle.transactions.proofs.Recorded.{recorded_new, recorded_next}
 use Rattle.transactions.proofs.manager.TransactionManager.next_epoch.Goals as goal
 
@@ -18,7 +18,7 @@ invariant_of-self g c =
     let down = down_same c.begin_epoch.result from to e.stopped e.unchanged in
     let log = numbers_log g.D.Disk.honest g.D.Disk.image g.D.Disk.faults c.begin_epoch.result from to (record { commits = e.commits; epoch = e.either }) e.images e.stopped e.unchanged e.grows in (
       c.self.invariant.0,
-      λ honest. fits_next from to c.self.inside.lives.items c.no_transaction_is_an_epoch.ensures.test e.others (up_before from to down) (c.self.invariant.1 honest),
+      λ honest. fits_next g.D.Disk.image from to c.self.inside.lives.items last last (omega arith) c.no_transaction_is_an_epoch.ensures.test e.others (e.images honest) down (c.self.invariant.1 honest),
       e.unarmed c.self.invariant.2,
       recorded_next g.D.Disk.honest g.D.Disk.image g.D.Disk.faults from to last log down c.self.invariant.3,
     )
@@ -30,9 +30,13 @@ invariant_of-self-2 g c =
     let to = c.begin_epoch.new.log in
     let down = down_same c.begin_epoch.result from to e.stopped e.unchanged in
     let latest : epoch_of (open_records to.slots) ≡ c.in-Ok.n = c.in-Ok.ensures.latest in
-    let up : 65536 * c.in-Ok.n + 0 ≤ 65536 * epoch_of (open_records to.slots) + 256 = omega (arith, latest) in (
+    let up : 65536 * c.in-Ok.n + 0 ≤ 65536 * epoch_of (open_records to.slots) + 256 = omega (arith, latest) in
+    let last = 65536 * c.self.inside.epoch + c.self.inside.given in
+    let held : IsUpTo last (open_records from.slots) = c.self.invariant.3.held in
+    let next : c.in-Ok.n ≡ epoch_of (open_records from.slots) + 1 = c.in-Ok.ensures.next in
+    let rises : last ≤ 65536 * c.in-Ok.n + 0 = omega (arith, held, next) in (
       c.self.invariant.0,
-      λ honest. fits_next from to c.self.inside.lives.items c.no_transaction_is_an_epoch.ensures.test e.others (up_before from to down) (c.self.invariant.1 honest),
+      λ honest. fits_next g.D.Disk.image from to c.self.inside.lives.items last (65536 * c.in-Ok.n + 0) rises c.no_transaction_is_an_epoch.ensures.test e.others (e.images honest) down (c.self.invariant.1 honest),
       e.unarmed c.self.invariant.2,
       recorded_new g.D.Disk.honest g.D.Disk.image to (65536 * c.in-Ok.n + 0) up (λ honest. c.in-Ok.ensures.durable honest),
     )

@@ -6,7 +6,8 @@ use Rattle.transactions.specs.Slots.{AreSame, Standing, is_live, live_at}
 use Rattle.transactions.specs.State.{LiveState}
 use Rattle.transactions.specs.Turning.{PassedAt, TickFails}
 use Rattle.transactions.proofs.Ending.{pass_leaves, put_back}
-use Rattle.transactions.proofs.Standing.{fits_set, live_here, live_off, live_was, numbered_set, others_same, still_live}
+use Rattle.transactions.proofs.Fitted.{fits_set}
+use Rattle.transactions.proofs.Standing.{live_here, live_off, live_was, numbered_set, others_same, still_live}
 use Rattle.transactions.proofs.Turning.{pass_used, passed_at, tick_fails}
 use Rattle.transactions.proofs.manager.TransactionManager.pass.Goals as goal
 
@@ -18,7 +19,7 @@ invariant_of-self-2 g c =
     let e = c.pass-passed.ensures in
     let there : slice_get xs c.index.result ≡ Some x = slice_get_read xs (vec_len c.self.inside.lives) c.index.result x c.self.inside.lives.ok.0 (c.in-Some.ensures.variant.0 refl) c.in-Some.ensures.value in (
       numbered_set xs c.index.result x y there c.self.invariant.0 (pass_leaves g.D.Disk.faults c.self.inside.log c.self.inside.reading c.pass-passed.result x y e.ticked e.refused) c.is_sound.ensures.own,
-      λ honest. fits_set c.self.inside.log xs c.index.result x y there e.fits (c.self.invariant.1 honest),
+      λ honest. fits_set g.D.Disk.image c.self.inside.log xs c.index.result x y (65536 * c.self.inside.epoch + c.self.inside.given) there (pass_leaves g.D.Disk.faults c.self.inside.log c.self.inside.reading c.pass-passed.result x y e.ticked e.refused) e.fits (c.self.invariant.1 honest),
       c.self.invariant.2,
       c.self.invariant.3,
     )
