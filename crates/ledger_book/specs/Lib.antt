@@ -1,3 +1,3 @@
 pub mod Accounts
-pub mod Handing
+pub mod Holding
 pub mod Recovered

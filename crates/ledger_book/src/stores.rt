@@ -7,6 +7,7 @@ ghost use Rattle.kv_resource.specs.Store.{after_put, put_refusal};
 ghost use Rattle.ledger_book.specs.Accounts.{at_side};
 
 use crate::account::{Account, Side};
+use all_or_nothing::Holder;
 use dtx_values::{Note, Reply};
 use kv_resource::{Kv, KvRefusal};
 use outside::Disk;
@@ -114,7 +115,7 @@ fn is_one(enlisted: Option<Enlistment>, e: Enlistment) -> bool
 
 impl<D: Disk + Drop> ResourceManager for Stores<D> {
     ghost use Rattle.std.specs.Prelude.{◌≡◌};
-    ghost use Rattle.ledger_book.specs.Handing.{IsHandedOn};
+    ghost use Rattle.kv_holding.specs.TwoStores.{IsHandedOn};
 
     ghost gives = { λ old e n a new. IsHandedOn D.honest D.image D.faults old.left old.right old.left_as old.right_as e n a new.left new.right × ((new.left_as ≡ old.left_as) × (new.right_as ≡ old.right_as)) };
 
@@ -127,4 +128,18 @@ impl<D: Disk + Drop> ResourceManager for Stores<D> {
         }
         None
     }
+}
+
+impl<D: Disk + Drop> Holder for Stores<D> {
+    ghost use Rattle.ledger_book.specs.Holding.{stores_keep, stores_leave, stores_place, stores_sound};
+
+    ghost place = { λ o e. stores_place o e };
+
+    ghost keeps = { λ o e. stores_keep D.honest D.image o e };
+
+    ghost leaves = { λ o ss. stores_leave D.honest D.image o ss };
+
+    ghost sound = { λ o. stores_sound D.honest D.image o };
+
+    fn hold() {}
 }

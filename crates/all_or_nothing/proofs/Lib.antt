@@ -1,0 +1,15 @@
+pub mod Marking
+pub mod Turning
+pub mod Wholly
+pub mod Tied
+pub mod Heard
+pub mod Entries
+pub mod Moved
+pub mod Moving
+pub mod Chain
+pub mod Turned
+pub mod Same
+pub mod Apart
+pub mod Called
+pub mod Calls
+pub mod Begun

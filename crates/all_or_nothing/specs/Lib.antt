@@ -1,0 +1,4 @@
+pub mod Marks
+pub mod Tying
+pub mod Objects
+pub mod Whole
