@@ -19,11 +19,12 @@ use Rattle.transactions.specs.Hearing.{Writes}
 use Rattle.transactions.specs.Logged.{MayHold}
 use Rattle.transactions.specs.Slots.{Standing, live_at}
 use Rattle.transactions.specs.State.{LiveState, blank, past}
-use Rattle.all_or_nothing.specs.Marks.{Place, is_single, marks_of}
+use Rattle.all_or_nothing.specs.Marks.{Nowhere, Place, is_single, marks_of}
 use Rattle.all_or_nothing.specs.Tying.{IsTied}
-use Rattle.all_or_nothing.specs.Whole.{IsAllOrNothing, IsBeginning, IsTiedTo, heard_of}
+use Rattle.all_or_nothing.specs.Whole.{IsAllOrNothing, IsBeginning, IsRouted, IsTiedTo, heard_of}
 use Rattle.all_or_nothing.proofs.Called.{different, fitting}
-use Rattle.all_or_nothing.proofs.Calls.{live_number, same_some}
+use Rattle.transactions.proofs.Entering.{some_same}
+use Rattle.all_or_nothing.proofs.Calls.{live_number}
 use Rattle.all_or_nothing.proofs.Marking.{Marked, marked_some, none_both}
 use Rattle.all_or_nothing.proofs.Moved.{fewer_same, says_written}
 use Rattle.all_or_nothing.proofs.Tied.{SaysNoMore}
@@ -65,12 +66,13 @@ none_tied n place keeps leaves h says none heard = record {
     clash k = absurd cc
 
 pub begun_keeps : {D C O : Type 0} (honest : Bool) (image : D → List ℕ → Type 0) (faults : D → ℕ) (place : O → Enlistment → Place) (keeps : O → Enlistment → Type 0) (leaves : O → List Site → Type 0) (sound : O → Type 0)
-    (t : TxId) (m n : Standing D C) (o : O) → IsTrue honest → IsAllOrNothing image place keeps leaves sound m o → (c : IsBeginning honest image faults t m n) → Writes [] (blank t c.time) c.begun
+    (t : TxId) (m n : Standing D C) (o : O) → IsTrue honest → IsAllOrNothing image place keeps leaves sound m o → (c : IsBeginning honest image faults place t m n o) → Writes [] (blank t c.time) c.begun
     → IsAllOrNothing image place keeps leaves sound n o
 unfolding is_whole
 begun_keeps honest image faults place keeps leaves sound t m n o is all c writes = record {
   whole = λ rs may ss l u. whole rs may ss l u (number_of t == number_of u) refl;
   tied = λ u y at. tied u y at (number_of t == number_of u) refl;
+  routed = λ u y at. routed u y at (number_of t == number_of u) refl;
   begun = λ u y at. begun u y at (number_of t == number_of u) refl;
   new = λ u above. all.new u (let a = c.above in let b = c.last in omega (arith, a, b, above));
   memory = all.memory;
@@ -114,10 +116,14 @@ begun_keeps honest image faults place keeps leaves sound t m n o is all c writes
 
     tied : (u : TxId) (x : LiveState) → live_at u n.lives ≡ Some x → (b : Bool) → (number_of t == number_of u) ≡ b → IsTiedTo place keeps leaves [] x o
     tied u x at true k =
-        subst (λ s. IsTiedTo place keeps leaves [] s o) (same_some (live_at u n.lives) y x (subst (λ v. live_at v n.lives ≡ Some y) (itself u k) c.now) at)
+        subst (λ s. IsTiedTo place keeps leaves [] s o) (some_same (live_at u n.lives) y x (subst (λ v. live_at v n.lives ≡ Some y) (itself u k) c.now) at)
         (none_tied (number_of y.number) (λ e. place o (enlistment y.number e)) (λ e. keeps o (enlistment y.number e)) (leaves o) (past y) says
         (λ ss l j e. ap (λ (v : TxId). marks_of j (number_of v) e ss) mine ∙ none ss l j e) (heard_of y))
     tied u x at false k = all.tied u x (before u x at k)
+
+    routed : (u : TxId) (x : LiveState) → live_at u n.lives ≡ Some x → (b : Bool) → (number_of t == number_of u) ≡ b → (e : EnlNo) → IsRouted x.tx.world e.value (place o (enlistment u e))
+    routed u x at true k e = subst (IsRouted x.tx.world e.value) (sym (subst (λ v. place o (enlistment v e) ≡ Nowhere) (itself u k) (c.unheard e))) tt
+    routed u x at false k e = all.routed u x (before u x at k) e
 
     begun : (u : TxId) (x : LiveState) → live_at u n.lives ≡ Some x → (b : Bool) → (number_of t == number_of u) ≡ b → number_of u ≤ n.last
     begun u x at true k = let last = c.last in let same : number_of t ≡ number_of u = eqb-true (number_of t) (number_of u) k in omega (arith, last, same)

@@ -1,12 +1,13 @@
 -- A call of a manager keeps all or nothing.
 use Rattle.std.specs.Prelude.{IsTrue, IfOk, Result, Ok, Err}
 use Rattle.std.proofs.Common.{◌≡◌, ◌≢◌, inl, inr, ℕ, Bool, true, false, not, ◌&&◌, ◌||◌, ◌==◌, List, [], Option, Some, None, is_some, refl, ap, subst, sym, ◌∙◌, arith}
-use Rattle.std.proofs.lemmas.Bool.{false_from_ne_true}
+use Rattle.std.proofs.lemmas.Bool.{false_from_ne_true, or_left}
 use Rattle.std.proofs.lemmas.Bool.Decides.{nat_tests}
 use Rattle.coordinator_core.specs.Acting.{record_for}
 use Rattle.coordinator_log.specs.State.{LogState}
 use Rattle.dtx_values.specs.TxIds.{number_of}
 use Rattle.dtx_values.specs.declared.entry.Entry.{Entry}
+use Rattle.dtx_values.specs.declared.number.EnlNo.{EnlNo}
 use Rattle.dtx_values.specs.declared.tx_id.TxId.{TxId}
 use Rattle.dtx_model.proofs.Bools.{not_both, not_true, or_case, or_right}
 use Rattle.dtx_model.specs.AtLog.{is_restart}
@@ -16,7 +17,8 @@ use Rattle.dtx_model.specs.Promotes.{identifier_of}
 use Rattle.dtx_model.specs.Tied.{before_first_stop, before_last_stop, can_free, can_log, has_mark, is_logged, is_unmarked, mark_of}
 use Rattle.dtx_model.specs.Words.{has, latest}
 use Rattle.dtx_model.specs.World.{World, core}
-use Rattle.record_laws.specs.Recorded.{RecordsVotes, TellsByRecord, is_free_tried, is_freed, is_record_tried, is_recovered}
+use Rattle.record_laws.proofs.LastingManagers.{volatile_alone}
+use Rattle.record_laws.specs.Recorded.{IsOf, IsVolatile, RecordsVotes, TellsByRecord, is_free_tried, is_freed, is_record_tried, is_recovered}
 use Rattle.recovery_laws.specs.Whole.{Site, is_whole, is_whole_by}
 use Rattle.resource_managers.specs.Pairs.{enlistment}
 use Rattle.resource_managers.specs.declared.enlistment.Enlistment.{Enlistment}
@@ -24,13 +26,12 @@ use Rattle.tx_world.specs.AtLog.{Fits, Tie, id_of}
 use Rattle.transactions.specs.Keeping.{HasRun}
 use Rattle.transactions.specs.Logged.{KeepsRecords, MayHold}
 use Rattle.transactions.specs.State.{LiveState, past}
-use Rattle.all_or_nothing.specs.Marks.{Place}
+use Rattle.all_or_nothing.specs.Marks.{At, Passing, Place}
 use Rattle.all_or_nothing.specs.Objects.{AreHolders}
-use Rattle.all_or_nothing.specs.Whole.{AreRouted, IsTiedTo, heard_of}
+use Rattle.all_or_nothing.specs.Whole.{IsRouted, IsTiedTo, heard_of}
 use Rattle.all_or_nothing.proofs.Apart.{KeepsOthers}
 use Rattle.all_or_nothing.proofs.Chain.{Gives}
 use Rattle.all_or_nothing.proofs.Entries.{heard_within}
-use Rattle.all_or_nothing.proofs.Marking.{or_left}
 use Rattle.all_or_nothing.proofs.Same.{whole_same}
 use Rattle.all_or_nothing.proofs.Wholly.{Knows, whole_by_record, whole_without}
 
@@ -43,16 +44,24 @@ TellsLaw = (t : ℕ) (w : World) → AreMadeOnce (IsIn w.calls) → IsOwnRun t w
 
 -- ---- the transaction itself
 
+-- who is heard at a resource is its manager's, and who is in passing is volatile
+pub at_manager : (w : World) (e m : ℕ) (p : Place) → p ≡ At m → IsRouted w e p → IsOf w m e
+at_manager w e m p at k = subst (IsRouted w e) at k
+
+in_passing : (w : World) (e : ℕ) (p : Place) → p ≡ Passing → IsRouted w e p → IsVolatile w e
+in_passing w e p at k = subst (IsRouted w e) at k
+
 -- what is known of it
 pub knows : {D O : Type 0} (honest : Bool) (image : D → List ℕ → Type 0) (gives : Gives O) (place : O → Enlistment → Place) (keeps : O → Enlistment → Type 0) (leaves : O → List Site → Type 0) (sound : O → Type 0) → AreHolders gives place keeps leaves sound
-    → VotesLaw → TellsLaw → (log : LogState D) (z : LiveState) (o : O) → sound o → HasRun honest image log z → AreRouted place z o
+    → VotesLaw → TellsLaw → (log : LogState D) (z : LiveState) (o : O) → sound o → HasRun honest image log z
+    → ((e : EnlNo) → IsRouted z.tx.world e.value (place o (enlistment z.number e)))
     → Knows (number_of z.tx.transaction) z.tx.world (λ e. place o (enlistment z.number e)) (λ e. keeps o (enlistment z.number e)) (leaves o) (number_of z.number) (heard_of z)
 knows honest image gives place keeps leaves sound holders votes tells log z o memory run routed = record {
   votes = votes (number_of z.tx.transaction) z.tx.world run.once run.run run.sound.unrestarted;
   tells = tells (number_of z.tx.transaction) z.tx.world run.once run.run run.sound.unrestarted run.sound.unrecovered;
   within = heard_within z;
-  routes = routed.routes;
-  passes = routed.passes;
+  routes = λ e m at. at_manager z.tx.world e.value m (place o (enlistment z.number e)) at (routed e);
+  passes = λ e m at of. volatile_alone (number_of z.tx.transaction) z.tx.world m e.value run.once run.run (in_passing z.tx.world e.value (place o (enlistment z.number e)) at (routed e)) of;
   held = λ e m k at ss l. holders.held o (enlistment z.number e) m memory k at ss l;
 }
 
@@ -110,7 +119,7 @@ whole_itself honest image place keeps leaves log z o is run k tied rs may ss lef
 -- ---- the others
 
 pub different : (t u : TxId) → (number_of t == number_of u) ≡ false → u ≢ t
-different t u off e = not_both (number_of t == number_of u) (subst (λ x. (number_of t == number_of x) ≡ true) (sym e) (Rattle.all_or_nothing.proofs.Marking.itself (number_of t))) off
+different t u off e = not_both (number_of t == number_of u) (subst (λ x. (number_of t == number_of x) ≡ true) (sym e) (Rattle.history_table.proofs.Tests.eq_self (number_of t))) off
 
 pub turn : (a b : ℕ) → (a == b) ≡ false → (b == a) ≡ false
 turn a b off = grind (arith, nat_tests)

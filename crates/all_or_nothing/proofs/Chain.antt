@@ -27,7 +27,7 @@ use Rattle.all_or_nothing.specs.Marks.{Place}
 use Rattle.all_or_nothing.specs.Tying.{IsTied}
 use Rattle.all_or_nothing.specs.Whole.{IsTiedTo, heard_of}
 use Rattle.all_or_nothing.proofs.Entries.{asked_new, handed_new, heard_more, heard_same, past_more}
-use Rattle.all_or_nothing.proofs.Marking.{or_left}
+use Rattle.std.proofs.lemmas.Bool.{or_left}
 use Rattle.all_or_nothing.proofs.Moved.{Fewer, fewer_same, says_written}
 use Rattle.all_or_nothing.proofs.Moving.{NotesOnce, Says, asks, come_after, comer, hands, its_own, note_by, once_before, tells_abort, tells_commit}
 use Rattle.all_or_nothing.proofs.Tied.{Comes, more_first, more_last, tied_on}

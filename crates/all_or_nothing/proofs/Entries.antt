@@ -64,7 +64,7 @@ heard_same ws x y w same was =
 pub heard_within : (x : LiveState) → HasMore (heard_of x) (past x)
 heard_within x p k =
     let all : has p (past_of (past x)) ≡ true =
-    ap (has p) (sym (take-append-drop x.heard (past_of (past x)))) ∙ (list_any-append p (heard_of x) (drop x.heard (past_of (past x))) ∙ Rattle.all_or_nothing.proofs.Marking.or_left (has p (heard_of x)) (has p (drop x.heard (past_of (past x)))) k) in
+    ap (has p) (sym (take-append-drop x.heard (past_of (past x)))) ∙ (list_any-append p (heard_of x) (drop x.heard (past_of (past x))) ∙ Rattle.std.proofs.lemmas.Bool.or_left (has p (heard_of x)) (has p (drop x.heard (past_of (past x)))) k) in
     sym (has-past p (past x)) ∙ all
 
 pub grown_more : (h es : List Entry) → HasMore h (onto h es)

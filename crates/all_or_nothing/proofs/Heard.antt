@@ -1,6 +1,6 @@
 -- What is held stays tied to the history when an enlistment hears a note.
 use Rattle.std.proofs.Common.{◌≡◌, ◌⊎◌, inl, inr, ℕ, Bool, true, false, not, ◌&&◌, ◌||◌, ◌==◌, List, [], ◌∷◌, ◌++◌, Option, Some, refl, ap, subst, sym, ◌∙◌}
-use Rattle.std.proofs.lemmas.Bool.{eqb-true}
+use Rattle.std.proofs.lemmas.Bool.{eqb-true, or_left}
 use Rattle.dtx_values.specs.declared.entry.Entry.{Entry}
 use Rattle.dtx_values.specs.declared.entry.Entry.TheVariants.{Voted}
 use Rattle.dtx_values.specs.declared.note.Note.{Note}
@@ -19,8 +19,8 @@ use Rattle.history_table.proofs.Scans.{has_more}
 use Rattle.record_laws.specs.Recorded.{is_ack, is_told_so, is_vote_yes}
 use Rattle.recovery_laws.specs.Whole.{Site}
 use Rattle.all_or_nothing.specs.Marks.{At, Becomes, HearsAs, IsTurned, Nowhere, Place, begins, commits, fits_if, is_at, is_single, is_unmarked, marks_of}
-use Rattle.all_or_nothing.specs.Tying.{Given, IsLeftSo, IsTied, gives, is_aborted_by, is_acking, is_any_vote, is_begun, is_done, is_vote_done, is_yes, said_ack, said_done, said_vote, said_yes}
-use Rattle.all_or_nothing.proofs.Marking.{or_left}
+use Rattle.transactions.specs.Hearing.{Given}
+use Rattle.all_or_nothing.specs.Tying.{IsLeftSo, IsTied, gives, is_aborted_by, is_acking, is_any_vote, is_begun, is_done, is_vote_done, is_yes, said_ack, said_done, said_vote, said_yes}
 use Rattle.all_or_nothing.proofs.Tied.{Comes, IsReply, ack_answers, ack_is, at_is, begun_more, done_is, is_at_it, more_first, more_last, or_more, replied, says_more, vote_answers, vote_is, yes_is}
 use Rattle.all_or_nothing.proofs.Turning.{begins_by, commits_by, held_from, marked_from, none_on, single_on, unmarked_on}
 

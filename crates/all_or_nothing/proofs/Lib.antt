@@ -13,3 +13,5 @@ pub mod Apart
 pub mod Called
 pub mod Calls
 pub mod Begun
+pub mod Between
+pub mod Turns

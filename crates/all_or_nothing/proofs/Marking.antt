@@ -1,23 +1,16 @@
 -- What is held of a transaction, by the marks of each enlistment.
-use Rattle.std.proofs.Common.{◌≡◌, ℕ, Bool, true, false, not, ◌&&◌, ◌||◌, ◌==◌, List, [], ◌∷◌, ◌++◌, if◌then◌else◌, refl, ap, sym, ◌∙◌, arith}
-use Rattle.std.proofs.lemmas.Bool.Decides.{nat_tests}
+use Rattle.std.proofs.Common.{◌≡◌, ℕ, Bool, true, false, not, ◌&&◌, ◌||◌, ◌==◌, List, [], ◌∷◌, ◌++◌, if◌then◌else◌, refl, ap, sym, ◌∙◌}
+use Rattle.std.proofs.lemmas.Bool.{or_left}
 use Rattle.std.proofs.lemmas.List.Folds.{list_any-append}
 use Rattle.dtx_model.proofs.Bools.{and_both, and_left, and_right, not_false, or_case, or_right}
 use Rattle.dtx_model.specs.Log.{CommitRecord}
 use Rattle.dtx_model.specs.Outcome.{is_empty}
 use Rattle.dtx_model.specs.Words.{each, has}
+use Rattle.history_table.proofs.Tests.{eq_self}
 use Rattle.resource_managers.specs.Holding.{Holding}
 use Rattle.recovery_laws.specs.Finding.{names}
 use Rattle.recovery_laws.specs.Whole.{Site, are_all_named, is_held, is_of_number}
 use Rattle.all_or_nothing.specs.Marks.{is_single, is_unmarked, marks_in, marks_of}
-
--- a number is itself by the test
-pub itself : (n : ℕ) → (n == n) ≡ true
-itself n = grind (arith, nat_tests)
-
-pub or_left : (a b : Bool) → a ≡ true → (a || b) ≡ true
-or_left true b e = refl
-or_left false b e = absurd cc
 
 -- something is there
 abbrev pub is_some_held : List Bool → Bool
@@ -76,7 +69,7 @@ marked_in q n (h ∷ hs) e = or_case (is_of_number n h && q h.marked) (has (λ k
     here p = record {
       enlistment = h.enlistment;
       passes =
-          by (is_of_number n h && (h.enlistment == h.enlistment)) (and_both (is_of_number n h) (h.enlistment == h.enlistment) (and_left (is_of_number n h) (q h.marked) p) (itself h.enlistment))
+          by (is_of_number n h && (h.enlistment == h.enlistment)) (and_both (is_of_number n h) (h.enlistment == h.enlistment) (and_left (is_of_number n h) (q h.marked) p) (eq_self h.enlistment))
           (and_right (is_of_number n h) (q h.marked) p);
     }
       where
@@ -97,7 +90,7 @@ marked_some q n (s ∷ ss) e =
     or_case (has (λ h. is_of_number n h && q h.marked) s.held) (has (λ x. has (λ h. is_of_number n h && q h.marked) x.held) ss) (λ p. here (marked_in q n s.held p)) (λ p. there (marked_some q n ss p)) e
   where
     here : MarkedIn q n s.held → Marked q n (s ∷ ss)
-    here p = record { manager = s.manager; enlistment = p.enlistment; passes = by (s.manager == s.manager) (itself s.manager) }
+    here p = record { manager = s.manager; enlistment = p.enlistment; passes = by (s.manager == s.manager) (eq_self s.manager) }
       where
         by : (b : Bool) → b ≡ true → has q (if b then marks_in n p.enlistment s.held ++ marks_of s.manager n p.enlistment ss else marks_of s.manager n p.enlistment ss) ≡ true
         by true same = has_joined q (marks_in n p.enlistment s.held) (marks_of s.manager n p.enlistment ss) (or_left (has q (marks_in n p.enlistment s.held)) (has q (marks_of s.manager n p.enlistment ss)) p.passes)
@@ -118,7 +111,7 @@ named_in P n (h ∷ hs) all =
     (named_in P n hs (λ e some. all e (more (is_of_number n h && (e == h.enlistment)) e some)))
   where
     by : (b : Bool) → is_of_number n h ≡ b → (not b || P h.enlistment) ≡ true
-    by true is = all h.enlistment (marks_held n h.enlistment (h ∷ hs) ∙ or_left (is_of_number n h && (h.enlistment == h.enlistment)) _ (and_both (is_of_number n h) (h.enlistment == h.enlistment) is (itself h.enlistment)))
+    by true is = all h.enlistment (marks_held n h.enlistment (h ∷ hs) ∙ or_left (is_of_number n h && (h.enlistment == h.enlistment)) _ (and_both (is_of_number n h) (h.enlistment == h.enlistment) is (eq_self h.enlistment)))
     by false is = refl
 
     more : (b : Bool) (e : ℕ) → is_some_held (marks_in n e hs) ≡ true → is_some_held (if b then h.marked ∷ marks_in n e hs else marks_in n e hs) ≡ true
@@ -129,7 +122,7 @@ pub all_named : (n : ℕ) (r : CommitRecord) (ss : List Site) → ((m e : ℕ) �
 all_named n r [] all = refl
 all_named n r (s ∷ ss) all =
     and_both (each (λ h. not (is_of_number n h) || names s.manager h.enlistment r) s.held) (are_all_named n r ss)
-    (named_in (λ e. names s.manager e r) n s.held (λ e some. all s.manager e (here (s.manager == s.manager) e (itself s.manager) some)))
+    (named_in (λ e. names s.manager e r) n s.held (λ e some. all s.manager e (here (s.manager == s.manager) e (eq_self s.manager) some)))
     (all_named n r ss (λ m e some. all m e (there (m == s.manager) m e some)))
   where
     here : (b : Bool) (e : ℕ) → b ≡ true → is_some_held (marks_in n e s.held) ≡ true
@@ -146,7 +139,7 @@ pub all_held : (n : ℕ) (ss : List Site) (ps : List (ℕ × ℕ)) → ((m e : �
 all_held n ss [] all = refl
 all_held n ss (p ∷ ps) all =
     and_both (is_held n ss p) (each (is_held n ss) ps)
-    (sym (held_by_marks p.0 n p.1 ss) ∙ all p.0 p.1 (or_left ((p.0 == p.0) && (p.1 == p.1)) _ (and_both (p.0 == p.0) (p.1 == p.1) (itself p.0) (itself p.1))))
+    (sym (held_by_marks p.0 n p.1 ss) ∙ all p.0 p.1 (or_left ((p.0 == p.0) && (p.1 == p.1)) _ (and_both (p.0 == p.0) (p.1 == p.1) (eq_self p.0) (eq_self p.1))))
     (all_held n ss ps (λ m e some. all m e (or_right ((m == p.0) && (e == p.1)) _ some)))
 
 -- One that is held at most once, and with a mark, is held with that mark alone.

@@ -14,7 +14,7 @@ use Rattle.dtx_model.specs.Words.{each, has, onto}
 use Rattle.record_laws.specs.Recorded.{is_ack, is_vote_yes}
 use Rattle.transactions.specs.Hearing.{Given, is_one_of, is_reply, says}
 use Rattle.all_or_nothing.specs.Tying.{gives, is_acking, is_any_vote, is_done, is_vote_done, is_yes}
-use Rattle.all_or_nothing.proofs.Marking.{or_left}
+use Rattle.std.proofs.lemmas.Bool.{or_left}
 use Rattle.all_or_nothing.proofs.Tied.{SaysNoMore}
 
 -- ---- what is written was given
@@ -44,7 +44,7 @@ said_before test p t gs hs e h ws all fewer k =
     (λ q. or_right (has (test e) h) (gives p e gs) (fewer q)) k
 
 flip : (a b : ℕ) → (a == b) ≡ true → (b == a) ≡ true
-flip a b q = subst (λ k. (k == a) ≡ true) (Rattle.std.proofs.lemmas.Bool.eqb-true a b q) (Rattle.all_or_nothing.proofs.Marking.itself a)
+flip a b q = subst (λ k. (k == a) ≡ true) (Rattle.std.proofs.lemmas.Bool.eqb-true a b q) (Rattle.history_table.proofs.Tests.eq_self a)
 
 -- who gave a reply is whom the entry names
 same_name : (e f g : ℕ) → (e == f) ≡ true → (g == f) ≡ true → (g == e) ≡ true

@@ -22,7 +22,8 @@ use Rattle.transactions.specs.Hearing.{events}
 use Rattle.transactions.specs.declared.event.Event.{Event}
 use Rattle.all_or_nothing.specs.Marks.{At, Place}
 use Rattle.all_or_nothing.proofs.Entries.{grown_more}
-use Rattle.all_or_nothing.proofs.Marking.{itself, or_left}
+use Rattle.history_table.proofs.Tests.{eq_self}
+use Rattle.std.proofs.lemmas.Bool.{or_left}
 
 -- ---- which entry an event comes from
 
@@ -66,7 +67,7 @@ its_own t _ e n k = absurd cc
 
 pub asks : (t : TxId) (x : Entry) (e : Enlistment) → Says t x e Prepare → is_asked e.number.value x ≡ true
 asks t (InitEntry f) e k = let clash : Init ≡ Prepare = (same_pair (enlistment t f, Init) (e, Prepare) k).1 in absurd cc
-asks t (AskedEntry f AskPrepare) e k = let same : e.number ≡ f = sym (ap (λ (x : Enlistment). x.number) (same_pair (enlistment t f, Prepare) (e, Prepare) k).0) in subst (λ g. (g.value == f.value) ≡ true) (sym same) (itself f.value)
+asks t (AskedEntry f AskPrepare) e k = let same : e.number ≡ f = sym (ap (λ (x : Enlistment). x.number) (same_pair (enlistment t f, Prepare) (e, Prepare) k).0) in subst (λ g. (g.value == f.value) ≡ true) (sym same) (eq_self f.value)
 asks t (AskedEntry f AskPromote) e k = let clash : Promote ≡ Prepare = (same_pair (enlistment t f, Promote) (e, Prepare) k).1 in absurd cc
 asks t (AskedEntry f AskSingle) e k = let clash : Single ≡ Prepare = (same_pair (enlistment t f, Single) (e, Prepare) k).1 in absurd cc
 asks t (Handed f) e k = let clash : Hand ≡ Prepare = (same_pair (enlistment t f, Hand) (e, Prepare) k).1 in absurd cc
@@ -81,7 +82,7 @@ hands t (InitEntry f) e k = let clash : Init ≡ Hand = (same_pair (enlistment t
 hands t (AskedEntry f AskPrepare) e k = let clash : Prepare ≡ Hand = (same_pair (enlistment t f, Prepare) (e, Hand) k).1 in absurd cc
 hands t (AskedEntry f AskPromote) e k = let clash : Promote ≡ Hand = (same_pair (enlistment t f, Promote) (e, Hand) k).1 in absurd cc
 hands t (AskedEntry f AskSingle) e k = let clash : Single ≡ Hand = (same_pair (enlistment t f, Single) (e, Hand) k).1 in absurd cc
-hands t (Handed f) e k = let same : e.number ≡ f = sym (ap (λ (x : Enlistment). x.number) (same_pair (enlistment t f, Hand) (e, Hand) k).0) in subst (λ g. (g.value == f.value) ≡ true) (sym same) (itself f.value)
+hands t (Handed f) e k = let same : e.number ≡ f = sym (ap (λ (x : Enlistment). x.number) (same_pair (enlistment t f, Hand) (e, Hand) k).0) in subst (λ g. (g.value == f.value) ≡ true) (sym same) (eq_self f.value)
 hands t (ToldEntry (Enl f) Committed) e k = let clash : Commit ≡ Hand = (same_pair (enlistment t f, Commit) (e, Hand) k).1 in absurd cc
 hands t (ToldEntry (Enl f) Aborted) e k = let clash : Rollback ≡ Hand = (same_pair (enlistment t f, Rollback) (e, Hand) k).1 in absurd cc
 hands t (ToldEntry (Enl f) InDoubt) e k = let clash : InDoubtNote ≡ Hand = (same_pair (enlistment t f, InDoubtNote) (e, Hand) k).1 in absurd cc
@@ -94,7 +95,7 @@ tells_commit t (AskedEntry f AskPrepare) e k = let clash : Prepare ≡ Commit = 
 tells_commit t (AskedEntry f AskPromote) e k = let clash : Promote ≡ Commit = (same_pair (enlistment t f, Promote) (e, Commit) k).1 in absurd cc
 tells_commit t (AskedEntry f AskSingle) e k = let clash : Single ≡ Commit = (same_pair (enlistment t f, Single) (e, Commit) k).1 in absurd cc
 tells_commit t (Handed f) e k = let clash : Hand ≡ Commit = (same_pair (enlistment t f, Hand) (e, Commit) k).1 in absurd cc
-tells_commit t (ToldEntry (Enl f) Committed) e k = let same : e.number ≡ f = sym (ap (λ (x : Enlistment). x.number) (same_pair (enlistment t f, Commit) (e, Commit) k).0) in and_both (e.number.value == f.value) true (subst (λ g. (g.value == f.value) ≡ true) (sym same) (itself f.value)) refl
+tells_commit t (ToldEntry (Enl f) Committed) e k = let same : e.number ≡ f = sym (ap (λ (x : Enlistment). x.number) (same_pair (enlistment t f, Commit) (e, Commit) k).0) in and_both (e.number.value == f.value) true (subst (λ g. (g.value == f.value) ≡ true) (sym same) (eq_self f.value)) refl
 tells_commit t (ToldEntry (Enl f) Aborted) e k = let clash : Rollback ≡ Commit = (same_pair (enlistment t f, Rollback) (e, Commit) k).1 in absurd cc
 tells_commit t (ToldEntry (Enl f) InDoubt) e k = let clash : InDoubtNote ≡ Commit = (same_pair (enlistment t f, InDoubtNote) (e, Commit) k).1 in absurd cc
 tells_commit t (ToldEntry Client o) e k = absurd cc
@@ -107,7 +108,7 @@ tells_abort t (AskedEntry f AskPromote) e k = let clash : Promote ≡ Rollback =
 tells_abort t (AskedEntry f AskSingle) e k = let clash : Single ≡ Rollback = (same_pair (enlistment t f, Single) (e, Rollback) k).1 in absurd cc
 tells_abort t (Handed f) e k = let clash : Hand ≡ Rollback = (same_pair (enlistment t f, Hand) (e, Rollback) k).1 in absurd cc
 tells_abort t (ToldEntry (Enl f) Committed) e k = let clash : Commit ≡ Rollback = (same_pair (enlistment t f, Commit) (e, Rollback) k).1 in absurd cc
-tells_abort t (ToldEntry (Enl f) Aborted) e k = let same : e.number ≡ f = sym (ap (λ (x : Enlistment). x.number) (same_pair (enlistment t f, Rollback) (e, Rollback) k).0) in and_both (e.number.value == f.value) true (subst (λ g. (g.value == f.value) ≡ true) (sym same) (itself f.value)) refl
+tells_abort t (ToldEntry (Enl f) Aborted) e k = let same : e.number ≡ f = sym (ap (λ (x : Enlistment). x.number) (same_pair (enlistment t f, Rollback) (e, Rollback) k).0) in and_both (e.number.value == f.value) true (subst (λ g. (g.value == f.value) ≡ true) (sym same) (eq_self f.value)) refl
 tells_abort t (ToldEntry (Enl f) InDoubt) e k = let clash : InDoubtNote ≡ Rollback = (same_pair (enlistment t f, InDoubtNote) (e, Rollback) k).1 in absurd cc
 tells_abort t (ToldEntry Client o) e k = absurd cc
 tells_abort t _ e k = absurd cc

@@ -1,6 +1,6 @@
 -- What is whole stays so where all that is held of a transaction is as it was.
 use Rattle.std.proofs.Common.{◌≡◌, ℕ, Bool, true, false, not, ◌&&◌, ◌||◌, ◌==◌, List, [], ◌∷◌, ◌++◌, Option, Some, None, if◌then◌else◌, refl, ap, subst, sym, ◌∙◌}
-use Rattle.std.proofs.lemmas.Bool.{eqb-true}
+use Rattle.std.proofs.lemmas.Bool.{eqb-true, or_left}
 use Rattle.std.proofs.lemmas.List.Folds.{list_any-append}
 use Rattle.dtx_model.proofs.Bools.{and_both, and_left, and_right, not_both, or_case, or_right}
 use Rattle.dtx_model.specs.Log.{CommitRecord}
@@ -10,7 +10,7 @@ use Rattle.recovery_laws.specs.Finding.{names}
 use Rattle.recovery_laws.specs.Whole.{Site, are_all_named, has_marked, has_unmarked, is_held, is_of_number, is_whole_by}
 use Rattle.resource_managers.specs.Holding.{Holding}
 use Rattle.all_or_nothing.specs.Marks.{marks_in, marks_of}
-use Rattle.all_or_nothing.proofs.Marking.{all_named, held_by_marks, is_some_held, marked_some, none_both, or_left}
+use Rattle.all_or_nothing.proofs.Marking.{all_named, held_by_marks, is_some_held, marked_some, none_both}
 
 in_marked : (q : Bool → Bool) (n e : ℕ) (hs : List Holding) → has q (marks_in n e hs) ≡ true → has (λ h. is_of_number n h && q h.marked) hs ≡ true
 in_marked q n e [] k = absurd cc

@@ -1,6 +1,6 @@
 -- What is held stays tied to the history: while that goes on, and when an enlistment hears a note.
 use Rattle.std.proofs.Common.{◌≡◌, ◌⊎◌, inl, inr, ℕ, Bool, true, false, not, ◌&&◌, ◌||◌, ◌==◌, List, [], ◌∷◌, ◌++◌, Option, Some, None, refl, ap, subst, sym, ◌∙◌}
-use Rattle.std.proofs.lemmas.Bool.{eqb-true}
+use Rattle.std.proofs.lemmas.Bool.{eqb-true, or_left}
 use Rattle.std.proofs.lemmas.List.Folds.{list_any-append}
 use Rattle.dtx_values.specs.declared.entry.Entry.{Entry}
 use Rattle.dtx_values.specs.declared.note.Note.{Note}
@@ -18,8 +18,9 @@ use Rattle.dtx_model.specs.Words.{has}
 use Rattle.record_laws.specs.Recorded.{is_told_so}
 use Rattle.recovery_laws.specs.Whole.{Site}
 use Rattle.all_or_nothing.specs.Marks.{At, Nowhere, Passing, Place, is_at, is_unmarked, marks_of}
-use Rattle.all_or_nothing.specs.Tying.{Given, IsTied, gives, is_aborted_by, is_acking, is_any_vote, is_begun, is_done, is_yes, said_ack, said_done, said_vote, said_yes}
-use Rattle.all_or_nothing.proofs.Marking.{itself, or_left}
+use Rattle.transactions.specs.Hearing.{Given}
+use Rattle.all_or_nothing.specs.Tying.{IsTied, gives, is_aborted_by, is_acking, is_any_vote, is_begun, is_done, is_yes, said_ack, said_done, said_vote, said_yes}
+use Rattle.history_table.proofs.Tests.{eq_self}
 
 -- ---- the history goes on, and no note is heard
 
@@ -159,4 +160,4 @@ at_is Nowhere m e = absurd cc
 at_is Passing m e = absurd cc
 
 pub is_at_it : (p : Place) (m : ℕ) → p ≡ At m → is_at p m ≡ true
-is_at_it p m e = subst (λ q. is_at q m ≡ true) (sym e) (itself m)
+is_at_it p m e = subst (λ q. is_at q m ≡ true) (sym e) (eq_self m)

@@ -1,7 +1,7 @@
 -- A transaction that is tied to what is held of it is whole.
 use Rattle.std.proofs.Common.{◌≡◌, ◌⊎◌, inl, inr, ℕ, Bool, true, false, not, ◌&&◌, ◌||◌, ◌==◌, List, [], ◌∷◌, Option, Some, None, refl, subst, sym, ◌∙◌}
 use Rattle.std.specs.Option.{option_map}
-use Rattle.std.proofs.lemmas.Bool.{eqb-true}
+use Rattle.std.proofs.lemmas.Bool.{eqb-true, or_left}
 use Rattle.coordinator_core.specs.Acting.{record_for}
 use Rattle.dtx_values.specs.declared.entry.Entry.{Entry}
 use Rattle.dtx_values.specs.declared.entry.Entry.TheVariants.{Voted}
@@ -19,7 +19,7 @@ use Rattle.record_laws.specs.Recorded.{IsOf, RecordsVotes, TellsByRecord, is_ack
 use Rattle.recovery_laws.specs.Whole.{Site, are_all_named, has_marked, has_unmarked, is_held, is_whole_by}
 use Rattle.all_or_nothing.specs.Marks.{At, Nowhere, Passing, Place, is_unmarked, marks_of}
 use Rattle.all_or_nothing.specs.Tying.{IsLeftSo, IsTied, is_aborted_by, is_vote_done, said_yes}
-use Rattle.all_or_nothing.proofs.Marking.{Marked, all_held, all_named, held_if, if_held, is_some_held, marked_some, none_both, only_false, only_true, or_left, unmarked_held}
+use Rattle.all_or_nothing.proofs.Marking.{Marked, all_held, all_named, held_if, if_held, is_some_held, marked_some, none_both, only_false, only_true, unmarked_held}
 
 -- What is known of a transaction: what its history says of the record, where its objects hear its enlistments, and what they keep is left.
 pub record Knows (t : ℕ) (w : World) (place : EnlNo → Place) (keeps : EnlNo → Type 0) (leaves : List Site → Type 0) (n : ℕ) (heard : List Entry) : Type 0 where
@@ -36,10 +36,7 @@ vote_name e [] k = absurd cc
 vote_name e (x ∷ h) k = or_case (is_vote_yes e x) (has (is_vote_yes e) h) (here e x) (λ p. vote_name e h p) k
   where
     here : (e : ℕ) (x : Entry) → is_vote_yes e x ≡ true → (f : EnlNo) × (f.value ≡ e)
-    here e (Voted f Yes) p = (f, eqb-true f.value e (flip e f.value p))
-      where
-        flip : (a b : ℕ) → (a == b) ≡ true → (b == a) ≡ true
-        flip a b q = rw (eqb-true a b q) (Rattle.all_or_nothing.proofs.Marking.itself b)
+    here e (Voted f Yes) p = (f, sym (eqb-true e f.value p))
     here e (Voted f No) p = absurd cc
     here e (Voted f Done) p = absurd cc
     here e _ p = absurd cc

@@ -12,11 +12,8 @@ use Rattle.dtx_model.specs.Outcome.{is_empty}
 use Rattle.dtx_model.specs.Words.{has}
 use Rattle.record_laws.specs.Recorded.{is_ack, is_told_so, is_vote_yes}
 use Rattle.recovery_laws.specs.Whole.{Site}
+use Rattle.transactions.specs.Hearing.{Given}
 use Rattle.all_or_nothing.specs.Marks.{Place, At, Nowhere, is_single, is_unmarked, marks_of}
-
--- a reply that an enlistment gave, or is to give
-abbrev pub Given : Type 0
-Given = EnlNo × Reply
 
 abbrev pub is_yes : Reply → Bool
 is_yes (VoteReply Yes) = true

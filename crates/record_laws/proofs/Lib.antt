@@ -2,6 +2,7 @@ pub mod AskedOnce
 pub mod FreedAcked
 pub mod HandedAlone
 pub mod LastingCalls
+pub mod LastingManagers
 pub mod ToldByRecord
 pub mod ToldListed
 pub mod NamedDesks

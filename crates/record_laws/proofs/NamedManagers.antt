@@ -432,6 +432,12 @@ same_call ks h e p q once w f g a b =
     let both : Some i.call ≡ Some j.call = sym first ∙ ap (call_at ks) line ∙ second in
     cc
 
+-- a call that passes is at some place
+pub at_has : (ks : List EnteredCall) (q : Call → Bool) → has (λ k. q k.call) ks ≡ true → IsCallAt ks q
+at_has [] q k = absurd cc
+at_has (x ∷ ks) q k = or_case (q x.call) (has (λ y. q y.call) ks) (λ p. record { place = 0; entry = x; stands = refl; passes = p })
+    (λ p. let a = at_has ks q p in record { place = suc a.place; entry = a.entry; stands = a.stands; passes = a.passes }) k
+
 -- a maker is a call that was entered
 maker_at : (ks : List EnteredCall) (h : List Entry) (q : Call → Bool) → IsMaker (IsIn ks) ks h q → IsCallAt ks q
 maker_at ks h q m = by m.may.place m.may.stands
@@ -441,7 +447,7 @@ maker_at ks h q m = by m.may.place m.may.stands
     by (suc n) s = record { place = n; entry = record { line = m.number; actor = m.actor; call = m.call }; stands = s; passes = m.passes }
 
 -- who is of a manager by the calls was made so by one
-of_call : (ks : List EnteredCall) (m e : ℕ) → option_map (λ (r : RmNo). r.value) (manager_of ks e) ≡ Some m → IsCallAt ks (is_maker_of e m)
+pub of_call : (ks : List EnteredCall) (m e : ℕ) → option_map (λ (r : RmNo). r.value) (manager_of ks e) ≡ Some m → IsCallAt ks (is_maker_of e m)
 of_call ks m e o = by (manager_of ks e) refl o
   where
     by : (x : Option RmNo) → manager_of ks e ≡ x → option_map (λ (r : RmNo). r.value) x ≡ Some m → IsCallAt ks (is_maker_of e m)
@@ -454,12 +460,11 @@ of_call ks m e o = by (manager_of ks e) refl o
 maker_enlists : (e r : ℕ) (c : Call) → is_maker_of e r c ≡ true → makes_enlistment e c ≡ true
 maker_enlists e r c k = lasting_makes e c (of_lasting e r c k)
 
--- Of a world that ran: whose ENLIST was sent is of the manager that it names.
-pub sent_named : (t : ℕ) (ms : List Step) (w : World) → AreMadeOnce (IsIn w.calls) → Ran (IsIn w.calls) t ms w → (e r : ℕ) → has (is_enlist_by e r) w.past ≡ true
+-- Of a world that ran: whom an entered call makes an enlistment of a manager is that manager's.
+pub made_of : (t : ℕ) (ms : List Step) (w : World) → AreMadeOnce (IsIn w.calls) → Ran (IsIn w.calls) t ms w → (e r : ℕ) → IsCallAt w.calls (is_maker_of e r)
     → option_map (λ (r : RmNo). r.value) (manager_of w.calls e) ≡ Some r
-sent_named t ms w once ran e r k =
+made_of t ms w once ran e r own =
     let ks = w.calls in
-    let own = maker_at ks w.past (is_maker_of e r) ((ran_named (IsIn ks) t ms w ran).sent e r k) in
     let some = latest_some (λ (k : EnteredCall). manager_by e k.call) ks (has-at (λ (k : EnteredCall). is_some (manager_by e k.call)) ks own.place own.entry own.stands (call_managed e r own.entry.call own.passes)) in
     let said : option_map (λ (r : RmNo). r.value) (manager_of ks e) ≡ Some some.0.value = ap (option_map (λ (r : RmNo). r.value)) some.1 in
     let other = of_call ks some.0.value e said in
@@ -468,13 +473,17 @@ sent_named t ms w once ran e r k =
     let value : some.0.value ≡ r = one_maker e some.0.value r own.entry.call (subst (λ c. is_maker_of e some.0.value c ≡ true) (sym same) other.passes) own.passes in
     said ∙ ap Some value
 
--- who is of a manager is no volatile
-pub of_unvolatile : (t : ℕ) (ms : List Step) (w : World) → AreMadeOnce (IsIn w.calls) → Ran (IsIn w.calls) t ms w → (m e : ℕ) → option_map (λ (r : RmNo). r.value) (manager_of w.calls e) ≡ Some m
-    → has (is_volatile_made e) w.past ≡ true → ⊥
-of_unvolatile t ms w once ran m e o v =
+-- so whose ENLIST was sent is of the manager that it names
+pub sent_named : (t : ℕ) (ms : List Step) (w : World) → AreMadeOnce (IsIn w.calls) → Ran (IsIn w.calls) t ms w → (e r : ℕ) → has (is_enlist_by e r) w.past ≡ true
+    → option_map (λ (r : RmNo). r.value) (manager_of w.calls e) ≡ Some r
+sent_named t ms w once ran e r k = made_of t ms w once ran e r (maker_at w.calls w.past (is_maker_of e r) ((ran_named (IsIn w.calls) t ms w ran).sent e r k))
+
+-- who is of a manager is no volatile, by any call
+pub of_no_volatile : (t : ℕ) (ms : List Step) (w : World) → AreMadeOnce (IsIn w.calls) → Ran (IsIn w.calls) t ms w → (m e : ℕ) → option_map (λ (r : RmNo). r.value) (manager_of w.calls e) ≡ Some m
+    → IsCallAt w.calls (makes_volatile e) → ⊥
+of_no_volatile t ms w once ran m e o other =
     let ks = w.calls in
     let own = of_call ks m e o in
-    let other = maker_at ks w.past (makes_volatile e) ((ran_made (IsIn ks) t ms w ran).volatile e v) in
     let same : own.entry.call ≡ other.entry.call =
     same_call ks w.past e (is_maker_of e m) (makes_volatile e) once (ran_entered (IsIn ks) t ms w ran) (maker_enlists e m) volatile_enlists own other in
     both own.entry.call own.passes (subst (λ c. makes_volatile e c ≡ true) (sym same) other.passes)
@@ -488,6 +497,12 @@ of_unvolatile t ms w once ran m e o v =
     both (Durable u f x y) a b = absurd cc
     both (Promotable u f x y z p) a b = absurd cc
     both _ a b = absurd cc
+
+-- nor was it made one in the history
+pub of_unvolatile : (t : ℕ) (ms : List Step) (w : World) → AreMadeOnce (IsIn w.calls) → Ran (IsIn w.calls) t ms w → (m e : ℕ) → option_map (λ (r : RmNo). r.value) (manager_of w.calls e) ≡ Some m
+    → has (is_volatile_made e) w.past ≡ true → ⊥
+of_unvolatile t ms w once ran m e o v =
+    of_no_volatile t ms w once ran m e o (maker_at w.calls w.past (makes_volatile e) ((ran_made (IsIn w.calls) t ms w ran).volatile e v))
 
 -- who is of a manager is an enlistment with a number
 pub of_number : (ks : List EnteredCall) (m e : ℕ) → option_map (λ (r : RmNo). r.value) (manager_of ks e) ≡ Some m → (f : EnlNo) × (f.value ≡ e)

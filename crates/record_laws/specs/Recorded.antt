@@ -9,6 +9,7 @@ use Rattle.dtx_values.specs.declared.words.Outcome.{Outcome}
 use Rattle.dtx_values.specs.declared.words.Outcome.TheVariants.{Aborted, Committed}
 use Rattle.dtx_values.specs.declared.words.Vote.TheVariants.{Yes}
 use Rattle.coordinator_core.specs.Acting.{record_for}
+use Rattle.dtx_model.specs.Caused.{makes_volatile}
 use Rattle.dtx_model.specs.Words.{always, has}
 use Rattle.dtx_model.specs.Entries.{is_any_hand, is_asked, is_good_vote, is_hand, same_outcome}
 use Rattle.dtx_model.specs.Log.{CommitRecord}
@@ -50,6 +51,10 @@ is_free_tried h = has is_freed h || can_free (before_last_stop h)
 -- the enlistment of this number is durable or promotable, and this manager's, by the call that made it
 abbrev pub IsOf : World → ℕ → ℕ → Type 0
 IsOf w m e = option_map (λ r. r.value) (manager_of w.calls e) ≡ Some m
+
+-- the enlistment of this number is volatile, by the call that made it
+abbrev pub IsVolatile : World → ℕ → Type 0
+IsVolatile w e = has (λ k. makes_volatile e k.call) w.calls ≡ true
 
 -- the record names the enlistment of this manager and this number
 abbrev pub is_named : ℕ → ℕ → CommitRecord → Bool

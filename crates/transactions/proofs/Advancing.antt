@@ -47,6 +47,8 @@ writes_on rs qs x y z a b =
       written = a.written ++ b.written;
       grown = b.grown ∙ (ap (λ h. onto h b.written) a.grown ∙ sym (onto-append (past x) a.written b.written));
       said = each-append (is_one_of (rs ++ qs)) a.written b.written (each_more (is_one_of rs) (is_one_of (rs ++ qs)) (one_left rs qs) a.written a.said) (each_more (is_one_of qs) (is_one_of (rs ++ qs)) (one_right rs qs) b.written b.said);
+      called = b.called ++ a.called;
+      calls = b.calls ∙ (ap (λ ks. b.called ++ ks) a.calls ∙ sym (append_assoc b.called a.called x.tx.world.calls));
     }
 
 -- What was heard, and then was heard: where the first part heard no more than there was.
@@ -82,13 +84,13 @@ pub record Going (x y : LiveState) : Type 0 where
   pub rest : y ≡ record x { tx = y.tx; heard = y.heard }
 
 pub going_none : (x : LiveState) → Going x x
-going_none x = record { writes = record { written = []; grown = refl; said = refl }; hears = hears_none x x refl; rest = refl }
+going_none x = record { writes = record { written = []; grown = refl; said = refl; called = []; calls = refl }; hears = hears_none x x refl; rest = refl }
 
 -- after it, the next entries were heard
 pub going_heard : (e : Option Event) (x y z : LiveState) → Going x y → HearsNext (listed e) y z → z ≡ record y { heard = z.heard } → y.heard ≤ length (past y) → x.heard ≤ length (past x)
     → z.heard ≤ length (past z) → Advances e x z
 going_heard e x y z go hears rest within was still =
-    let none : Writes [] y z = record { written = []; grown = ap (λ (v : LiveState). past v) rest; said = refl } in
+    let none : Writes [] y z = record { written = []; grown = ap (λ (v : LiveState). past v) rest; said = refl; called = []; calls = ap (λ (v : LiveState). v.tx.world.calls) rest } in
     record {
       writes = writes_on [] [] x y z go.writes none;
       hears = hears_on [] (listed e) [] x y z go.hears none hears (ap (λ (v : LiveState). v.number) go.rest) within;

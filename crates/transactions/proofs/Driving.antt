@@ -27,7 +27,7 @@ Gives O = O → Enlistment → Note → Option Reply → O → Type 0
 
 -- nothing was written, whatever was replied
 pub writes_nothing : (rs : List Given) (x : LiveState) → Writes rs x x
-writes_nothing rs x = record { written = []; grown = refl; said = refl }
+writes_nothing rs x = record { written = []; grown = refl; said = refl; called = []; calls = refl }
 
 -- two of four change places
 or_four : (a b c d : Bool) → ((a || b) || (c || d)) ≡ ((a || c) || (b || d))
@@ -58,6 +58,8 @@ writes_four gs rs hs qs x y w =
       written = w.written;
       grown = w.grown;
       said = each_more (is_one_of ((gs ++ rs) ++ (hs ++ qs))) (is_one_of ((gs ++ hs) ++ (rs ++ qs))) (one_four gs rs hs qs) w.written w.said;
+      called = w.called;
+      calls = w.calls;
     }
 
 -- The objects hear some events, and then others.
@@ -72,10 +74,10 @@ hears_one gives e a b rs h = (b, rs, [], h, (refl, refl), sym (append-nil rs))
 
 -- what was written is among more replies
 writes_left : (gs hs : List Given) (x y : LiveState) → Writes gs x y → Writes (gs ++ hs) x y
-writes_left gs hs x y w = record { written = w.written; grown = w.grown; said = each_more (is_one_of gs) (is_one_of (gs ++ hs)) (one_left gs hs) w.written w.said }
+writes_left gs hs x y w = record { written = w.written; grown = w.grown; said = each_more (is_one_of gs) (is_one_of (gs ++ hs)) (one_left gs hs) w.written w.said; called = w.called; calls = w.calls }
 
 writes_right : (gs hs : List Given) (x y : LiveState) → Writes hs x y → Writes (gs ++ hs) x y
-writes_right gs hs x y w = record { written = w.written; grown = w.grown; said = each_more (is_one_of hs) (is_one_of (gs ++ hs)) (one_right gs hs) w.written w.said }
+writes_right gs hs x y w = record { written = w.written; grown = w.grown; said = each_more (is_one_of hs) (is_one_of (gs ++ hs)) (one_right gs hs) w.written w.said; called = w.called; calls = w.calls }
 
 -- A move is one where more replies are given from outside,
 moves_more : {O : Type 0} (gives : Gives O) (gs hs : List Given) → ((x y : LiveState) → Writes gs x y → Writes hs x y) → (x y : LiveState) (a b : O) → Moves gives gs x y a b → Moves gives hs x y a b
@@ -89,12 +91,8 @@ chain_more : {O : Type 0} (gives : Gives O) (gs hs : List Given) → ((x y : Liv
 chain_more gives gs hs more zero x y a b k = k
 chain_more gives gs hs more (suc n) x y a b k = (k.0, k.1, chain_more gives gs hs more n x k.0 a k.1 k.2, moves_more gives gs hs more k.0 y k.1 b k.3)
 
--- some moves
-abbrev Chain : {O : Type 0} → Gives O → List Given → LiveState → LiveState → O → O → Type 0
-Chain gives gs x y a b = (n : ℕ) × MovesOn gives gs n x y a b
-
 -- moves, and then moves
-chain_both : {O : Type 0} (gives : Gives O) (gs : List Given) (m n : ℕ) (x y z : LiveState) (a b c : O) → MovesOn gives gs m x y a b → MovesOn gives gs n y z b c → Chain gives gs x z a c
+pub chain_both : {O : Type 0} (gives : Gives O) (gs : List Given) (m n : ℕ) (x y z : LiveState) (a b c : O) → MovesOn gives gs m x y a b → MovesOn gives gs n y z b c → (k : ℕ) × MovesOn gives gs k x z a c
 chain_both {O} gives gs m zero x y z a b c k l =
     (m, subst (λ (s : LiveState). MovesOn gives gs m x s a c) (sym l.0) (subst (λ (o : O). MovesOn gives gs m x y a o) (sym l.1) k))
 chain_both gives gs m (suc n) x y z a b c k l =
@@ -219,7 +217,7 @@ Driven honest image gives t old now a b = HeardAt honest image gives [] t old no
 
 -- nothing was done
 pub driven_none : {D C O : Type 0} (honest : Bool) (image : D → List ℕ → Type 0) (gives : Gives O) (t : TxId) (s : Standing D C) (a : O) → Driven honest image gives t s s a a
-driven_none honest image gives t s a = (heard_none_at honest image gives t s s a refl refl, λ u n. refl, (refl, refl))
+driven_none honest image gives t s a = (heard_none_at honest image gives t s s a refl refl, λ u n. refl, ((refl, refl), refl))
 
 -- and then a turn of its objects
 pub driven_turn : {D C O : Type 0} (honest : Bool) (image : D → List ℕ → Type 0) (gives : Gives O) (t : TxId) (e : Event) (rs : List Given) (old mid on new : Standing D C) (a b c : O)
@@ -229,7 +227,7 @@ pub driven_turn : {D C O : Type 0} (honest : Bool) (image : D → List ℕ → T
 driven_turn honest image gives t e rs old mid on new a b c d v logged same time within note given others rest = (
   heard_turn_at honest image gives t e rs old mid on new a b c d.0 v logged within note given (ap (λ (s : Standing _ _). s.log) rest),
   λ u n. others u n ∙ (same u n ∙ d.1 u n),
-  (ap (λ (s : Standing _ _). s.clock) rest ∙ (time.0 ∙ d.2.0), ap (λ (s : Standing _ _). s.reading) rest ∙ (time.1 ∙ d.2.1)),
+  ((ap (λ (s : Standing _ _). s.clock) rest ∙ (time.0.0 ∙ d.2.0.0), ap (λ (s : Standing _ _). s.reading) rest ∙ (time.0.1 ∙ d.2.0.1)), ap (λ (s : Standing _ _). s.last) rest ∙ (time.1 ∙ d.2.1)),
 )
 
 -- a reply that was done, or wasn't due

@@ -13,6 +13,9 @@ use Rattle.transactions.specs.declared.error.TxError.{TxError}
 use Rattle.transactions.specs.declared.error.TxError.TheVariants.{Refused}
 use Rattle.transactions.specs.Calling.{IsCalled}
 use Rattle.transactions.specs.Doing.{Called, CallsAt, HeardAt, IsRefused, MayFail}
+use Rattle.dtx_values.specs.declared.number.EnlNo.{EnlNo}
+use Rattle.transactions.specs.declared.kind.Kind.{Kind}
+use Rattle.transactions.specs.Enlisting.{Enlists, EnlistsAt, IsNotEnlisted, NumbersEnlistments, enlists}
 use Rattle.transactions.specs.Hearing.{Given, IsHeard, Writes}
 use Rattle.transactions.specs.Slots.{KeepsRest, Standing, live_at}
 use Rattle.transactions.specs.State.{LiveState, past}
@@ -75,6 +78,54 @@ pub unentered_heard : {D C O : Type 0} (faults : D → ℕ) (honest : Bool) (ima
     → HeardAt honest image gives [] t old new a a
 unentered_heard faults honest image gives t c old new a e rest (inl k) = heard_none_at honest image gives t old new a k.1 (ap (λ (s : Standing _ _). s.log) rest)
 unentered_heard faults honest image gives t c old new a e rest (inr k) = calls_heard faults honest image gives t c k.2.0 k.0 old new a k.2.1 (ap (λ (s : Standing _ _). s.log) rest)
+
+-- A call that enlists something is heard of by nobody,
+enlist_heard : {D O : Type 0} (faults : D → ℕ) (log : LogState D) (gives : Gives O) (k : Kind) (e : EnlNo) (line : ℕ) (answer : Answer) (x y : LiveState) (a : O) → Enlists faults log k e line answer x y
+    → IsHeard gives [] x y a a
+enlist_heard faults log gives k e line answer x y a l =
+    let w = call_writes faults log (enlists x.number.t e k) line answer (record x { enlisted = e.value }) y l.called in
+    heard_given gives [] x y a (record { written = w.written; grown = w.grown; said = w.said; called = w.called; calls = w.calls }) (ap (λ (s : LiveState). s.heard) l.called.rest)
+    (ap (λ (s : LiveState). s.number) l.called.rest)
+
+pub enlists_heard : {D C O : Type 0} (faults : D → ℕ) (honest : Bool) (image : D → List ℕ → Type 0) (gives : Gives O) (t : TxId) (k : Kind) (e : EnlNo) (line : ℕ) (answer : Answer) (old new : Standing D C) (a : O)
+    → EnlistsAt faults old.log t k e line answer old.lives new.lives → KeepsRest old new → HeardAt honest image gives [] t old new a a
+enlists_heard faults honest image gives t k e line answer old new a l rest x at = (
+  l.after,
+  l.now,
+  subst (λ (s : LiveState). IsHeard gives [] s l.after a a) (some_same (live_at t old.lives) l.before x l.was at) (enlist_heard faults old.log gives k e line answer l.before l.after a l.enlists),
+  keeps_same honest image (identifier_of_id t) old.log new.log (ap (λ (s : Standing _ _). s.log) rest),
+)
+
+-- and so is that an enlistment was numbered, and nothing else.
+pub numbers_heard : {D C O : Type 0} (honest : Bool) (image : D → List ℕ → Type 0) (gives : Gives O) (t : TxId) (old new : Standing D C) (a : O) → NumbersEnlistments t old.lives new.lives → KeepsRest old new
+    → HeardAt honest image gives [] t old new a a
+numbers_heard honest image gives t old new a n rest x at =
+    let y = n x at in (
+      y.0,
+      y.1,
+      heard_given gives [] x y.0 a
+          (record { written = []; grown = ap (λ (s : LiveState). past s) y.2; said = refl; called = []; calls = ap (λ (s : LiveState). s.tx.world.calls) y.2 })
+          (ap (λ (s : LiveState). s.heard) y.2) (ap (λ (s : LiveState). s.number) y.2),
+      keeps_same honest image (identifier_of_id t) old.log new.log (ap (λ (s : Standing _ _). s.log) rest),
+    )
+
+-- Nothing was enlisted, whatever the cause.
+pub unenlisted_heard : {D C O : Type 0} (faults : D → ℕ) (honest : Bool) (image : D → List ℕ → Type 0) (gives : Gives O) (t : TxId) (k : Kind) (old new : Standing D C) (a : O) (e : TxError)
+    → IsNotEnlisted faults old.log t k old.lives new.lives e → KeepsRest old new → HeardAt honest image gives [] t old new a a
+unenlisted_heard faults honest image gives t k old new a e (inl n) rest = numbers_heard honest image gives t old new a n.1 rest
+unenlisted_heard faults honest image gives t k old new a e (inr n) rest = enlists_heard faults honest image gives t k n.0 n.1 n.2 old new a n.4 rest
+
+-- Something was enlisted, and then its objects heard what came of it.
+pub enlisted_heard : {D C O : Type 0} (faults : D → ℕ) (honest : Bool) (image : D → List ℕ → Type 0) (gives : Gives O) (t : TxId) (k : Kind) (e : EnlNo) (line : ℕ) (answer : Answer) (old mid new : Standing D C) (a b : O)
+    → EnlistsAt faults old.log t k e line answer old.lives mid.lives → KeepsRest old mid → WithinAt t mid.lives → HeardAt honest image gives [] t mid new a b → HeardAt honest image gives [] t old new a b
+enlisted_heard faults honest image gives t k e line answer old mid new a b l rest within h =
+    heard_on_at honest image gives [] [] t old mid new a a b (enlists_heard faults honest image gives t k e line answer old mid a l rest) within h
+
+-- A call was entered that makes nothing, and then its objects heard what came of it.
+pub entered_heard : {D C O : Type 0} (faults : D → ℕ) (honest : Bool) (image : D → List ℕ → Type 0) (gives : Gives O) (t : TxId) (c : Call) (line : ℕ) (answer : Answer) (old mid new : Standing D C) (a b : O)
+    → CallsAt faults old.log t c line answer old.lives mid.lives → KeepsRest old mid → WithinAt t mid.lives → HeardAt honest image gives [] t mid new a b → HeardAt honest image gives [] t old new a b
+entered_heard faults honest image gives t c line answer old mid new a b k rest within h =
+    heard_on_at honest image gives [] [] t old mid new a a b (calls_heard faults honest image gives t c line answer old mid a k (ap (λ (s : Standing _ _). s.log) rest)) within h
 
 -- A reply of the call itself.
 pub given_heard : {D C O : Type 0} (honest : Bool) (image : D → List ℕ → Type 0) (gives : Gives O) (gs : List Given) (t : TxId) (old new : Standing D C) (a : O) → GivenAt gs t old.lives new.lives → KeepsRest old new

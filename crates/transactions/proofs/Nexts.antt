@@ -52,7 +52,7 @@ abbrev pub OnwardAt : {D C : Type 0} → TxId → Standing D C → Standing D C 
 OnwardAt t old now = ((x : LiveState) → live_at t old.lives ≡ Some x → (y : LiveState) × (live_at t now.lives ≡ Some y) × Onward x y) × AreSame t old.lives now.lives × KeepsTime old now
 
 pub onward_none : {D C : Type 0} (t : TxId) (s : Standing D C) → OnwardAt t s s
-onward_none t s = (λ x at. (x, at, inl refl), λ u n. refl, (refl, refl))
+onward_none t s = (λ x at. (x, at, inl refl), λ u n. refl, ((refl, refl), refl))
 
 -- So it did nothing that says something, where what was heard before was there.
 pub onward_at : {D C : Type 0} (t : TxId) (old now : Standing D C) → ((x : LiveState) → live_at t old.lives ≡ Some x → x.heard ≤ length (past x)) → OnwardAt t old now → AdvancesAt None t old.lives now.lives
@@ -75,7 +75,7 @@ pub onward_on : {D C : Type 0} (t : TxId) (old mid new : Standing D C) → Onwar
 onward_on t old mid new o a same time = (
   λ x at. (let z = onward_then None t old mid new o a x at in (z.0, z.1, inr z.2)),
   λ u n. same u n ∙ o.1 u n,
-  (time.0 ∙ o.2.0, time.1 ∙ o.2.1),
+  ((time.0.0 ∙ o.2.0.0, time.0.1 ∙ o.2.0.1), time.1 ∙ o.2.1),
 )
 
 -- where none of this number goes on after it, none did before

@@ -1,5 +1,5 @@
 -- Work in a scope.
-use Rattle.std.proofs.Common.{ℕ, Bool, true, false, ◌≡◌, ◌≢◌, is_some, List, Option, Some, None, Result, Ok, Err, IfOk, OnOk, refl, ap, subst, sym, if◌then◌else◌}
+use Rattle.std.proofs.Common.{ℕ, suc, inl, inr, Bool, true, false, ◌≡◌, ◌≢◌, is_some, List, [], Option, Some, None, Result, Ok, Err, IfOk, OnOk, refl, ap, subst, sym, if◌then◌else◌}
 use Rattle.dtx_values.specs.declared.number.TxNo.{TxNo}
 use Rattle.dtx_values.specs.declared.tx_id.TxId.{TxId}
 use Rattle.transactions.specs.declared.handle.CommittableTransaction.{CommittableTransaction}
@@ -9,8 +9,10 @@ use Rattle.dtx_values.specs.declared.words.Timeout.{Timeout}
 use Rattle.scope_context.specs.Standing.{Standing as Scopes}
 use Rattle.transactions.specs.declared.error.CommitError.{CommitError}
 use Rattle.transactions.specs.declared.handle.TransactionScope.{TransactionScope}
-use Rattle.transactions.specs.Scoping.{AreSameBut, BeginsWhere, Finishes, IsOpened, WorksIn, held_by, made_in, number_in}
-use Rattle.transactions.specs.Slots.{Standing as Manager, live_at}
+use Rattle.transactions.specs.Doing.{HasRunAt, HeardAt, SparesNone}
+use Rattle.transactions.specs.Ending.{IsLeftAt}
+use Rattle.transactions.specs.Scoping.{AreSameBut, BeginsWhere, Concludes, ConcludesAll, Finishes, IsOpened, WorksIn, held_by, made_in, number_in}
+use Rattle.transactions.specs.Slots.{AreSame, KeepsRest, KeepsTime, Standing as Manager, live_at}
 use Rattle.transactions.specs.State.{LiveState}
 use Rattle.transactions.proofs.Driving.{Gives}
 
@@ -47,3 +49,22 @@ made_is (Some t) true o xs p q e = e
 made_is (Some t) false o xs p q e = absurd cc
 made_is None true o xs p q e = absurd cc
 made_is None false o xs p q e = refl
+
+-- Nothing came of a scope,
+pub concludes_none : {D C O : Type 0} (honest : Bool) (image : D → List ℕ → Type 0) (gives : Gives O) (old new : Manager D C) (a b : O) → new ≡ old → b ≡ a → ConcludesAll honest image gives old new a b
+concludes_none honest image gives old new a b same still = (0, (same, still))
+
+-- or one step more.
+pub concludes_next : {D C O : Type 0} (honest : Bool) (image : D → List ℕ → Type 0) (gives : Gives O) (old mid new : Manager D C) (a m b : O) → ConcludesAll honest image gives old mid a m → Concludes honest image gives mid new m b
+    → ConcludesAll honest image gives old new a b
+concludes_next honest image gives old mid new a m b k step = (suc k.0, (mid, m, k.1, step))
+
+-- A transaction was concluded;
+pub concluded : {D C O : Type 0} (honest : Bool) (image : D → List ℕ → Type 0) (gives : Gives O) (t : TxId) (old new : Manager D C) (a b : O) → HeardAt honest image gives [] t old new a b → HasRunAt honest image t old → HasRunAt honest image t new
+    → SparesNone t old new a b → AreSame t old.lives new.lives → KeepsTime old new → Concludes honest image gives old new a b
+concluded honest image gives t old new a b heard run_before run nobody others time = inl (t, record { heard = heard; run_before = run_before; run = run; nobody = nobody; others = others; time = time })
+
+-- or it was left.
+pub let_go : {D C O : Type 0} (honest : Bool) (image : D → List ℕ → Type 0) (gives : Gives O) (q : Option TxId) (old new : Manager D C) (a : O) → ((t : TxId) → q ≡ Some t → IsLeftAt t old.lives new.lives) → AreSameBut q old.lives new.lives
+    → KeepsRest old new → Concludes honest image gives old new a a
+let_go honest image gives q old new a left others rest = inr (q, record { left = left; others = others; rest = rest }, refl)

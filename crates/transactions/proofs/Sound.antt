@@ -1,6 +1,6 @@
 -- A step keeps what holds of a transaction, and writes what the step writes.
 use Rattle.std.specs.Prelude.{IsFalse}
-use Rattle.std.proofs.Common.{inl, ◌≡◌, ◌≤◌, ◌+◌, ℕ, Bool, true, false, ◌&&◌, not, List, [], ◌∷◌, Option, Some, None, Result, Ok, length, refl, ap, sym, subst, ◌∙◌, arith, nat_le}
+use Rattle.std.proofs.Common.{inl, ◌≡◌, ◌≤◌, ◌+◌, ℕ, Bool, true, false, ◌&&◌, not, List, [], ◌∷◌, ◌++◌, Option, Some, None, Result, Ok, length, refl, ap, sym, subst, ◌∙◌, arith, nat_le}
 use Rattle.dtx_values.specs.TxIds.{number_of}
 use Rattle.std.proofs.lemmas.Bool.Decides.{nat_tests}
 use Rattle.dtx_values.specs.declared.call.Call.{Call}
@@ -44,13 +44,29 @@ pub record Stepped (up : Bool) (m : Step) (x y : LiveState) : Type 0 where
 pub grown : (up : Bool) (m : Step) (x y : LiveState) → Stepped up m x y → past y ≡ onto (past x) (written up (number_of x.tx.transaction) x.tx.world m)
 grown up m x y s = ap (λ (w : World). w.past) s.world ∙ turned_onto up (number_of x.tx.transaction) x.tx.world m
 
-pub writes_step : (up : Bool) (m : Step) (x y : LiveState) → Stepped up m x y → Writes (given_by m) x y
-writes_step up m x y s =
-    record { written = written up (number_of x.tx.transaction) x.tx.world m; grown = grown up m x y s; said = each_said up (number_of x.tx.transaction) x.tx.world m }
-
 -- the calls after it
 pub calls_after : (up : Bool) (m : Step) (x y : LiveState) → Stepped up m x y → y.tx.world.calls ≡ entered m x.tx.world.calls
 calls_after up m x y s = ap (λ (w : World). w.calls) s.world ∙ sym (ap (λ (w : World). w.calls) (turned_past (number_of x.tx.transaction) x.tx.world m up))
+
+-- a call that is entered comes first
+entered_first : (m : Step) (ks : List EnteredCall) → entered m ks ≡ entered m [] ++ ks
+entered_first (Calls n a c k) ks = refl
+entered_first (Replies e r) ks = refl
+entered_first Acts ks = refl
+entered_first (Coordinates a) ks = refl
+entered_first (Delivers c d) ks = refl
+entered_first Stops ks = refl
+entered_first (Restarts found) ks = refl
+
+pub writes_step : (up : Bool) (m : Step) (x y : LiveState) → Stepped up m x y → Writes (given_by m) x y
+writes_step up m x y s =
+    record {
+      written = written up (number_of x.tx.transaction) x.tx.world m;
+      grown = grown up m x y s;
+      said = each_said up (number_of x.tx.transaction) x.tx.world m;
+      called = entered m [];
+      calls = calls_after up m x y s ∙ entered_first m x.tx.world.calls;
+    }
 
 -- What holds of the transaction holds after it, where its calls are counted then.
 pub sound_step : (up : Bool) (m : Step) (x y : LiveState) → Stepped up m x y → y.number ≡ x.number → y.heard ≡ x.heard → each (is_counted y.lines y.enlisted y.cloned) y.tx.world.calls ≡ true
@@ -138,7 +154,7 @@ alone_kth faults k x from tx to none d named sound =
 
 -- nothing was done
 pub writes_none : (x : LiveState) → Writes [] x x
-writes_none x = record { written = []; grown = refl; said = refl }
+writes_none x = record { written = []; grown = refl; said = refl; called = []; calls = refl }
 
 alone_same : (x : LiveState) (tx : TxState) → tx ≡ x.tx → IsSound x → Alone x (record x { tx = tx })
 alone_same x tx same sound = subst (λ (y : TxState). Alone x (record x { tx = y })) (sym same) (record { sound = sound; writes = writes_none x })

@@ -9,9 +9,9 @@ use Rattle.transactions.specs.declared.error.TxError.{TxError}
 use Rattle.transactions.specs.declared.error.TxError.TheVariants.{LogFull, LogStopped, Memory, Many, NoEpoch, Refused, Waits}
 use Rattle.transactions.specs.Calling.{Ticks, TicksUnless}
 use Rattle.transactions.specs.declared.usage.Usage.TheVariants.{Left}
-use Rattle.transactions.specs.Doing.{HeardAt}
+use Rattle.transactions.specs.Doing.{HasRunAt, HeardAt}
 use Rattle.transactions.specs.Ending.{IsOver}
-use Rattle.transactions.specs.Keeping.{AreNumbered}
+use Rattle.transactions.specs.Keeping.{AreNumbered, HasRun}
 use Rattle.transactions.specs.Slots.{AreSame, KeepsRest, KeepsTime, Standing, live_at, standing_at}
 use Rattle.transactions.specs.State.{LiveState, past}
 use Rattle.transactions.specs.Turning.{PassedAt, Stopped, StoppedAfter, TickFails, Turned, TurnedUpTo}
@@ -99,8 +99,9 @@ turn_fails t xs e (inr many) = inr many.0
 pub turned_by : {D C O : Type 0} (faults : D → ℕ) (honest : Bool) (image : D → List ℕ → Type 0) (gives : Gives O) (t : TxId) (old mid on new : Standing D C) (a b : O) (x : LiveState) → live_at t old.lives ≡ Some x
     → PassedAt faults old.log old.reading t old.lives mid.lives → KeepsRest old mid → HeardAt honest image gives [] t mid on a b → KeepsRest on new
     → ((z : LiveState) → live_at t on.lives ≡ Some z → (z.heard ≡ length (past z)) × AllAsked z.tx.world)
-    → ((z : LiveState) → live_at t on.lives ≡ Some z → (live_at t new.lives ≡ Some z) ⊎ ((live_at t new.lives ≡ None) × IsOver z × (z.usage ≡ Left))) → Turned faults honest image gives t old new a b
-turned_by faults honest image gives t old mid on new a b x was passed rest heard swept all ended = (
+    → ((z : LiveState) → live_at t on.lives ≡ Some z → (live_at t new.lives ≡ Some z) ⊎ ((live_at t new.lives ≡ None) × IsOver z × (z.usage ≡ Left))) → HasRunAt honest image t old → HasRunAt honest image t on
+    → Turned faults honest image gives t old new a b
+turned_by faults honest image gives t old mid on new a b x was passed rest heard swept all ended run_before run = (
   λ v at.
       let y = passed v at in
       let z = heard y.0 y.1 in
@@ -115,6 +116,8 @@ turned_by faults honest image gives t old mid on new a b x was passed rest heard
         all = all z.0 z.1;
         logged = keeps_then honest image id old.log on.log new.log (keeps_then honest image id old.log mid.log on.log before z.3) after;
         ended = ended z.0 z.1;
+        run_before = run_before v at;
+        run = subst (λ (l : LogState _). HasRun honest image l z.0) (sym (ap (λ (s : Standing _ _). s.log) swept)) (run z.0 z.1);
       },
   λ none. absurd (never (sym was ∙ none)),
 )
@@ -129,20 +132,21 @@ stopped_before faults honest image gives t old new a x was same rest = (x, was, 
 
 -- its time went on, and its objects heard a part of what came of it
 pub stopped_within : {D C O : Type 0} (faults : D → ℕ) (honest : Bool) (image : D → List ℕ → Type 0) (gives : Gives O) (t : TxId) (old mid new : Standing D C) (a b : O) (x : LiveState) → live_at t old.lives ≡ Some x
-    → PassedAt faults old.log old.reading t old.lives mid.lives → KeepsRest old mid → HeardAt honest image gives [] t mid new a b → Stopped faults honest image gives t old new a b
-stopped_within faults honest image gives t old mid new a b x was passed rest heard =
+    → PassedAt faults old.log old.reading t old.lives mid.lives → KeepsRest old mid → HeardAt honest image gives [] t mid new a b → HasRunAt honest image t old → HasRunAt honest image t new
+    → Stopped faults honest image gives t old new a b
+stopped_within faults honest image gives t old mid new a b x was passed rest heard run_before run =
     let y = passed x was in
     let z = heard y.0 y.1 in
     let id = identifier_of_id t in
     let before = keeps_same honest image id old.log mid.log (ap (λ (s : Standing _ _). s.log) rest) in
-    (x, was, inr (record { passed = y.0; done = z.0; ticked = y.2; heard = z.2; on = z.1; logged = keeps_then honest image id old.log mid.log new.log before z.3 }))
+    (x, was, inr (record { passed = y.0; done = z.0; ticked = y.2; heard = z.2; on = z.1; logged = keeps_then honest image id old.log mid.log new.log before z.3; run_before = run_before x was; run = run z.0 z.1 }))
 
 -- the turns begin with the same time, however it is named
 turned_from : {D C O : Type 0} (faults : D → ℕ) (honest : Bool) (image : D → List ℕ → Type 0) (gives : Gives O) (n : ℕ) (old mid new : Standing D C) (a m : O) → KeepsTime mid new
     → TurnedUpTo faults honest image gives n (record old { clock = mid.clock; reading = mid.reading }) mid a m → TurnedUpTo faults honest image gives n (record old { clock = new.clock; reading = new.reading }) mid a m
 turned_from {D} {C} faults honest image gives n old mid new a m time up =
-    subst (λ (k : ℕ). TurnedUpTo faults honest image gives n (record old { clock = new.clock; reading = k }) mid a m) (sym time.1)
-    (subst (λ (k : C). TurnedUpTo faults honest image gives n (record old { clock = k; reading = mid.reading }) mid a m) (sym time.0) up)
+    subst (λ (k : ℕ). TurnedUpTo faults honest image gives n (record old { clock = new.clock; reading = k }) mid a m) (sym time.0.1)
+    (subst (λ (k : C). TurnedUpTo faults honest image gives n (record old { clock = k; reading = mid.reading }) mid a m) (sym time.0.0) up)
 
 -- and then the next one had its turn
 pub turned_next : {D C O : Type 0} (faults : D → ℕ) (honest : Bool) (image : D → List ℕ → Type 0) (gives : Gives O) (n : ℕ) (p : TxNo) (t : TxId) (old mid new : Standing D C) (a m b : O) → p.value ≡ n + 1 → t ≡ standing_at p mid.lives

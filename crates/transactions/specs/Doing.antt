@@ -20,6 +20,7 @@ use Rattle.resource_managers.specs.declared.enlistment.Enlistment.{Enlistment}
 use Rattle.transactions.specs.Calling.{IsCalled}
 use Rattle.transactions.specs.declared.event.Event.{Event}
 use Rattle.transactions.specs.Hearing.{Advances, Given, IsHeard}
+use Rattle.transactions.specs.Keeping.{HasRun}
 use Rattle.transactions.specs.Logged.{KeepsRecords}
 use Rattle.transactions.specs.Slots.{Standing, live_at}
 use Rattle.transactions.specs.State.{LiveState}
@@ -40,11 +41,19 @@ pub record CallsAt {D : Type 0} (faults : D → ℕ) (log : LogState D) (t : TxI
   pub now : live_at t new ≡ Some after
   pub called : IsCalled faults log c line answer before after
 
+-- What holds of the run of a transaction of this number, where one goes on.
+abbrev pub HasRunAt : {D C : Type 0} → Bool → (D → List ℕ → Type 0) → TxId → Standing D C → Type 0
+HasRunAt honest image t m = (x : LiveState) → live_at t m.lives ≡ Some x → HasRun honest image m.log x
+
 -- Where a transaction of this number goes on, its objects heard what came of it, and no other's record of the log was touched.
 abbrev pub HeardAt : {D C O : Type 0} → Bool → (D → List ℕ → Type 0) → (O → Enlistment → Note → Option Reply → O → Type 0) → List Given → TxId → Standing D C → Standing D C → O → O → Type 0
 HeardAt honest image gives given t old new a b =
     (x : LiveState) → live_at t old.lives ≡ Some x → (z : LiveState) × (live_at t new.lives ≡ Some z) × IsHeard gives given x z a b
     × KeepsRecords honest image (identifier_of_id t) old.log new.log
+
+-- Where no transaction of this number goes on, none does afterwards; the log is as it was, and the objects heard nothing.
+abbrev pub SparesNone : {D C O : Type 0} → TxId → Standing D C → Standing D C → O → O → Type 0
+SparesNone t old new a b = live_at t old.lives ≡ None → (live_at t new.lives ≡ None) × (new.log ≡ old.log) × (b ≡ a)
 
 -- Where a transaction of this number goes on, it did this next.
 abbrev pub AdvancesAt : Option Event → TxId → List LiveState → List LiveState → Type 0

@@ -33,3 +33,7 @@ pub record IsOver (x : LiveState) : Type 0 where
 -- Nobody holds the transaction any more, which was x before: it goes on as it was, or it was over and was taken off.
 abbrev pub IsLeft : TxId → LiveState → List LiveState → Type 0
 IsLeft t x new = (live_at t new ≡ Some (record x { usage = Left })) ⊎ ((live_at t new ≡ None) × IsOver x)
+
+-- So it is with the transaction of this number, where one goes on; and where none does, none does afterwards.
+abbrev pub IsLeftAt : TxId → List LiveState → List LiveState → Type 0
+IsLeftAt t old new = ((x : LiveState) → live_at t old ≡ Some x → IsLeft t x new) × (live_at t old ≡ None → live_at t new ≡ None)

@@ -11,6 +11,7 @@ use Rattle.dtx_values.specs.declared.note.Reply.TheVariants.{Vote as VoteReply, 
 use Rattle.dtx_values.specs.declared.number.EnlNo.{EnlNo}
 use Rattle.dtx_values.specs.declared.tx_id.TxId.{TxId}
 use Rattle.dtx_model.specs.Words.{each, has, onto, same}
+use Rattle.dtx_model.specs.declared.waiting.EnteredCall.{EnteredCall}
 use Rattle.dtx_model.specs.Entries.{same_outcome}
 use Rattle.dtx_model.specs.Half.{is_aborted}
 use Rattle.dtx_model.specs.Caused.{same_vote}
@@ -93,11 +94,13 @@ abbrev pub Hears : {O : Type 0} → (O → Enlistment → Note → Option Reply 
 Hears gives [] a rs b = (rs ≡ []) × (b ≡ a)
 Hears {O} gives (x ∷ xs) a rs b = (m : O) × (ps : List Given) × (qs : List Given) × HearsNote gives (note_in x) a ps m × Hears gives xs m qs b × (rs ≡ ps ++ qs)
 
--- The history of a transaction went on by these entries, the oldest first, each reply among which is one of those that were given.
+-- The history of a transaction went on by these entries, the oldest first, each reply among which is one of those that were given; and these calls were entered, the newest first.
 pub record Writes (given : List Given) (old new : LiveState) : Type 0 where
   pub written : List Entry
   pub grown : past new ≡ onto (past old) written
   pub said : each (is_one_of given) written ≡ true
+  pub called : List EnteredCall
+  pub calls : new.tx.world.calls ≡ called ++ old.tx.world.calls
 
 -- The next entries were heard that nobody had heard, and they say this.
 pub record HearsNext (said : List Event) (old new : LiveState) : Type 0 where

@@ -1,5 +1,5 @@
 -- What the scopes of a program come to.
-use Rattle.std.specs.Prelude.{ℕ, ◌≡◌, ◌<◌, ◌⊎◌, Bool, true, false, not, is_some, List, [], ◌∷◌, Option, Some, None, Result, Ok, Err, if◌then◌else◌}
+use Rattle.std.specs.Prelude.{ℕ, zero, suc, ◌≡◌, ◌<◌, ◌⊎◌, Bool, true, false, not, is_some, List, [], ◌∷◌, Option, Some, None, Result, Ok, Err, if◌then◌else◌}
 use Rattle.dtx_values.specs.TxIds.{number_of}
 use Rattle.dtx_values.specs.declared.call.Call.TheVariants.{Begin as BeginCall, Rollback as RollbackCall}
 use Rattle.dtx_values.specs.declared.entry.Answer.{Answer}
@@ -32,9 +32,10 @@ use Rattle.transactions.specs.declared.handle.CommittableTransaction.{Committabl
 use Rattle.resource_managers.specs.declared.enlistment.Enlistment.{Enlistment}
 use Rattle.transactions.specs.declared.handle.TransactionScope.{TransactionScope}
 use Rattle.transactions.specs.Calling.{IsCalled}
-use Rattle.transactions.specs.Doing.{Goes, HeardAt, IsRefused}
+use Rattle.transactions.specs.Doing.{Goes, HasRunAt, HeardAt, IsRefused, SparesNone}
+use Rattle.transactions.specs.Ending.{IsLeftAt}
 use Rattle.transactions.specs.Numbering.{MayNotBegin}
-use Rattle.transactions.specs.Slots.{AreSame, KeepsRest, Standing as Manager, live_at, standing_at}
+use Rattle.transactions.specs.Slots.{AreSame, KeepsRest, KeepsTime, Standing as Manager, live_at, standing_at}
 use Rattle.transactions.specs.State.{LiveState, blank}
 use Rattle.transactions.specs.Telling.{IsTold}
 
@@ -180,3 +181,31 @@ pub record WorksIn {D C O T : Type 0} (faults : D → ℕ) (honest : Bool) (imag
   pub others : AreSameBut (made_in scope) old.lives opened.lives
   pub does_it : does opened within scope before (Ok x) worked left objects
   pub finishes : Finishes faults honest image gives scope worked new left.scopes b.scopes objects after
+
+-- Transaction t was committed or rolled back: its objects heard what came of it, and what holds of its run before and after that is known; where none of this number goes on, nothing was done; and all others
+-- are as they were.
+pub record IsConcluded {D C O : Type 0} (honest : Bool) (image : D → List ℕ → Type 0) (gives : O → Enlistment → Note → Option Reply → O → Type 0) (t : TxId) (old new : Manager D C) (a b : O) : Type 0 where
+  pub heard : HeardAt honest image gives [] t old new a b
+  pub run_before : HasRunAt honest image t old
+  pub run : HasRunAt honest image t new
+  pub nobody : SparesNone t old new a b
+  pub others : AreSame t old.lives new.lives
+  pub time : KeepsTime old new
+
+-- A transaction was left by its holder, where this is one, and nothing else was done.
+pub record IsLetGo {D C : Type 0} (q : Option TxId) (old new : Manager D C) : Type 0 where
+  pub left : (t : TxId) → q ≡ Some t → IsLeftAt t old.lives new.lives
+  pub others : AreSameBut q old.lives new.lives
+  pub rest : KeepsRest old new
+
+-- one step of what comes of a scope
+abbrev pub Concludes : {D C O : Type 0} → Bool → (D → List ℕ → Type 0) → (O → Enlistment → Note → Option Reply → O → Type 0) → Manager D C → Manager D C → O → O → Type 0
+Concludes honest image gives old new a b = ((t : TxId) × IsConcluded honest image gives t old new a b) ⊎ ((q : Option TxId) × IsLetGo q old new × (b ≡ a))
+
+-- What comes of a scope, in so many steps: transactions are concluded or left, one after the other.
+abbrev pub ConcludesIn : {D C O : Type 0} → Bool → (D → List ℕ → Type 0) → (O → Enlistment → Note → Option Reply → O → Type 0) → ℕ → Manager D C → Manager D C → O → O → Type 0
+ConcludesIn honest image gives zero old new a b = (new ≡ old) × (b ≡ a)
+ConcludesIn {D} {C} {O} honest image gives (suc n) old new a b = (mid : Manager D C) × (m : O) × ConcludesIn honest image gives n old mid a m × Concludes honest image gives mid new m b
+
+abbrev pub ConcludesAll : {D C O : Type 0} → Bool → (D → List ℕ → Type 0) → (O → Enlistment → Note → Option Reply → O → Type 0) → Manager D C → Manager D C → O → O → Type 0
+ConcludesAll honest image gives old new a b = (n : ℕ) × ConcludesIn honest image gives n old new a b

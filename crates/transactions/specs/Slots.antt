@@ -56,5 +56,9 @@ abbrev pub KeepsRest : {D C : Type 0} → Standing D C → Standing D C → Type
 KeepsRest old new = new ≡ record old { lives = new.lives }
 
 -- the clock and its greatest reading are as they were
+abbrev pub KeepsClock : {D C : Type 0} → Standing D C → Standing D C → Type 0
+KeepsClock old new = (new.clock ≡ old.clock) × (new.reading ≡ old.reading)
+
+-- and so is the last number for good that was given
 abbrev pub KeepsTime : {D C : Type 0} → Standing D C → Standing D C → Type 0
-KeepsTime old new = (new.clock ≡ old.clock) × (new.reading ≡ old.reading)
+KeepsTime old new = KeepsClock old new × (new.last ≡ old.last)

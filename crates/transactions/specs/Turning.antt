@@ -13,6 +13,7 @@ use Rattle.transactions.specs.declared.usage.Usage.TheVariants.{Left}
 use Rattle.transactions.specs.Calling.{Ticks}
 use Rattle.transactions.specs.Ending.{IsOver}
 use Rattle.transactions.specs.Hearing.{IsHeard}
+use Rattle.transactions.specs.Keeping.{HasRun}
 use Rattle.transactions.specs.Logged.{KeepsRecords}
 use Rattle.transactions.specs.Slots.{AreSame, KeepsTime, Standing, live_at, standing_at}
 use Rattle.transactions.specs.State.{LiveState, past}
@@ -27,7 +28,7 @@ abbrev pub TickFails : TxId → List LiveState → TxError → Type 0
 TickFails t old e = (e ≡ Memory) ⊎ ((e ≡ Many) × (x : LiveState) × (live_at t old ≡ Some x) × (x.lines ≡ 2 ^ 32 - 1))
 
 -- A turn of the transaction x: its time went on to the greatest reading of the clock; the objects heard all that came of it then, until it goes on only by a call, a reply or the time;
--- no other's record of the log was touched; and so it goes on, or it is over, nobody held it, and it was taken off.
+-- no other's record of the log was touched; and so it goes on, or it is over, nobody held it, and it was taken off. What holds of its run before and after that is known.
 pub record HadTurn {D C O : Type 0} (faults : D → ℕ) (honest : Bool) (image : D → List ℕ → Type 0) (gives : O → Enlistment → Note → Option Reply → O → Type 0) (t : TxId) (x : LiveState) (old new : Standing D C) (before after : O) : Type 0 where
   pub passed : LiveState
   pub done : LiveState
@@ -36,12 +37,15 @@ pub record HadTurn {D C O : Type 0} (faults : D → ℕ) (honest : Bool) (image 
   pub all : (done.heard ≡ length (past done)) × AllAsked done.tx.world
   pub logged : KeepsRecords honest image (identifier_of_id t) old.log new.log
   pub ended : (live_at t new.lives ≡ Some done) ⊎ ((live_at t new.lives ≡ None) × IsOver done × (done.usage ≡ Left))
+  pub run_before : HasRun honest image old.log x
+  pub run : HasRun honest image new.log done
 
 -- Where a transaction of this number goes on, it had a turn. Where none does, nothing was done.
 abbrev pub Turned : {D C O : Type 0} → (D → ℕ) → Bool → (D → List ℕ → Type 0) → (O → Enlistment → Note → Option Reply → O → Type 0) → TxId → Standing D C → Standing D C → O → O → Type 0
 Turned faults honest image gives t old new a b = ((x : LiveState) → live_at t old.lives ≡ Some x → HadTurn faults honest image gives t x old new a b) × (live_at t old.lives ≡ None → (new ≡ old) × (b ≡ a))
 
--- A turn of the transaction x that failed: its time went on, and the objects heard what came of it until then, while no other's record of the log was touched; so it goes on.
+-- A turn of the transaction x that failed: its time went on, and the objects heard what came of it until then, while no other's record of the log was touched; so it goes on. What holds of its run is
+-- known too.
 pub record HadPart {D C O : Type 0} (faults : D → ℕ) (honest : Bool) (image : D → List ℕ → Type 0) (gives : O → Enlistment → Note → Option Reply → O → Type 0) (t : TxId) (x : LiveState) (old new : Standing D C) (before after : O) : Type 0 where
   pub passed : LiveState
   pub done : LiveState
@@ -49,6 +53,8 @@ pub record HadPart {D C O : Type 0} (faults : D → ℕ) (honest : Bool) (image 
   pub heard : IsHeard gives [] passed done before after
   pub on : live_at t new.lives ≡ Some done
   pub logged : KeepsRecords honest image (identifier_of_id t) old.log new.log
+  pub run_before : HasRun honest image old.log x
+  pub run : HasRun honest image new.log done
 
 -- The turn of the transaction of this number failed: it is as it was, as the log is, and nothing was heard; or a part was done.
 abbrev pub Stopped : {D C O : Type 0} → (D → ℕ) → Bool → (D → List ℕ → Type 0) → (O → Enlistment → Note → Option Reply → O → Type 0) → TxId → Standing D C → Standing D C → O → O → Type 0

@@ -143,6 +143,7 @@ pub(crate) fn finish_all<D: Disk, R: Recoverable>(
     ensures partly { IsPartly (open_records log.now.slots) rm.value (R.holds r.old) (R.holds r.new) }
     ensures images { (hs : List Holding) → R.leaves r.new hs → R.leaves r.old hs ⊎ IsFoundPartly (open_records log.now.slots) rm.value (R.holds r.old) hs }
     ensures cause { OnErr result (R.fails r.old r.new) }
+    ensures since { OnOk result ((x : R) → R.fails r.new x → R.fails r.old x) }
 {
     recovery_is_stepwise();
     while let Some(e) = r.in_doubt() {

@@ -9,9 +9,8 @@ ghost use Rattle.dtx_model.specs.Outcome.{agree, justified};
 ghost use Rattle.dtx_model.specs.World.{half};
 ghost use Rattle.tx_world.specs.OwnCalls.{status_of};
 ghost use Rattle.transactions.specs.Counting.{is_plain};
-ghost use Rattle.transactions.specs.Doing.{AdvancesAt, CallsAt, Enters, MayFail, is_done};
+ghost use Rattle.transactions.specs.Doing.{AdvancesAt, CallsAt, Enters, HasRunAt, MayFail, is_done};
 ghost use Rattle.transactions.specs.Hearing.{Advances, heard_in};
-ghost use Rattle.transactions.specs.Keeping.{HasRun};
 ghost use Rattle.transactions.specs.Logged.{KeepsRecords};
 ghost use Rattle.transactions.specs.Slots.{AreSame, KeepsRest, KeepsTime, live_at, standing_at};
 ghost use Rattle.transactions.specs.State.{LiveState, past};
@@ -258,10 +257,16 @@ impl<D: Disk + Drop, C: Clock + Drop> TransactionManager<D, C> {
 
     /// What holds of a transaction and of the log's records of it, whatever its disk did. It does nothing when it runs; a caller's proof asks for it.
     pub fn has_run(&self, tx: &CommittableTransaction)
-        ensures { (x : LiveState) → live_at tx.now.number self.now.lives ≡ Some x → HasRun D.honest D.image self.now.log x }
+        ensures { HasRunAt D.honest D.image tx.now.number self.now }
+    {
+        self.has_run_at(tx.number);
+    }
+
+    fn has_run_at(&self, t: TxId)
+        ensures { HasRunAt D.honest D.image t self.now }
     {
         let _ = &self.given;
-        if let Some(live) = self.live(tx.number) {
+        if let Some(live) = self.live(t) {
             live.has_run();
         }
     }

@@ -12,7 +12,7 @@ ghost use Rattle.log_epochs.specs.Epochs.{epoch_of};
 ghost use Rattle.transactions.specs.Calling.{IsCalled};
 ghost use Rattle.tx_world.specs.AtLog.{AreFit, Fits};
 ghost use Rattle.transactions.specs.Numbering.{AreFrom, AreNone, IsRecorded, MayNotBegin, MayNotNumber, NumbersLog, last_in};
-ghost use Rattle.transactions.specs.Slots.{AreSame, KeepsRest, KeepsTime, is_live, is_vacant, live_at};
+ghost use Rattle.transactions.specs.Slots.{AreSame, KeepsRest, KeepsClock, is_live, is_vacant, live_at};
 ghost use Rattle.transactions.specs.State.{LiveState, blank};
 
 use super::{TransactionManager, index};
@@ -213,7 +213,7 @@ impl<D: Disk + Drop, C: Clock + Drop> TransactionManager<D, C> {
         ensures others { IfOk result (λ tx. AreSame tx.number self.old.lives self.new.lives) }
         ensures refused { OnErr result (self.new.lives ≡ self.old.lives) }
         ensures log { NumbersLog D.honest D.image D.faults self.old.log self.new.log }
-        ensures time { KeepsTime self.old self.new }
+        ensures time { KeepsClock self.old self.new }
         ensures cause { IfErr result (MayNotBegin D.faults self.old.log self.new.log self.old.lives) }
     {
         let t = match self.next_number() {

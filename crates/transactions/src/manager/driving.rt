@@ -10,7 +10,7 @@ ghost use Rattle.dtx_model.specs.Replies.{reply_entries};
 ghost use Rattle.dtx_model.specs.Words.{has, onto};
 ghost use Rattle.dtx_model.specs.World.{half};
 ghost use Rattle.transactions.specs.Counting.{is_plain};
-ghost use Rattle.transactions.specs.Doing.{Enters, Goes, HeardAt, IsRefused, MayFail, is_due};
+ghost use Rattle.transactions.specs.Doing.{Enters, Goes, HeardAt, IsRefused, MayFail, SparesNone, is_due};
 ghost use Rattle.transactions.specs.Events.{note_in};
 ghost use Rattle.transactions.specs.Hearing.{HearsNote, Writes, given_of};
 ghost use Rattle.transactions.specs.Slots.{AreSame, KeepsRest, KeepsTime, live_at};
@@ -94,7 +94,7 @@ impl<D: Disk + Drop, C: Clock + Drop> TransactionManager<D, C> {
     /// Does what is pending in a transaction: the objects hear what its history says to their enlistments, and their replies are given.
     pub(super) fn drive<O: ResourceManager>(&mut self, t: TxId, o: &mut O) -> Result<(), TxError>
         ensures heard { HeardAt D.honest D.image O.gives [] t self.old self.new o.old o.new }
-        ensures nobody { live_at t self.old.lives ≡ None → (live_at t self.new.lives ≡ None) × (o.new ≡ o.old) }
+        ensures nobody { SparesNone t self.old self.new o.old o.new }
         ensures all { OnOk result ((z : LiveState) → live_at t self.new.lives ≡ Some z → (z.heard ≡ length (past z)) × AllAsked z.tx.world) }
         ensures others { AreSame t self.old.lives self.new.lives }
         ensures time { KeepsTime self.old self.new }
@@ -165,6 +165,7 @@ impl<D: Disk + Drop, C: Clock + Drop> TransactionManager<D, C> {
     ) -> Result<(), CommitError>
         ensures told { IsTold result (live_at tx.now.number self.new.lives) }
         ensures heard { HeardAt D.honest D.image O.gives [] tx.now.number self.old self.new o.old o.new }
+        ensures nobody { SparesNone tx.now.number self.old self.new o.old o.new }
         ensures refused { (a : Answer) → result ≡ Err (CommitError.Refused a) → ((a ≡ NoSuch) × (live_at tx.now.number self.old.lives ≡ None)) ⊎ IsRefused D.faults self.old.log tx.now.number (CommitCall tx.now.number.t) a self.old.lives self.new.lives }
         ensures others { AreSame tx.now.number self.old.lives self.new.lives }
         ensures time { KeepsTime self.old self.new }
@@ -208,6 +209,7 @@ impl<D: Disk + Drop, C: Clock + Drop> TransactionManager<D, C> {
         requires makes { made_by c.now ≡ None }
         ensures goes { OnOk result (Goes D.faults D.honest D.image O.gives t c.now self.old self.new o.old o.new) }
         ensures heard { HeardAt D.honest D.image O.gives [] t self.old self.new o.old o.new }
+        ensures nobody { SparesNone t self.old self.new o.old o.new }
         ensures refused { (a : Answer) → result ≡ Err (TxError.Refused a) → ((a ≡ NoSuch) × (live_at t self.old.lives ≡ None)) ⊎ IsRefused D.faults self.old.log t c.now a self.old.lives self.new.lives }
         ensures others { AreSame t self.old.lives self.new.lives }
         ensures time { KeepsTime self.old self.new }

@@ -74,6 +74,7 @@ impl<D: Disk + Drop, C: Clock + Drop> TransactionManager<D, C> {
     /// Nobody holds a transaction any more: it is taken off once it is over.
     pub(super) fn leave(&mut self, t: TxId)
         ensures left { (x : LiveState) → live_at t self.old.lives ≡ Some x → IsLeft t x self.new.lives }
+        ensures nobody { live_at t self.old.lives ≡ None → live_at t self.new.lives ≡ None }
         ensures others { AreSame t self.old.lives self.new.lives }
         ensures rest { KeepsRest self.old self.new }
     {
@@ -134,10 +135,13 @@ impl<D: Disk + Drop, C: Clock + Drop> TransactionManager<D, C> {
         let Some(_) = self.live(t) else {
             return Ok(());
         };
+        self.has_run_at(t);
         if let Err(e) = self.pass(t) {
             return Err(e);
         }
-        if let Err(e) = self.drive(t, o) {
+        let driven = self.drive(t, o);
+        self.has_run_at(t);
+        if let Err(e) = driven {
             return Err(e);
         }
         self.sweep(t);

@@ -6,6 +6,8 @@ ghost use Rattle.dtx_values.specs.declared.entry.Answer.{Answer};
 ghost use Rattle.dtx_values.specs.declared.entry.Answer.TheVariants.{Id, NoSuch};
 ghost use Rattle.dtx_values.specs.declared.entry.Entry.TheVariants.{Answered};
 ghost use Rattle.dtx_model.specs.Words.{has};
+ghost use Rattle.record_laws.specs.Recorded.{IsOf, IsVolatile};
+ghost use Rattle.resource_managers.specs.declared.enlistment.Enlistment.{Enlistment};
 ghost use Rattle.transactions.specs.Answered.{Has, is_answer_to};
 ghost use Rattle.transactions.specs.Doing.{CallsAt, Goes, HeardAt, IsRefused, is_done};
 ghost use Rattle.transactions.specs.Enlisting.{ClonesAt, EnlistsAt, IsAnswered, IsNotCloned, IsNotEnlisted, IsTaken, MayNotClone, MayNotEnlist, NumbersClones, NumbersEnlistments};
@@ -73,6 +75,7 @@ impl<D: Disk + Drop, C: Clock + Drop> TransactionManager<D, C> {
         k: EnlistOption,
     ) -> Result<Enlistment, TxError>
         ensures enlisted { IfOk result (λ e. (e.transaction ≡ tx.now.number) × (line : ℕ) × (a : Answer) × EnlistsAt D.faults self.old.log tx.now.number (Volatile k) e.number line a self.old.lives self.new.lives × (is_done a ≡ true)) }
+        ensures volatile { IfOk result (λ e. (z : LiveState) → live_at tx.now.number self.new.lives ≡ Some z → IsVolatile z.tx.world e.number.value) }
         ensures refused { IfErr result (IsNotEnlisted D.faults self.old.log tx.now.number (Volatile k) self.old.lives self.new.lives) }
         ensures others { AreSame tx.now.number self.old.lives self.new.lives }
         ensures rest { KeepsRest self.old self.new }
@@ -135,6 +138,8 @@ impl<D: Disk + Drop, C: Clock + Drop> TransactionManager<D, C> {
     ) -> Result<Enlistment, TxError>
         ensures enlisted { IfOk result (λ e. (e.transaction ≡ tx.now.number) × (mid : List LiveState) × (line : ℕ) × (first : Answer) × EnlistsAt D.faults self.old.log tx.now.number (Durable rm p) e.number line first self.old.lives mid
             × HeardAt D.honest D.image O.gives [] tx.now.number (record self.old { lives = mid }) self.new o.old o.new × (a : Answer) × IsAnswered tx.now.number line first a self.new.lives × (is_done a ≡ true)) }
+        ensures manager { IfOk result (λ e. (z : LiveState) → live_at tx.now.number self.new.lives ≡ Some z → IsOf z.tx.world rm.value e.number.value) }
+        ensures heard { HeardAt D.honest D.image O.gives [] tx.now.number self.old self.new o.old o.new }
         ensures others { AreSame tx.now.number self.old.lives self.new.lives }
         ensures time { KeepsTime self.old self.new }
     {
@@ -143,10 +148,12 @@ impl<D: Disk + Drop, C: Clock + Drop> TransactionManager<D, C> {
             Ok(enlisted) => enlisted,
             Err(e) => return Err(e),
         };
+        self.is_within(t);
         let answer = match self.wait(t, line, first, o) {
             Ok(answer) => answer,
             Err(e) => return Err(e),
         };
+        self.has_run(tx);
         match done(answer) {
             Ok(()) => Ok(Enlistment {
                 transaction: t,
@@ -170,6 +177,8 @@ impl<D: Disk + Drop, C: Clock + Drop> TransactionManager<D, C> {
     ) -> Result<Option<Enlistment>, TxError>
         ensures enlisted { IfOk result (λ r. (mid : List LiveState) × (number : EnlNo) × (line : ℕ) × (a : Answer) × EnlistsAt D.faults self.old.log tx.now.number (Promotable rm) number line a self.old.lives mid
             × HeardAt D.honest D.image O.gives [] tx.now.number (record self.old { lives = mid }) self.new o.old o.new × IsTaken tx.now.number number a r) }
+        ensures manager { (e : Enlistment) → result ≡ Ok (Some e) → (z : LiveState) → live_at tx.now.number self.new.lives ≡ Some z → IsOf z.tx.world rm.value e.number.value }
+        ensures heard { HeardAt D.honest D.image O.gives [] tx.now.number self.old self.new o.old o.new }
         ensures others { AreSame tx.now.number self.old.lives self.new.lives }
         ensures time { KeepsTime self.old self.new }
     {
@@ -177,8 +186,12 @@ impl<D: Disk + Drop, C: Clock + Drop> TransactionManager<D, C> {
             Ok(made) => made,
             Err(e) => return Err(e),
         };
+        self.is_within(tx.number);
         match self.drive(tx.number, o) {
-            Ok(()) => Ok(made),
+            Ok(()) => {
+                self.has_run(tx);
+                Ok(made)
+            }
             Err(e) => Err(e),
         }
     }
@@ -195,6 +208,7 @@ impl<D: Disk + Drop, C: Clock + Drop> TransactionManager<D, C> {
     ) -> Result<u128, TxError>
         ensures identified { IfOk result (λ id. (mid : List LiveState) × (line : ℕ) × (first : Answer) × CallsAt D.faults self.old.log tx.now.number (Marshal tx.now.number.t) line first self.old.lives mid
             × HeardAt D.honest D.image O.gives [] tx.now.number (record self.old { lives = mid }) self.new o.old o.new × IsAnswered tx.now.number line first (Id id) self.new.lives) }
+        ensures heard { HeardAt D.honest D.image O.gives [] tx.now.number self.old self.new o.old o.new }
         ensures others { AreSame tx.now.number self.old.lives self.new.lives }
         ensures time { KeepsTime self.old self.new }
     {
@@ -203,6 +217,7 @@ impl<D: Disk + Drop, C: Clock + Drop> TransactionManager<D, C> {
             Ok(called) => called,
             Err(e) => return Err(e),
         };
+        self.is_within(t);
         match self.wait(t, line, first, o) {
             Ok(Answer::Id(id)) => Ok(id),
             Ok(other) => Err(TxError::Refused(other)),

@@ -53,6 +53,7 @@ impl<D: Disk + Drop, C: Clock + Drop> TransactionManager<D, C> {
         requires { LOG_BYTES ≤ D.size disk }
         ensures made { IfOk result (λ m. (m.lives ≡ []) × IsTrue m.log.is_up) }
         ensures last { IfOk result (λ m. (m.last ≡ 256) × (open_records m.log.slots ≡ [])) }
+        ensures images { IsTrue D.honest → IfOk result (λ m. AllHold (D.image m.log.disk) (open_records m.log.slots)) }
         ensures fault { IfErr result (λ e. e.0 ≡ OpenError.Fault → Rose (D.faults disk) (D.faults e.1)) }
         ensures size { IfErr result (λ e. D.size e.1 ≡ D.size disk) }
     {
@@ -84,6 +85,7 @@ impl<D: Disk + Drop, C: Clock + Drop> TransactionManager<D, C> {
         ensures opened { IfOk result (λ m. (m.lives ≡ []) × IsTrue m.log.is_up) }
         ensures last { IfOk result (λ m. m.last ≡ 65536 * epoch_of (open_records m.log.slots) + 256) }
         ensures records { IsTrue D.honest → IfOk result (λ m. IsOpened D.seen disk m.log) }
+        ensures images { IsTrue D.honest → IfOk result (λ m. AllHold (D.image m.log.disk) (open_records m.log.slots)) }
         ensures seen { IsTrue D.honest → IfOk result (λ m. D.seen m.log.disk ≡ D.seen disk) }
         ensures not_a_log { IsTrue D.honest → IfErr result (λ e. (p : ℕ) → e.0 ≡ OpenError.NotALog p → log_has (D.seen disk) ≡ Err p) }
         ensures fault { IfErr result (λ e. e.0 ≡ OpenError.Fault → Rose (D.faults disk) (D.faults e.1)) }

@@ -13,7 +13,7 @@ ghost use Rattle.transactions.specs.Enlisting.{EnlistsAt, IsNotEnlisted, IsTaken
 ghost use Rattle.transactions.specs.Hearing.{found_in};
 ghost use Rattle.transactions.specs.Logged.{KeepsRecords};
 ghost use Rattle.transactions.specs.Numbering.{MayNotBegin, NumbersLog};
-ghost use Rattle.transactions.specs.Slots.{AreSame, KeepsRest, KeepsTime, live_at};
+ghost use Rattle.transactions.specs.Slots.{AreSame, KeepsClock, KeepsRest, KeepsTime, live_at};
 ghost use Rattle.transactions.specs.State.{LiveState, blank, past};
 ghost use Rattle.transactions.specs.Waiting.{AllAsked};
 ghost use Rattle.transactions.specs.declared.event.Next.TheVariants.{Disk as FirstDisk, Nothing};
@@ -218,7 +218,7 @@ impl<D: Relay + Drop, C: Clock + Drop> TransactionManager<D, C> {
         ensures waits { result ≡ Ok None → self.new.lives ≡ self.old.lives }
         ensures refused { OnErr result (self.new.lives ≡ self.old.lives) }
         ensures log { NumbersLog D.honest D.image D.faults self.old.log self.new.log }
-        ensures time { KeepsTime self.old self.new }
+        ensures time { KeepsClock self.old self.new }
         ensures cause { IfErr result (MayNotBegin D.faults self.old.log self.new.log self.old.lives) }
     {
         if !self.log.disk().is_settled() {

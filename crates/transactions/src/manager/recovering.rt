@@ -129,6 +129,7 @@ impl<D: Disk + Drop, C: Clock + Drop> TransactionManager<D, C> {
         ensures told { IfOk result (λ x. map finish_told x.finished.items ≡ finishes (open_records self.old.log.slots) rm.value (R.holds r.old)) }
         ensures partly { IsPartly (open_records self.old.log.slots) rm.value (R.holds r.old) (R.holds r.new) }
         ensures images { (hs : List Holding) → R.leaves r.new hs → R.leaves r.old hs ⊎ IsFoundPartly (open_records self.old.log.slots) rm.value (R.holds r.old) hs }
+        ensures since { is_finished result ≡ true → (x : R) → R.fails r.new x → R.fails r.old x }
         ensures failed { result ≡ Err RecoverRefusal.Failed → R.fails r.old r.new × (self.new ≡ self.old) × (desk.new ≡ desk.old) }
 
         // The log, of which nothing goes before all is finished.

@@ -9,10 +9,11 @@ ghost use Rattle.dtx_model.specs.Contexts.{asked_by};
 ghost use Rattle.dtx_model.specs.Scopes.{beneath, close_answer, closing, is_scope, rolled_back};
 ghost use Rattle.dtx_model.specs.Words.{has};
 ghost use Rattle.scope_context.specs.Refusals.{enter_refusal};
-ghost use Rattle.transactions.specs.Doing.{HeardAt};
+ghost use Rattle.transactions.specs.Doing.{HeardAt, SparesNone};
+ghost use Rattle.transactions.specs.Ending.{IsLeftAt};
 ghost use Rattle.transactions.specs.Numbering.{MayNotBegin, NumbersLog};
-ghost use Rattle.transactions.specs.Scoping.{AreSameBut, BeginsWhere, Fails, Finishes, IsOpened, IsRolledBack, MayNotOpen, Settles, SettlesBefore, WorksIn, ended_by, held_by, is_top, made_in, number_in};
-ghost use Rattle.transactions.specs.Slots.{AreSame, KeepsRest, KeepsTime, live_at};
+ghost use Rattle.transactions.specs.Scoping.{AreSameBut, BeginsWhere, ConcludesAll, Fails, Finishes, IsOpened, IsRolledBack, MayNotOpen, Settles, SettlesBefore, WorksIn, ended_by, held_by, is_top, made_in, number_in};
+ghost use Rattle.transactions.specs.Slots.{AreSame, KeepsClock, KeepsRest, KeepsTime, live_at};
 ghost use Rattle.transactions.specs.Telling.{IsTold};
 
 use super::TransactionManager;
@@ -60,7 +61,7 @@ impl<D: Disk + Drop, C: Clock + Drop> TransactionManager<D, C> {
         ensures refused { OnErr result (self.new.lives ≡ self.old.lives) }
         ensures log { NumbersLog D.honest D.image D.faults self.old.log self.new.log }
         ensures rises { self.old.last ≤ self.new.last }
-        ensures time { KeepsTime self.old self.new }
+        ensures time { KeepsClock self.old self.new }
         ensures cause { IfErr result (MayNotBegin D.faults self.old.log self.new.log self.old.lives) }
     {
         if !is_made {
@@ -106,7 +107,7 @@ impl<D: Disk + Drop, C: Clock + Drop> TransactionManager<D, C> {
         ensures cause { IfErr result (MayNotOpen D.faults k (asked_by i) a.old.scopes self.old self.new) }
         ensures log { NumbersLog D.honest D.image D.faults self.old.log self.new.log }
         ensures rises { self.old.last ≤ self.new.last }
-        ensures time { KeepsTime self.old self.new }
+        ensures time { KeepsClock self.old self.new }
     {
         let is_made = a.makes(k);
         let scope = match a.give() {
@@ -153,6 +154,7 @@ impl<D: Disk + Drop, C: Clock + Drop> TransactionManager<D, C> {
     fn abandon<O: ResourceManager>(&mut self, t: TxId, o: &mut O) -> Result<(), CommitError>
         ensures rolled { IsRolledBack D.faults D.honest D.image O.gives t result self.old self.new o.old o.new }
         ensures heard { HeardAt D.honest D.image O.gives [] t self.old self.new o.old o.new }
+        ensures nobody { SparesNone t self.old self.new o.old o.new }
         ensures others { AreSame t self.old.lives self.new.lives }
         ensures time { KeepsTime self.old self.new }
     {
@@ -162,12 +164,15 @@ impl<D: Disk + Drop, C: Clock + Drop> TransactionManager<D, C> {
 
     /// Rolls back the transactions of the scopes that a wrongly nested dispose closed.
     fn abandon_all<O: ResourceManager>(&mut self, a: &Ambient, o: &mut O)
+        ensures steps { ConcludesAll D.honest D.image O.gives self.old self.new o.old o.new }
         ensures others { (u : TxId) → has (λ t. u.t.value == t.value) a.now.rolled ≡ false → live_at u self.new.lives ≡ live_at u self.old.lives }
         ensures time { KeepsTime self.old self.new }
     {
         for place in a.context.rolled() {
             let rolled = self.at_place(*place);
+            self.has_run_at(rolled);
             let _ = self.abandon(rolled, o);
+            self.has_run_at(rolled);
         }
     }
 
@@ -175,6 +180,7 @@ impl<D: Disk + Drop, C: Clock + Drop> TransactionManager<D, C> {
     fn conclude<O: ResourceManager>(&mut self, t: TxId, o: &mut O) -> Result<(), CommitError>
         ensures told { IsTold result (live_at t self.new.lives) }
         ensures heard { HeardAt D.honest D.image O.gives [] t self.old self.new o.old o.new }
+        ensures nobody { SparesNone t self.old self.new o.old o.new }
         ensures others { AreSame t self.old.lives self.new.lives }
         ensures time { KeepsTime self.old self.new }
     {
@@ -186,6 +192,7 @@ impl<D: Disk + Drop, C: Clock + Drop> TransactionManager<D, C> {
 
     /// What closing a scope does to its transaction.
     fn settle<O: ResourceManager>(&mut self, x: Closed, o: &mut O) -> Result<(), CommitError>
+        ensures steps { ConcludesAll D.honest D.image O.gives self.old self.new o.old o.new }
         ensures settled { Settles D.faults D.honest D.image O.gives x result self.old self.new o.old o.new }
         ensures others { AreSameBut (ended_by x self.old.lives) self.old.lives self.new.lives }
         ensures idle { x ≡ Closed.Nothing → self.new ≡ self.old }
@@ -195,11 +202,17 @@ impl<D: Disk + Drop, C: Clock + Drop> TransactionManager<D, C> {
             Closed::Nothing => Ok(()),
             Closed::Commit(place) => {
                 let committed = self.at_place(place);
-                self.conclude(committed, o)
+                self.has_run_at(committed);
+                let done = self.conclude(committed, o);
+                self.has_run_at(committed);
+                done
             }
             Closed::Rollback(place) => {
                 let t = self.at_place(place);
-                self.abandon(t, o)
+                self.has_run_at(t);
+                let done = self.abandon(t, o);
+                self.has_run_at(t);
+                done
             }
         }
     }
@@ -211,6 +224,7 @@ impl<D: Disk + Drop, C: Clock + Drop> TransactionManager<D, C> {
         s: ScopeNo,
         o: &mut O,
     ) -> Result<(), CommitError>
+        ensures steps { ConcludesAll D.honest D.image O.gives self.old self.new o.old o.new }
         ensures settled { is_top s.value a.old.scopes ≡ true → Settles D.faults D.honest D.image O.gives (closing a.old.scopes) result self.old self.new o.old o.new }
         ensures others { is_top s.value a.old.scopes ≡ true → AreSameBut (ended_by (closing a.old.scopes) self.old.lives) self.old.lives self.new.lives }
         ensures idle { is_top s.value a.old.scopes ≡ true → closing a.old.scopes ≡ Closed.Nothing → self.new ≡ self.old }
@@ -234,6 +248,7 @@ impl<D: Disk + Drop, C: Clock + Drop> TransactionManager<D, C> {
     /// The holder of a scope has it no more, nor the transaction that it made.
     fn let_go(&mut self, s: TransactionScope)
         ensures others { AreSameBut (made_in s) self.old.lives self.new.lives }
+        ensures made { (t : TxId) → made_in s ≡ Some t → IsLeftAt t self.old.lives self.new.lives }
         ensures rest { KeepsRest self.old self.new }
     {
         let TransactionScope {
@@ -264,6 +279,7 @@ impl<D: Disk + Drop, C: Clock + Drop> TransactionManager<D, C> {
         s: TransactionScope,
         o: &mut O,
     ) -> Result<(), CommitError>
+        ensures steps { ConcludesAll D.honest D.image O.gives self.old self.new o.old o.new }
         ensures settled { is_top s.scope.value a.old.scopes ≡ true → SettlesBefore D.faults D.honest D.image O.gives s (closing a.old.scopes) result self.old self.new o.old o.new }
         ensures others { is_top s.scope.value a.old.scopes ≡ true → (u : TxId) → ended_by (closing a.old.scopes) self.old.lives ≢ Some u → made_in s ≢ Some u → live_at u self.new.lives ≡ live_at u self.old.lives }
         ensures idle { is_top s.scope.value a.old.scopes ≡ true → closing a.old.scopes ≡ Closed.Nothing → KeepsRest self.old self.new }
@@ -287,6 +303,7 @@ impl<D: Disk + Drop, C: Clock + Drop> TransactionManager<D, C> {
         s: TransactionScope,
         o: &mut O,
     ) -> Result<(), CommitError>
+        ensures steps { ConcludesAll D.honest D.image O.gives self.old self.new o.old o.new }
         ensures finishes { OnOk result (Finishes D.faults D.honest D.image O.gives s self.old self.new a.old.scopes a.new.scopes o.old o.new) }
         ensures time { KeepsTime self.old self.new }
     {
@@ -311,6 +328,7 @@ impl<D: Disk + Drop, C: Clock + Drop> TransactionManager<D, C> {
         o: &mut O,
     ) -> Result<T, CommitError>
         ensures work { IfOk result (λ x. worked ≡ Ok x) }
+        ensures steps { ConcludesAll D.honest D.image O.gives self.old self.new o.old o.new }
         ensures finishes { OnOk result (Finishes D.faults D.honest D.image O.gives s self.old self.new a.old.scopes a.new.scopes o.old o.new) }
         ensures error { IfErr worked (λ e. result ≡ Err e) }
         ensures fails { OnErr worked (Fails D.faults D.honest D.image O.gives s self.old self.new a.old.scopes o.old o.new) }

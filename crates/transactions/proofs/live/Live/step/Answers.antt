@@ -1,11 +1,12 @@
 use Rattle.std.proofs.Common.{◌≡◌, None, [], sym, subst}
 use Rattle.dtx_model.specs.Words.{kth}
 use Rattle.dtx_model.specs.Steps.{pending}
+use Rattle.tx_world.specs.State.{TxState}
 use Rattle.tx_world.specs.Stepping.{reply_in}
 use Rattle.transactions.specs.Hearing.{Writes}
 use Rattle.transactions.specs.State.{LiveState}
 use Rattle.transactions.specs.contracts.live.Live.{the_view}
-use Rattle.transactions.proofs.Sound.{Alone, alone_step, down_step}
+use Rattle.transactions.proofs.Sound.{Alone, alone_step, down_step, writes_none}
 use Rattle.transactions.proofs.Waiting.{Within, never_false}
 use Rattle.transactions.proofs.live.Live.step.Given.{Over}
 use Rattle.transactions.proofs.live.Live.step.Goals as goal
@@ -31,3 +32,12 @@ pub returns-clause-down : goal.returns-clause-down
 returns-clause-down g c = λ down.
     let e = c.step.ensures in
     down_step g.D.Disk.faults c.in-Some.k c.self.inside.world c.args.log.now c.step.new.self c.step.new.log c.in_ok-step.field-0 c.step.result c.in_ok-step.was e.some e.none down
+
+pub returns-in_default-clause-writes : goal.returns-in_default-clause-writes
+returns-in_default-clause-writes g c = writes_none c.args.self.now
+
+pub returns-in_err-step-clause-writes : goal.returns-in_err-step-clause-writes
+returns-in_err-step-clause-writes g c =
+    let x = the_view c.self.inside in
+    subst (λ (l : LiveState). Writes [] l (record x { tx = c.step.new.self })) c.self.view_is
+    (subst (λ (t : TxState). Writes [] x (record x { tx = t })) (sym c.in_err-step.ensures.memory.0) (writes_none x))

@@ -23,8 +23,8 @@ loop-i-preserved g c =
     let value = c.in-Some.ensures.value in
     let number : c.in-Some.place.value ≡ c.loop-i.i + 1 = omega (arith, value) in
     let time = c.turn.ensures.time in (
-      subst (λ k. g.C.Clock.reads c.args.self.now.clock c.now-reading.result k) (sym time.0) c.loop-i.invariant.0,
-      time.1 ∙ c.loop-i.invariant.1,
+      subst (λ k. g.C.Clock.reads c.args.self.now.clock c.now-reading.result k) (sym time.0.0) c.loop-i.invariant.0,
+      time.0.1 ∙ c.loop-i.invariant.1,
       turned_next g.D.Disk.faults g.D.Disk.honest g.D.Disk.image g.O.ResourceManager.gives c.loop-i.i c.in-Some.place c.at_place-t.result c.args.self.now c.loop-i.self c.turn.new.self c.args.o.now c.loop-i.o c.turn.new.o number c.at_place-t.ensures.standing c.loop-i.invariant.2
           c.in_default-turn.ensures.turned c.turn.ensures.others time,
     )

@@ -1,14 +1,14 @@
-use Rattle.std.proofs.Common.{◌≡◌, ◌∙◌, ◌-◌, Some, slice_get, subst, sym}
+use Rattle.std.proofs.Common.{◌≡◌, subst, sym}
 use Rattle.transactions.specs.Keeping.{HasRun, IsKept}
-use Rattle.transactions.specs.Slots.{Standing, live_at}
+use Rattle.transactions.specs.Slots.{Standing}
 use Rattle.transactions.specs.State.{LiveState}
 use Rattle.transactions.proofs.Fitted.{has_run_at}
 use Rattle.transactions.proofs.Nexts.{one_at}
-use Rattle.transactions.proofs.manager.TransactionManager.has_run.Goals as goal
+use Rattle.transactions.proofs.manager.TransactionManager.has_run_at.Goals as goal
 
 pub returns-in-Some : goal.returns-in-Some
 returns-in-Some g c = λ x at.
-    let t = c.args.tx.now.number in
+    let t = c.args.t in
     let y = c.in-Some.live.now in
     let e = c.has_run.ensures in
     let same : y ≡ x = one_at t c.args.self.now.lives y x (sym c.in-Some.ensures) at in
