@@ -1,3 +1,9 @@
 pub mod Pairs
 pub mod Recovering
+pub mod Recovered
 pub mod Holding
+pub mod Making
+pub mod Opening
+pub mod Partly
+pub mod Sides
+pub mod Within

@@ -1,5 +1,5 @@
 -- The recovery of both stores is that of two resources, one after the other.
-use Rattle.std.proofs.Common.{◌≡◌, ◌∙◌, ◌++◌, List, [], ◌∷◌, map, refl, ap, subst, sym}
+use Rattle.std.proofs.Common.{◌≡◌, ◌∙◌, ◌++◌, ℕ, List, [], ◌∷◌, map, refl, ap, subst, sym}
 use Rattle.dtx_values.specs.declared.number.RmNo.{RmNo}
 use Rattle.dtx_model.specs.Log.{CommitRecord}
 use Rattle.kv_resource.specs.Held.{holdings_of}
@@ -9,10 +9,22 @@ use Rattle.recovery_laws.specs.OneByOne.{IsRecoveredOneByOne, RecoversOne, Stand
 use Rattle.recovery_laws.specs.Steps.{at_site}
 use Rattle.recovery_laws.specs.Whole.{Site}
 use Rattle.transactions.specs.Recovery.{AreUnique, number_of_manager}
-use Rattle.ledger_book.specs.Recovered.{AreEnded, RecoversSide, sites_of}
+use Rattle.transactions.specs.Recovery.{IsOneOf}
+use Rattle.ledger_book.specs.Accounts.{at_side, manager_of}
+use Rattle.ledger_book.specs.Recovered.{AreEnded, sites_of}
+use Rattle.ledger_book.specs.declared.account.Side.{Side}
 use Rattle.ledger_book.specs.declared.account.Side.TheVariants.{Left, Right}
 
-abbrev standing : List CommitRecord → List Site → Standing
+-- The recovery of one store: its manager is on the desk from then on, it's one call of recovery, what the store held in doubt is settled, and the other store is as it was.
+pub record RecoversSide {D : Type 0} (side : Side) (desk desk_now : List RmNo) (rs qs : List CommitRecord) (left right left_now right_now : KvState D) : Type 0 where
+  pub manager : RmNo
+  pub numbered : manager.value ≡ manager_of side
+  pub added : desk_now ≡ desk ++ manager ∷ []
+  pub one : IsOneOf desk manager rs qs
+  pub held : holdings_of (at_side side left_now right_now) ≡ settled rs (manager_of side) (holdings_of (at_side side left right))
+  pub other : at_side side right_now left_now ≡ at_side side right left
+
+abbrev pub standing : List CommitRecord → List Site → Standing
 standing rs ss = record { records = rs; sites = ss }
 
 -- the recovery of the left store, and of the right one

@@ -1,3 +1,4 @@
 pub mod Accounts
 pub mod Holding
 pub mod Recovered
+pub mod Whole

@@ -1,9 +1,12 @@
 //! Books of accounts.
-ghost use Rattle.std.specs.Prelude.{◌≡◌, ◌≤◌, Ok, OnOk, false, true};
+ghost use Rattle.std.specs.Prelude.{◌≡◌, ◌≤◌, ◌<◌, ◌-◌, ◌^◌, Ok, IfOk, IsTrue, OnOk, false, length, true};
 ghost use Rattle.coordinator_log.specs.Slots.{open_records as logged};
 ghost use Rattle.kv_resource.specs.Store.{open_records, table_of};
 ghost use Rattle.ledger_book.specs.Accounts.{CanMove, amount_of, at_side};
-ghost use Rattle.ledger_book.specs.Recovered.{AreEnded, RecoversSide};
+ghost use Rattle.transactions.specs.Recovery.{AreUnique};
+ghost use Rattle.ledger_book.specs.Recovered.{AreEnded, EndsOne, LeavesOne};
+ghost use Rattle.ledger_book.specs.Whole.{AreFree, IsFound, IsWholeBook, LeavesWhole};
+ghost use Rattle.ledger_book.specs.declared.account.Side.TheVariants.{Left};
 ghost use Rattle.coordinator_log.specs.declared.layout.TheConstants.{LOG_BYTES};
 ghost use Rattle.kv_resource.specs.declared.layout.TheConstants.{KV_BYTES};
 
@@ -14,14 +17,13 @@ use crate::recovery::Recovery;
 use crate::stores::Stores;
 use crate::trouble::{Part, Trouble};
 use coordinator_log::LOG_BYTES;
-use dtx_values::Timeout;
+use dtx_values::RmNo;
+use kv_holding::kv_holds;
 use kv_resource::{KV_BYTES, Kv, KvRefusal};
 use outside::{Clock, Disk};
 use recovery_laws::recovery_one_by_one;
 use std::alloc::{AllocError, Global};
-use transactions::{
-    CommitError, CommittableTransaction, Phases, Recovered, RecoveryDesk, TransactionManager,
-};
+use transactions::{CommitError, RecoverRefusal, Recovered, RecoveryDesk, TransactionManager};
 
 /// A book of accounts: a transaction manager over a log, and two stores.
 #[derive(Drop)]
@@ -42,7 +44,9 @@ impl<D: Disk + Drop, C: Clock + Drop> Book<D, C> {
         requires log { LOG_BYTES ≤ D.size disks.log }
         requires left { KV_BYTES ≤ D.size disks.left }
         requires right { KV_BYTES ≤ D.size disks.right }
+        ensures whole { IsTrue D.honest → IfOk result (λ b. IsWholeBook D.honest D.image b) }
     {
+        kv_holds::<D>();
         let Disks { log, left, right } = disks;
         let manager = match TransactionManager::create(alloc, log, clock) {
             Ok(manager) => manager,
@@ -66,6 +70,7 @@ impl<D: Disk + Drop, C: Clock + Drop> Book<D, C> {
         requires log { LOG_BYTES ≤ D.size disks.log }
         requires left { KV_BYTES ≤ D.size disks.left }
         requires right { KV_BYTES ≤ D.size disks.right }
+        ensures found { IsTrue D.honest → D.faults disks.left < 2 ^ 64 - 1 → D.faults disks.right < 2 ^ 64 - 1 → IfOk result (λ b. IsFound D.honest D.image D.faults b) }
     {
         let Disks { log, left, right } = disks;
         let manager = match TransactionManager::open(alloc, log, clock) {
@@ -86,12 +91,22 @@ impl<D: Disk + Drop, C: Clock + Drop> Book<D, C> {
         manager: TransactionManager<D, C>,
         left: Kv<D>,
         right: Result<Kv<D>, (KvRefusal, D)>,
-    ) -> Result<Book<D, C>, (Trouble, Disks<D>)> {
+    ) -> Result<Book<D, C>, (Trouble, Disks<D>)>
+        ensures manager { IfOk result (λ b. b.manager ≡ manager) }
+        ensures left { IfOk result (λ b. b.stores.left ≡ left) }
+        ensures right { IfOk result (λ b. right ≡ Ok b.stores.right) }
+        ensures many { IfOk result (λ b. (length b.stores.left.memory.slots ≡ 1024) × (length b.stores.right.memory.slots ≡ 1024)) }
+        ensures free { IfOk result (λ b. AreFree Left b.stores) }
+    {
         match right {
-            Ok(right) => Ok(Book {
-                manager,
-                stores: Stores::new(left, right),
-            }),
+            Ok(right) => {
+                let _ = left.is_stopped();
+                let _ = right.is_stopped();
+                Ok(Book {
+                    manager,
+                    stores: Stores::new(left, right),
+                })
+            }
             Err((e, right)) => {
                 let (log, left) = (manager.into_disk(), left.into_disk());
                 Err((
@@ -126,30 +141,27 @@ impl<D: Disk + Drop, C: Clock + Drop> Book<D, C> {
     ///
     /// Any [`Trouble`] but [`Trouble::NotOne`].
     pub fn recover(&mut self, alloc: Global) -> Result<Recovery, Trouble>
+        ensures leaves { IsTrue D.honest → IsFound D.honest D.image D.faults self.old → AreUnique (logged self.old.manager.log.slots) → LeavesWhole D.honest D.image self.old → LeavesWhole D.honest D.image self.new }
+        ensures whole { IsTrue D.honest → IsFound D.honest D.image D.faults self.old → AreUnique (logged self.old.manager.log.slots) → LeavesWhole D.honest D.image self.old → OnOk result (IsWholeBook D.honest D.image self.new) }
         ensures ended { OnOk result (AreEnded (logged self.old.manager.log.slots) self.old.stores.left self.old.stores.right self.new.stores.left self.new.stores.right) }
     {
         recovery_one_by_one();
+        kv_holds::<D>();
         let mut desk = RecoveryDesk::new(alloc);
         let mut recovery = Recovery::new(alloc);
-        let left = self.recover_side(&mut desk, Side::Left)?;
+        let rm = Side::Left.manager();
+        let left = match recover_store(&mut self.manager, &mut desk, rm, &mut self.stores.left) {
+            Ok(left) => left,
+            Err(e) => return Err(Trouble::of_recovery(Part::Left, e)),
+        };
         recovery.add(Side::Left, &left)?;
-        let right = self.recover_side(&mut desk, Side::Right)?;
+        let rm = Side::Right.manager();
+        let right = match recover_store(&mut self.manager, &mut desk, rm, &mut self.stores.right) {
+            Ok(right) => right,
+            Err(e) => return Err(Trouble::of_recovery(Part::Right, e)),
+        };
         recovery.add(Side::Right, &right)?;
         Ok(recovery)
-    }
-
-    fn recover_side(&mut self, desk: &mut RecoveryDesk, side: Side) -> Result<Recovered, Trouble>
-        ensures { OnOk result (RecoversSide side desk.old desk.new (logged self.old.manager.log.slots) (logged self.new.manager.log.slots) self.old.stores.left self.old.stores.right self.new.stores.left self.new.stores.right) }
-    {
-        let rm = side.manager();
-        let recovered = match side {
-            Side::Left => self.manager.recover(desk, rm, &mut self.stores.left),
-            Side::Right => self.manager.recover(desk, rm, &mut self.stores.right),
-        };
-        match recovered {
-            Ok(recovered) => Ok(recovered),
-            Err(e) => Err(Trouble::of_recovery(Part::of(side), e)),
-        }
     }
 
     /// The amount of an account, where there is such an account.
@@ -176,7 +188,9 @@ impl<D: Disk + Drop, C: Clock + Drop> Book<D, C> {
     /// # Errors
     ///
     /// [`Trouble::Memory`].
-    pub fn fill(&mut self, alloc: Global, count: u32, amount: u64) -> Result<bool, Trouble> {
+    pub fn fill(&mut self, alloc: Global, count: u32, amount: u64) -> Result<bool, Trouble>
+        ensures whole { IsTrue D.honest → IsWholeBook D.honest D.image self.old → IsWholeBook D.honest D.image self.new }
+    {
         match all_accounts(alloc, count, amount) {
             Ok(writes) => self.write(&writes),
             Err(_) => Err(Trouble::Memory),
@@ -192,6 +206,7 @@ impl<D: Disk + Drop, C: Clock + Drop> Book<D, C> {
     pub fn transfer(&mut self, from: Account, to: Account, amount: u64) -> Result<bool, Trouble>
         ensures moved { result ≡ Ok true → CanMove from to (amount_of from.number (at_side from.side self.old.stores.left self.old.stores.right)) (amount_of to.number (at_side to.side self.old.stores.left self.old.stores.right)) amount }
         ensures refused { (CanMove from to (amount_of from.number (at_side from.side self.old.stores.left self.old.stores.right)) (amount_of to.number (at_side to.side self.old.stores.left self.old.stores.right)) amount → ⊥) → (result ≡ Ok false) × (self.new ≡ self.old) }
+        ensures whole { IsTrue D.honest → IsWholeBook D.honest D.image self.old → IsWholeBook D.honest D.image self.new }
     {
         match moving(from, to, self.amount(from), self.amount(to), amount) {
             Some(m) => self.write(&[(from, m.less), (to, m.more)]),
@@ -199,70 +214,38 @@ impl<D: Disk + Drop, C: Clock + Drop> Book<D, C> {
         }
     }
 
-    /// Writes these amounts as one transaction; whether it committed.
+    /// Writes these amounts as one transaction; whether it committed. It doesn't where an earlier one of this book isn't over: then a disk failed, and the book is to be opened
+    /// again and recovered.
+    ///
+    /// All or nothing: whatever a crash may leave of the three disks then, each transaction is whole in it, if so it was before; whichever call of whichever disk fails in it.
     ///
     /// # Errors
     ///
     /// [`Trouble::Memory`].
-    pub fn write(&mut self, writes: &[(Account, u64)]) -> Result<bool, Trouble> {
+    pub fn write(&mut self, writes: &[(Account, u64)]) -> Result<bool, Trouble>
+        ensures whole { IsTrue D.honest → IsWholeBook D.honest D.image self.old → IsWholeBook D.honest D.image self.new }
+    {
         match self.write_as_one(writes) {
             Ok(()) => Ok(true),
             Err(CommitError::Memory) => Err(Trouble::Memory),
             Err(_) => Ok(false),
         }
     }
+}
 
-    fn write_as_one(&mut self, writes: &[(Account, u64)]) -> Result<(), CommitError> {
-        let tx = match self.manager.begin(Timeout::Default) {
-            Ok(tx) => tx,
-            Err(e) => return Err(CommitError::from(e)),
-        };
-        let written = self.write_in(&tx, writes);
-        self.manager.release(tx);
-        self.stores.leave();
-        written
-    }
-
-    fn write_in(
-        &mut self,
-        tx: &CommittableTransaction,
-        writes: &[(Account, u64)],
-    ) -> Result<(), CommitError> {
-        if let Err(e) = self.put_all(tx, writes) {
-            // What it is refused for, if it is, changes nothing: no store has prepared.
-            let _ = self.manager.rollback(tx, &mut self.stores);
-            return Err(e);
-        }
-        self.manager.commit(tx, &mut self.stores)
-    }
-
-    /// Enlists each store that one of these is in, the left one first, and puts them.
-    fn put_all(
-        &mut self,
-        tx: &CommittableTransaction,
-        writes: &[(Account, u64)],
-    ) -> Result<(), CommitError> {
-        for side in Side::BOTH {
-            if writes.iter().any(|w| w.0.side == side) {
-                let (rm, phases) = (side.manager(), Phases::Single);
-                match self
-                    .manager
-                    .enlist_durable(tx, rm, phases, &mut self.stores)
-                {
-                    Ok(e) => self.stores.enlist(side, e),
-                    Err(e) => return Err(CommitError::from(e)),
-                }
-            }
-        }
-        for w in writes {
-            match self.stores.put(w.0, w.1) {
-                Some(Ok(())) => {}
-                Some(Err(KvRefusal::Memory)) => return Err(CommitError::Memory),
-                _ => return Err(CommitError::Aborted),
-            }
-        }
-        Ok(())
-    }
+/// Finishes what earlier processes left in doubt at a store.
+fn recover_store<D: Disk + Drop, C: Clock + Drop>(
+    manager: &mut TransactionManager<D, C>,
+    desk: &mut RecoveryDesk,
+    rm: RmNo,
+    store: &mut Kv<D>,
+) -> Result<Recovered, RecoverRefusal>
+    ensures leaves { LeavesOne D.honest D.image D.faults desk.old rm manager.old manager.new store.old store.new }
+    ensures ends { OnOk result (EndsOne D.honest D.image D.faults desk.old desk.new rm manager.old manager.new store.old store.new) }
+{
+    let recovered = manager.recover(desk, rm, store);
+    let _ = store.is_stopped();
+    recovered
 }
 
 /// The sum of these amounts.

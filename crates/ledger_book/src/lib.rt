@@ -15,6 +15,7 @@ mod stop;
 mod stopping_disk;
 mod stores;
 mod trouble;
+mod writing;
 
 pub use account::{ACCOUNTS, Account, Side};
 pub use book::Book;

@@ -1,5 +1,5 @@
 //! The two stores, as the objects of transactions.
-ghost use Rattle.std.specs.Prelude.{◌≡◌, ◌↔◌, ◌⊎◌, None, Some, IsSome, IsTrue, IfErr, IfSome, IfNone, OnErr, OnOk};
+ghost use Rattle.std.specs.Prelude.{◌≡◌, ◌↔◌, ◌⊎◌, None, Some, false, IsSome, IsTrue, IfErr, IfSome, IfNone, OnErr, OnOk};
 ghost use Rattle.resource_managers.specs.Pairs.{pair_of};
 ghost use Rattle.resource_managers.specs.declared.enlistment.Enlistment.{Enlistment};
 ghost use Rattle.kv_resource.specs.Refusals.{why_of};
@@ -59,6 +59,13 @@ impl<D: Disk + Drop> Stores<D> {
         }
     }
 
+    /// Whether a store is enlisted.
+    pub fn are_enlisted(&self) -> bool
+        ensures { result ≡ false → (self.now.left_as ≡ None) × (self.now.right_as ≡ None) }
+    {
+        self.left_as.is_some() || self.right_as.is_some()
+    }
+
     /// Neither store is enlisted any more.
     pub fn leave(&mut self)
         ensures { self.new ≡ record self.old { left_as = None; right_as = None } }
@@ -75,6 +82,7 @@ impl<D: Disk + Drop> Stores<D> {
     pub fn put(&mut self, account: Account, amount: u64) -> Option<Result<(), KvRefusal>>
         ensures left { (e : Enlistment) → account.side ≡ Side.Left → self.old.left_as ≡ Some e → IfSome result (λ r. OnOk r (self.new ≡ record self.old { left = after_put (pair_of e) account.number amount self.old.left })) }
         ensures right { (e : Enlistment) → account.side ≡ Side.Right → self.old.right_as ≡ Some e → IfSome result (λ r. OnOk r (self.new ≡ record self.old { right = after_put (pair_of e) account.number amount self.old.right })) }
+        ensures enlisted { IfSome result (λ _. IsSome (at_side account.side self.old.left_as self.old.right_as)) }
         ensures kept { IfSome result (λ r. OnErr r (self.new ≡ self.old)) }
         ensures refused { IfSome result (λ r. IfErr r (λ x. (e : Enlistment) → at_side account.side self.old.left_as self.old.right_as ≡ Some e → put_refusal (at_side account.side self.old.left self.old.right).memory (pair_of e) account.number ≡ why_of x)) }
         ensures only { IfSome result (λ r. IfErr r (λ x. (x ≡ KvRefusal.Memory) ⊎ IsSome (why_of x))) }
