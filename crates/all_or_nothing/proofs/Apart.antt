@@ -16,7 +16,7 @@ use Rattle.transactions.specs.declared.event.Event.{Event}
 use Rattle.all_or_nothing.specs.Marks.{Place, is_at, is_single, is_unmarked, marks_of}
 use Rattle.all_or_nothing.specs.Objects.{AreHolders}
 use Rattle.all_or_nothing.specs.Tying.{IsLeftSo, IsTied, is_aborted_by}
-use Rattle.all_or_nothing.proofs.Chain.{Gives}
+use Rattle.transactions.proofs.Driving.{Gives}
 use Rattle.all_or_nothing.proofs.Moving.{comer, its_own, note_by}
 
 -- What the moves of transaction number n left of the others: whatever a crash may leave of them it might have left before, what was kept is kept, and no place moved.

@@ -22,8 +22,10 @@ use Rattle.transactions.specs.State.{LiveState, blank, past}
 use Rattle.all_or_nothing.specs.Marks.{Nowhere, Place, is_single, marks_of}
 use Rattle.all_or_nothing.specs.Tying.{IsTied}
 use Rattle.all_or_nothing.specs.Whole.{IsAllOrNothing, IsBeginning, IsRouted, IsTiedTo, heard_of}
-use Rattle.all_or_nothing.proofs.Called.{different, fitting}
+use Rattle.all_or_nothing.proofs.Called.{EpochLaw, different, fitting}
 use Rattle.transactions.proofs.Entering.{some_same}
+use Rattle.transactions.proofs.InOrder.{order_of_commits}
+use Rattle.transactions.proofs.Untouched.{commit_stays}
 use Rattle.all_or_nothing.proofs.Calls.{live_number}
 use Rattle.all_or_nothing.proofs.Marking.{Marked, marked_some, none_both}
 use Rattle.all_or_nothing.proofs.Moved.{fewer_same, says_written}
@@ -66,11 +68,12 @@ none_tied n place keeps leaves h says none heard = record {
     clash k = absurd cc
 
 pub begun_keeps : {D C O : Type 0} (honest : Bool) (image : D → List ℕ → Type 0) (faults : D → ℕ) (place : O → Enlistment → Place) (keeps : O → Enlistment → Type 0) (leaves : O → List Site → Type 0) (sound : O → Type 0)
-    (t : TxId) (m n : Standing D C) (o : O) → IsTrue honest → IsAllOrNothing image place keeps leaves sound m o → (c : IsBeginning honest image faults place t m n o) → Writes [] (blank t c.time) c.begun
+    → EpochLaw → (t : TxId) (m n : Standing D C) (o : O) → IsTrue honest → IsAllOrNothing image place keeps leaves sound m o → (c : IsBeginning honest image faults place t m n o) → Writes [] (blank t c.time) c.begun
     → IsAllOrNothing image place keeps leaves sound n o
 unfolding is_whole
-begun_keeps honest image faults place keeps leaves sound t m n o is all c writes = record {
+begun_keeps honest image faults place keeps leaves sound epochs t m n o is all c writes = record {
   whole = λ rs may ss l u. whole rs may ss l u (number_of t == number_of u) refl;
+  ordered = λ rs may. let q = c.records rs may in order_of_commits rs q.0 q.2 (all.ordered q.0 q.1);
   tied = λ u y at. tied u y at (number_of t == number_of u) refl;
   routed = λ u y at. routed u y at (number_of t == number_of u) refl;
   begun = λ u y at. begun u y at (number_of t == number_of u) refl;
@@ -108,8 +111,8 @@ begun_keeps honest image faults place keeps leaves sound t m n o is all c writes
         subst (λ (v : TxId). is_whole_by (first_of (identifier_of (number_of v)) rs) (number_of v) ss ≡ true) (itself u k)
         (subst (λ f. is_whole_by f (number_of t) ss ≡ true) (sym (found rs may)) (none_whole (number_of t) ss (λ j e. none ss l j e)))
     whole rs may ss l u false k =
-        let q = c.records u rs may in
-        subst (λ f. is_whole_by f (number_of u) ss ≡ true) (sym q.2) (all.whole q.0 q.1 ss l u)
+        let q = c.records rs may in
+        subst (λ f. is_whole_by f (number_of u) ss ≡ true) (sym (commit_stays u q.0 rs (epochs u) q.2)) (all.whole q.0 q.1 ss l u)
 
     says : SaysNoMore [] [] [] (past y)
     says = subst (λ h. SaysNoMore [] [] [] h) (sym writes.grown) (says_written [] [] [] writes.written writes.said (fewer_same []))

@@ -1,30 +1,32 @@
 -- What comes between two calls keeps all or nothing: that no transaction could be begun, and what a program does to its objects.
-use Rattle.std.proofs.Common.{◌≡◌, ◌⊎◌, inl, inr, ◌≤◌, ◌<◌, ℕ, Bool, true, false, List, [], Some, None, refl, ap, subst, sym, ◌∙◌, arith}
-use Rattle.dtx_values.specs.TxIds.{identifier_of_id, number_of}
+use Rattle.std.proofs.Common.{◌≡◌, ◌⊎◌, inl, inr, ℕ, true, List, [], Some, ap, subst, sym, ◌∙◌, arith}
+use Rattle.dtx_values.specs.TxIds.{number_of}
 use Rattle.dtx_values.specs.declared.number.EnlNo.{EnlNo}
 use Rattle.dtx_values.specs.declared.entry.Entry.{Entry}
 use Rattle.dtx_values.specs.declared.tx_id.TxId.{TxId}
-use Rattle.dtx_model.specs.Log.{CommitRecord}
 use Rattle.dtx_model.specs.World.{World}
 use Rattle.recovery_laws.specs.Whole.{Site, is_whole, is_whole_by}
 use Rattle.resource_managers.specs.Pairs.{enlistment}
 use Rattle.resource_managers.specs.declared.enlistment.Enlistment.{Enlistment}
-use Rattle.transactions.specs.Logged.{MayHold}
 use Rattle.transactions.specs.Slots.{Standing, live_at}
 use Rattle.transactions.specs.State.{LiveState, past}
 use Rattle.all_or_nothing.specs.Marks.{At, Nowhere, Place}
 use Rattle.transactions.specs.Hearing.{Given}
-use Rattle.all_or_nothing.specs.Tying.{IsLeftSo, IsTied, is_aborted_by, said_yes}
+use Rattle.all_or_nothing.specs.Tying.{IsTied, is_aborted_by, said_yes}
 use Rattle.all_or_nothing.specs.Whole.{IsAllOrNothing, IsBetween, IsHeardOn, IsNumbering, IsRouted, IsTiedTo, heard_of}
+use Rattle.transactions.proofs.InOrder.{order_of_commits}
+use Rattle.transactions.proofs.Untouched.{commit_stays}
+use Rattle.all_or_nothing.proofs.Called.{EpochLaw}
 use Rattle.all_or_nothing.proofs.Calls.{live_number}
 
 -- ---- no transaction could be begun
 
-pub numbered : {D C O : Type 0} (image : D → List ℕ → Type 0) (place : O → Enlistment → Place) (keeps : O → Enlistment → Type 0) (leaves : O → List Site → Type 0) (sound : O → Type 0) (m n : Standing D C) (o : O)
+pub numbered : {D C O : Type 0} (image : D → List ℕ → Type 0) (place : O → Enlistment → Place) (keeps : O → Enlistment → Type 0) (leaves : O → List Site → Type 0) (sound : O → Type 0) → EpochLaw → (m n : Standing D C) (o : O)
     → IsAllOrNothing image place keeps leaves sound m o → IsNumbering image m n → IsAllOrNothing image place keeps leaves sound n o
 unfolding is_whole
-numbered image place keeps leaves sound m n o all c = record {
-  whole = λ rs may ss l u. let q = c.records u rs may in subst (λ f. is_whole_by f (number_of u) ss ≡ true) (sym q.2) (all.whole q.0 q.1 ss l u);
+numbered image place keeps leaves sound epochs m n o all c = record {
+  whole = λ rs may ss l u. let q = c.records rs may in subst (λ f. is_whole_by f (number_of u) ss ≡ true) (sym (commit_stays u q.0 rs (epochs u) q.2)) (all.whole q.0 q.1 ss l u);
+  ordered = λ rs may. let q = c.records rs may in order_of_commits rs q.0 q.2 (all.ordered q.0 q.1);
   tied = λ u y at. all.tied u y (before u y at);
   routed = λ u y at. all.routed u y (before u y at);
   begun = λ u y at. let low = all.begun u y (before u y at) in let up = c.rises in omega (arith, low, up);
@@ -71,6 +73,7 @@ pub between : {D C O : Type 0} (image : D → List ℕ → Type 0) (place : O �
     → IsAllOrNothing image place keeps leaves sound m o → IsBetween place keeps leaves sound m o p → IsAllOrNothing image place keeps leaves sound m p
 between image place keeps leaves sound m o p all c = record {
   whole = λ rs may ss l. all.whole rs may ss (c.left ss l);
+  ordered = all.ordered;
   tied = tied;
   routed = λ u y at e. routed u y at e (c.places u y at e);
   begun = all.begun;

@@ -5,7 +5,7 @@ use Rattle.std.proofs.lemmas.Bool.{false_from_ne_true, or_left}
 use Rattle.std.proofs.lemmas.Bool.Decides.{nat_tests}
 use Rattle.coordinator_core.specs.Acting.{record_for}
 use Rattle.coordinator_log.specs.State.{LogState}
-use Rattle.dtx_values.specs.TxIds.{number_of}
+use Rattle.dtx_values.specs.TxIds.{identifier_of_id, number_of}
 use Rattle.dtx_values.specs.declared.entry.Entry.{Entry}
 use Rattle.dtx_values.specs.declared.number.EnlNo.{EnlNo}
 use Rattle.dtx_values.specs.declared.tx_id.TxId.{TxId}
@@ -19,18 +19,21 @@ use Rattle.dtx_model.specs.Words.{has, latest}
 use Rattle.dtx_model.specs.World.{World, core}
 use Rattle.record_laws.proofs.LastingManagers.{volatile_alone}
 use Rattle.record_laws.specs.Recorded.{IsOf, IsVolatile, RecordsVotes, TellsByRecord, is_free_tried, is_freed, is_record_tried, is_recovered}
+use Rattle.log_epochs.specs.Epochs.{is_epoch}
 use Rattle.recovery_laws.specs.Whole.{Site, is_whole, is_whole_by}
 use Rattle.resource_managers.specs.Pairs.{enlistment}
 use Rattle.resource_managers.specs.declared.enlistment.Enlistment.{Enlistment}
 use Rattle.tx_world.specs.AtLog.{Fits, Tie, id_of}
+use Rattle.world_parts.specs.AtLog.{AtMostOne}
 use Rattle.transactions.specs.Keeping.{HasRun}
 use Rattle.transactions.specs.Logged.{KeepsRecords, MayHold}
 use Rattle.transactions.specs.State.{LiveState, past}
+use Rattle.transactions.proofs.Untouched.{first_stays}
 use Rattle.all_or_nothing.specs.Marks.{At, Passing, Place}
 use Rattle.all_or_nothing.specs.Objects.{AreHolders}
 use Rattle.all_or_nothing.specs.Whole.{IsRouted, IsTiedTo, heard_of}
 use Rattle.all_or_nothing.proofs.Apart.{KeepsOthers}
-use Rattle.all_or_nothing.proofs.Chain.{Gives}
+use Rattle.transactions.proofs.Driving.{Gives}
 use Rattle.all_or_nothing.proofs.Entries.{heard_within}
 use Rattle.all_or_nothing.proofs.Same.{whole_same}
 use Rattle.all_or_nothing.proofs.Wholly.{Knows, whole_by_record, whole_without}
@@ -41,6 +44,10 @@ VotesLaw = (t : ℕ) (w : World) → AreMadeOnce (IsIn w.calls) → IsOwnRun t w
 
 abbrev pub TellsLaw : Type 0
 TellsLaw = (t : ℕ) (w : World) → AreMadeOnce (IsIn w.calls) → IsOwnRun t w → has is_restart w.past ≡ false → has is_recovered w.past ≡ false → TellsByRecord w
+
+-- and that no transaction's identifier is an epoch's
+abbrev pub EpochLaw : Type 0
+EpochLaw = (t : TxId) → is_epoch (identifier_of_id t) ≡ false
 
 -- ---- the transaction itself
 
@@ -106,6 +113,13 @@ fitting honest image log z is run rs (inl c) = by (log_has c.0) (run.imaged is c
     by (Err n) f e = absurd cc
 fitting honest image log z is run rs (inr c) = subst (λ x. Fits z.tx x) (sym c.1) (run.fits is c.0)
 
+-- so they have one record of it at most
+pub one_record : {D : Type 0} (honest : Bool) (image : D → List ℕ → Type 0) (log : LogState D) (z : LiveState) → IsTrue honest → HasRun honest image log z → (rs : List CommitRecord) → MayHold image log rs
+    → AtMostOne (identifier_of (number_of z.number)) rs
+one_record honest image log z is run rs may =
+    let id : id_of z.tx ≡ identifier_of (number_of z.number) = ap (λ t. identifier_of (number_of t)) run.sound.own in
+    subst (λ i. AtMostOne i rs) id (fitting honest image log z is run rs may).one
+
 pub whole_itself : {D O : Type 0} (honest : Bool) (image : D → List ℕ → Type 0) (place : O → Enlistment → Place) (keeps : O → Enlistment → Type 0) (leaves : O → List Site → Type 0) (log : LogState D) (z : LiveState) (o : O)
     → IsTrue honest → HasRun honest image log z
     → Knows (number_of z.tx.transaction) z.tx.world (λ e. place o (enlistment z.number e)) (λ e. keeps o (enlistment z.number e)) (leaves o) (number_of z.number) (heard_of z)
@@ -132,6 +146,6 @@ pub whole_other : {D O : Type 0} (honest : Bool) (image : D → List ℕ → Typ
     → ((rs : List CommitRecord) → MayHold image from rs → (ss : List Site) → leaves a ss → is_whole rs ss k ≡ true) → (rs : List CommitRecord) → MayHold image to rs → (ss : List Site) → leaves b ss → is_whole rs ss k ≡ true
 unfolding is_whole
 whole_other honest image place keeps leaves sound from to n k a b is records others off whole rs may ss left =
-    let q = records is (identifier_of k) (other_id n k off) rs may in
+    let q = records is rs may in
     let s = others.left ss left in
-    subst (λ f. is_whole_by f k ss ≡ true) (sym q.2) (whole_same (first_of (identifier_of k) q.0) k ss s.0 (λ m e. s.2 m k e off) (whole q.0 q.1 s.0 s.1))
+    subst (λ f. is_whole_by f k ss ≡ true) (sym (first_stays (identifier_of n) (identifier_of k) q.0 rs (other_id n k off) q.2)) (whole_same (first_of (identifier_of k) q.0) k ss s.0 (λ m e. s.2 m k e off) (whole q.0 q.1 s.0 s.1))

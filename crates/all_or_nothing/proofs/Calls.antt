@@ -17,19 +17,21 @@ use Rattle.record_laws.proofs.LastingManagers.{of_stays, volatile_stays}
 use Rattle.recovery_laws.specs.Whole.{Site, is_whole}
 use Rattle.resource_managers.specs.Pairs.{enlistment}
 use Rattle.resource_managers.specs.declared.enlistment.Enlistment.{Enlistment}
-use Rattle.transactions.specs.Hearing.{Given, MovesOn, Takes, Writes}
+use Rattle.transactions.specs.Hearing.{Given, MovesOn, Takes}
 use Rattle.transactions.specs.Keeping.{HasRun}
 use Rattle.transactions.specs.Logged.{KeepsRecords, MayHold}
 use Rattle.transactions.specs.Slots.{AreSame, Standing, is_live, live_at, live_in}
 use Rattle.transactions.specs.State.{LiveState, past}
 use Rattle.transactions.specs.Enlisting.{enlists}
 use Rattle.transactions.proofs.Entering.{call_writes, some_same}
+use Rattle.transactions.proofs.InOrder.{order_of_others}
+use Rattle.world_parts.specs.AtLog.{AtMostOne}
 use Rattle.all_or_nothing.specs.Marks.{At, Nowhere, Passing, Place}
 use Rattle.all_or_nothing.specs.Objects.{AreHolders}
 use Rattle.all_or_nothing.specs.Whole.{AreReady, IsAllOrNothing, IsCall, IsEntered, IsEntry, IsGivenUp, IsRouted, IsTiedTo, heard_of}
 use Rattle.all_or_nothing.proofs.Apart.{KeepsOthers, moves_apart, tied_apart}
-use Rattle.all_or_nothing.proofs.Called.{TellsLaw, VotesLaw, different, knows, turn, whole_itself, whole_other}
-use Rattle.all_or_nothing.proofs.Chain.{Gives}
+use Rattle.all_or_nothing.proofs.Called.{EpochLaw, TellsLaw, VotesLaw, different, knows, one_record, turn, whole_itself, whole_other}
+use Rattle.transactions.proofs.Driving.{Gives}
 use Rattle.all_or_nothing.proofs.Moved.{says_written}
 use Rattle.all_or_nothing.proofs.Moving.{NotesOnce}
 use Rattle.all_or_nothing.proofs.Tied.{tied_on}
@@ -138,7 +140,7 @@ of_entry honest image faults gives t m n o c =
       calls = taken.writes.calls;
       count = suc zero;
       moves = (x, o, (refl, refl), inr (inl (taken, refl)));
-      records = λ is id off rs may. (rs, subst (λ l. MayHold image l rs) (ap (λ (s : Standing _ _). s.log) c.rest) may, refl);
+      records = λ is rs may. (rs, subst (λ l. MayHold image l rs) (ap (λ (s : Standing _ _). s.log) c.rest) may, refl);
       others = c.others;
       last = ap (λ (s : Standing _ _). s.last) c.rest;
     }
@@ -150,17 +152,19 @@ given_no_more place keeps leaves gs z o tied =
     tied_on (number_of z.number) (λ e. place o (enlistment z.number e)) (λ e. keeps o (enlistment z.number e)) (leaves o) gs [] (past z) (past z) (heard_of z) (heard_of z) (λ p k. k)
     (says_written gs [] (past z) [] refl (λ p e k. absurd cc)) tied
 
--- what a call left, and what is known of its transaction
-record Left {D C O : Type 0} (honest : Bool) (image : D → List ℕ → Type 0) (place : O → Enlistment → Place) (keeps : O → Enlistment → Type 0) (leaves : O → List Site → Type 0) (sound : O → Type 0) (t : TxId) (m n : Standing D C) (o p : O) (z : LiveState) : Type 0 where
-  now : (y : LiveState) → live_at t n.lives ≡ Some y → y ≡ z
+-- What a call left, and what is known of its transaction. No note came twice to an enlistment.
+pub record Left {D C O : Type 0} (honest : Bool) (image : D → List ℕ → Type 0) (place : O → Enlistment → Place) (keeps : O → Enlistment → Type 0) (leaves : O → List Site → Type 0) (sound : O → Type 0) (t : TxId) (m n : Standing D C) (o p : O) (z : LiveState) : Type 0 where
+  pub now : (y : LiveState) → live_at t n.lives ≡ Some y → y ≡ z
+  pub once : NotesOnce (λ e. place o (enlistment t e)) (past z)
   moved : IsTiedTo place keeps leaves [] z p
   number : z.number ≡ t
   routed : (e : EnlNo) → IsRouted z.tx.world e.value (place p (enlistment t e))
+  one : (rs : List CommitRecord) → MayHold image n.log rs → AtMostOne (identifier_of_id t) rs
   others : KeepsOthers place keeps leaves sound (number_of t) o p
   records : KeepsRecords honest image (identifier_of_id t) m.log n.log
   whole : (rs : List CommitRecord) → MayHold image n.log rs → (ss : List Site) → leaves p ss → is_whole rs ss (number_of t) ≡ true
 
-left_by : {D C O : Type 0} (honest : Bool) (image : D → List ℕ → Type 0) (gives : Gives O) (place : O → Enlistment → Place) (keeps : O → Enlistment → Type 0) (leaves : O → List Site → Type 0) (sound : O → Type 0)
+pub left_by : {D C O : Type 0} (honest : Bool) (image : D → List ℕ → Type 0) (gives : Gives O) (place : O → Enlistment → Place) (keeps : O → Enlistment → Type 0) (leaves : O → List Site → Type 0) (sound : O → Type 0)
     → AreHolders gives place keeps leaves sound → VotesLaw → TellsLaw → (given : List Given) (t : TxId) (m n : Standing D C) (o p : O) → IsTrue honest → IsAllOrNothing image place keeps leaves sound m o
     → (c : IsMoved honest image gives given t m n o p) → IsTiedTo place keeps leaves given c.before o → (z : LiveState) × Left honest image place keeps leaves sound t m n o p z
 left_by honest image gives place keeps leaves sound holders votes tells given t m n o p is all c ready =
@@ -187,9 +191,11 @@ left_by honest image gives place keeps leaves sound holders votes tells given t 
       z,
       record {
         now = c.now;
+        once = subst (λ u. NotesOnce (λ e. place o (enlistment u e)) (past z)) mine once;
         moved = tied;
         number = number;
         routed = routed;
+        one = λ rs may. subst (λ (u : TxId). AtMostOne (identifier_of_id u) rs) number (one_record honest image n.log z is run rs may);
         others = others;
         records = c.records;
         whole = λ rs may ss l. subst (λ u. is_whole rs ss (number_of u) ≡ true) number (whole_itself honest image place keeps leaves n.log z p is run known tied rs may ss l);
@@ -198,10 +204,11 @@ left_by honest image gives place keeps leaves sound holders votes tells given t 
 
 -- A call keeps all or nothing.
 pub moved_on : {D C O : Type 0} (honest : Bool) (image : D → List ℕ → Type 0) (gives : Gives O) (place : O → Enlistment → Place) (keeps : O → Enlistment → Type 0) (leaves : O → List Site → Type 0) (sound : O → Type 0)
-    → AreHolders gives place keeps leaves sound → VotesLaw → TellsLaw → (given : List Given) (t : TxId) (m n : Standing D C) (o p : O) → IsTrue honest → IsAllOrNothing image place keeps leaves sound m o
+    → AreHolders gives place keeps leaves sound → VotesLaw → TellsLaw → EpochLaw → (given : List Given) (t : TxId) (m n : Standing D C) (o p : O) → IsTrue honest → IsAllOrNothing image place keeps leaves sound m o
     → (c : IsMoved honest image gives given t m n o p) → IsTiedTo place keeps leaves given c.before o → IsAllOrNothing image place keeps leaves sound n p
-moved_on honest image gives place keeps leaves sound holders votes tells given t m n o p is all c ready = record {
+moved_on honest image gives place keeps leaves sound holders votes tells epochs given t m n o p is all c ready = record {
   whole = λ rs may ss l u. whole rs may ss l u (number_of t == number_of u) refl;
+  ordered = λ rs may. let q = left.records is rs may in order_of_others t rs q.0 (epochs t) q.2 (left.one rs may) (all.ordered q.0 q.1);
   tied = λ u y at. tied u y at (number_of t == number_of u) refl;
   routed = λ u y at. routed u y at (number_of t == number_of u) refl;
   begun = λ u y at. begun u y at (number_of t == number_of u) refl;
@@ -252,17 +259,18 @@ moved_on honest image gives place keeps leaves sound holders votes tells given t
 
 -- A call of which objects hear.
 pub called : {D C O : Type 0} (honest : Bool) (image : D → List ℕ → Type 0) (gives : Gives O) (place : O → Enlistment → Place) (keeps : O → Enlistment → Type 0) (leaves : O → List Site → Type 0) (sound : O → Type 0)
-    → AreHolders gives place keeps leaves sound → VotesLaw → TellsLaw → (given : List Given) (t : TxId) (m n : Standing D C) (o p : O) → IsTrue honest → IsAllOrNothing image place keeps leaves sound m o
+    → AreHolders gives place keeps leaves sound → VotesLaw → TellsLaw → EpochLaw → (given : List Given) (t : TxId) (m n : Standing D C) (o p : O) → IsTrue honest → IsAllOrNothing image place keeps leaves sound m o
     → IsCall honest image gives given t m n o p → AreReady place keeps leaves given t m o → IsAllOrNothing image place keeps leaves sound n p
 unfolding of_call
-called honest image gives place keeps leaves sound holders votes tells given t m n o p is all c ready =
-    moved_on honest image gives place keeps leaves sound holders votes tells given t m n o p is all (of_call honest image gives given t m n o p c) (ready c.before c.was)
+called honest image gives place keeps leaves sound holders votes tells epochs given t m n o p is all c ready =
+    moved_on honest image gives place keeps leaves sound holders votes tells epochs given t m n o p is all (of_call honest image gives given t m n o p c) (ready c.before c.was)
 
 -- A transaction that is given up stays as it is.
 pub given_up : {D C O : Type 0} (image : D → List ℕ → Type 0) (place : O → Enlistment → Place) (keeps : O → Enlistment → Type 0) (leaves : O → List Site → Type 0) (sound : O → Type 0) (t : TxId) (m n : Standing D C) (o : O)
     → IsAllOrNothing image place keeps leaves sound m o → IsGivenUp t m n → IsAllOrNothing image place keeps leaves sound n o
 given_up image place keeps leaves sound t m n o all c = record {
   whole = λ rs may. all.whole rs (subst (λ l. MayHold image l rs) log may);
+  ordered = λ rs may. all.ordered rs (subst (λ l. MayHold image l rs) log may);
   tied = λ u y at. tied u y at (number_of t == number_of u) refl;
   routed = λ u y at. routed u y at (number_of t == number_of u) refl;
   begun = λ u y at. subst (λ k. number_of u ≤ k) (sym last) (begun u y at (number_of t == number_of u) refl);
@@ -300,8 +308,8 @@ given_up image place keeps leaves sound t m n o all c = record {
 
 -- A call that only enters.
 pub entered : {D C O : Type 0} (honest : Bool) (image : D → List ℕ → Type 0) (faults : D → ℕ) (gives : Gives O) (place : O → Enlistment → Place) (keeps : O → Enlistment → Type 0) (leaves : O → List Site → Type 0) (sound : O → Type 0)
-    → AreHolders gives place keeps leaves sound → VotesLaw → TellsLaw → (t : TxId) (m n : Standing D C) (o : O) → IsTrue honest → IsAllOrNothing image place keeps leaves sound m o
+    → AreHolders gives place keeps leaves sound → VotesLaw → TellsLaw → EpochLaw → (t : TxId) (m n : Standing D C) (o : O) → IsTrue honest → IsAllOrNothing image place keeps leaves sound m o
     → IsEntry honest image faults t m n → IsAllOrNothing image place keeps leaves sound n o
 unfolding of_entry
-entered honest image faults gives place keeps leaves sound holders votes tells t m n o is all c =
-    moved_on honest image gives place keeps leaves sound holders votes tells [] t m n o o is all (of_entry honest image faults gives t m n o c) (all.tied t c.before c.was)
+entered honest image faults gives place keeps leaves sound holders votes tells epochs t m n o is all c =
+    moved_on honest image gives place keeps leaves sound holders votes tells epochs [] t m n o o is all (of_entry honest image faults gives t m n o c) (all.tied t c.before c.was)

@@ -1,12 +1,11 @@
 -- What is held of a transaction stays tied to its history, over all the moves of a call.
-use Rattle.std.proofs.Common.{◌≡◌, ◌≤◌, Bool, true, false, not, List, [], ◌∷◌, ◌++◌, Option, Some, None, length, drop, take, ap, subst, sym, ◌∙◌, arith}
+use Rattle.std.proofs.Common.{◌≡◌, ◌≤◌, Bool, true, false, not, List, [], ◌∷◌, ◌++◌, Some, None, length, drop, take, ap, subst, sym, ◌∙◌, arith}
 use Rattle.std.proofs.lemmas.List.{take-append-drop}
 use Rattle.std.proofs.lemmas.List.Folds.{list_any-append}
 use Rattle.dtx_values.specs.TxIds.{number_of}
 use Rattle.dtx_values.specs.declared.entry.Entry.{Entry}
 use Rattle.dtx_values.specs.declared.note.Note.{Note}
 use Rattle.dtx_values.specs.declared.note.Note.TheVariants.{Prepare, Hand, Commit, Rollback}
-use Rattle.dtx_values.specs.declared.note.Reply.{Reply}
 use Rattle.dtx_values.specs.declared.number.EnlNo.{EnlNo}
 use Rattle.dtx_values.specs.declared.tx_id.TxId.{TxId}
 use Rattle.dtx_values.specs.declared.words.Outcome.TheVariants.{Aborted, Committed}
@@ -23,6 +22,7 @@ use Rattle.transactions.specs.Events.{note_in}
 use Rattle.transactions.specs.Hearing.{Advances, Given, HearsNext, Takes, Writes, events, is_one_of, is_reply, says}
 use Rattle.transactions.specs.State.{LiveState, past, unheard}
 use Rattle.transactions.specs.declared.event.Event.{Event}
+use Rattle.transactions.proofs.Driving.{Gives}
 use Rattle.all_or_nothing.specs.Marks.{Place}
 use Rattle.all_or_nothing.specs.Tying.{IsTied}
 use Rattle.all_or_nothing.specs.Whole.{IsTiedTo, heard_of}
@@ -31,9 +31,6 @@ use Rattle.std.proofs.lemmas.Bool.{or_left}
 use Rattle.all_or_nothing.proofs.Moved.{Fewer, fewer_same, says_written}
 use Rattle.all_or_nothing.proofs.Moving.{NotesOnce, Says, asks, come_after, comer, hands, its_own, note_by, once_before, tells_abort, tells_commit}
 use Rattle.all_or_nothing.proofs.Tied.{Comes, more_first, more_last, tied_on}
-
-abbrev pub Gives : Type 0 → Type 1
-Gives O = O → Enlistment → Note → Option Reply → O → Type 0
 
 -- what is tied, of transaction t, where its history and what was heard of it are these
 abbrev pub Tie : {O : Type 0} → (O → Enlistment → Place) → (O → Enlistment → Type 0) → (O → List Site → Type 0) → TxId → List Given → O → List Entry → List Entry → Type 0

@@ -15,3 +15,4 @@ pub mod Calls
 pub mod Begun
 pub mod Between
 pub mod Turns
+pub mod Asked

@@ -18,7 +18,8 @@ use Rattle.all_or_nothing.specs.Marks.{HearsAs, Place}
 use Rattle.all_or_nothing.specs.Objects.{AreHolders}
 use Rattle.all_or_nothing.specs.Tying.{IsTied}
 use Rattle.all_or_nothing.specs.Whole.{IsTiedTo, heard_of}
-use Rattle.all_or_nothing.proofs.Chain.{Gives, Moved, Tie, all_one_of, comes_so, goes, last_more, longer, none_more, silent, split_of, takes, under, written}
+use Rattle.transactions.proofs.Driving.{Gives}
+use Rattle.all_or_nothing.proofs.Chain.{Moved, Tie, all_one_of, comes_so, goes, last_more, longer, none_more, silent, split_of, takes, under, written}
 use Rattle.all_or_nothing.proofs.Entries.{heard_more, heard_same}
 use Rattle.all_or_nothing.proofs.Heard.{Hearing, tied_heard}
 use Rattle.all_or_nothing.proofs.Moved.{fewer_first, fewer_same}
@@ -31,12 +32,12 @@ same_reply e (Some r) = refl
 same_reply e None = refl
 
 -- what the objects heard, and what they gave, tied
-record Tied {O : Type 0} (place : O → Enlistment → Place) (keeps : O → Enlistment → Type 0) (leaves : O → List Site → Type 0) (sound : O → Type 0) (t : TxId) (gs rs : List Given) (h heard : List Entry) (a b : O) : Type 0 where
-  tied : Tie place keeps leaves t (gs ++ rs) b h heard
-  memory : sound b
-  places : (f : Enlistment) → place b f ≡ place a f
+pub record Tied {O : Type 0} (place : O → Enlistment → Place) (keeps : O → Enlistment → Type 0) (leaves : O → List Site → Type 0) (sound : O → Type 0) (t : TxId) (gs rs : List Given) (h heard : List Entry) (a b : O) : Type 0 where
+  pub tied : Tie place keeps leaves t (gs ++ rs) b h heard
+  pub memory : sound b
+  pub places : (f : Enlistment) → place b f ≡ place a f
 
-hears_note : {O : Type 0} (gives : Gives O) (place : O → Enlistment → Place) (keeps : O → Enlistment → Type 0) (leaves : O → List Site → Type 0) (sound : O → Type 0) → AreHolders gives place keeps leaves sound
+pub hears_note : {O : Type 0} (gives : Gives O) (place : O → Enlistment → Place) (keeps : O → Enlistment → Type 0) (leaves : O → List Site → Type 0) (sound : O → Type 0) → AreHolders gives place keeps leaves sound
     → (t : TxId) (gs rs : List Given) (h heard es rest : List Entry) (ev : Event) (a b : O) → past_of h ≡ heard ++ (es ++ rest) → Rattle.transactions.specs.Hearing.events t es ≡ ev ∷ [] → sound a
     → NotesOnce (λ e. place a (enlistment t e)) h → Tie place keeps leaves t gs a h heard → (o : Option (Enlistment × Note)) → note_in ev ≡ o → HearsNote gives o a rs b
     → Tied place keeps leaves sound t gs rs h (heard ++ es) a b

@@ -1,6 +1,6 @@
 -- Turns of the manager, and the end of a scope, keep all or nothing.
 use Rattle.std.specs.Prelude.{IsTrue}
-use Rattle.std.proofs.Common.{◌≡◌, inl, inr, ◌≤◌, ◌<◌, ℕ, zero, suc, Bool, true, false, List, [], ◌∷◌, ◌++◌, Option, Some, None, Result, append_assoc, refl, ap, subst, sym, ◌∙◌}
+use Rattle.std.proofs.Common.{◌≡◌, inl, inr, ◌≤◌, ◌<◌, ℕ, zero, suc, Bool, true, false, List, [], ◌++◌, Option, Some, None, append_assoc, refl, ap, subst, sym, ◌∙◌}
 use Rattle.std.proofs.lemmas.Bool.Decides.{eqb_tells}
 use Rattle.dtx_values.proofs.Ids.{same_id}
 use Rattle.dtx_values.specs.TxIds.{identifier_of_id, number_of}
@@ -12,23 +12,22 @@ use Rattle.recovery_laws.specs.Whole.{Site}
 use Rattle.resource_managers.specs.declared.enlistment.Enlistment.{Enlistment}
 use Rattle.transactions.specs.declared.usage.Usage.TheVariants.{Left as LeftUsage}
 use Rattle.transactions.specs.Calling.{TicksUnless, passed}
-use Rattle.transactions.specs.Doing.{HeardAt}
-use Rattle.transactions.specs.Ending.{IsLeft, IsLeftAt, IsOver}
+use Rattle.transactions.specs.Ending.{IsLeft}
 use Rattle.transactions.specs.Hearing.{IsHeard, MovesOn, Takes, Writes}
 use Rattle.transactions.specs.Logged.{KeepsRecords, MayHold}
 use Rattle.transactions.specs.Keeping.{HasRun}
 use Rattle.transactions.specs.Scoping.{ConcludesAll, ConcludesIn, IsConcluded, IsLetGo}
-use Rattle.transactions.specs.Slots.{AreSame, KeepsRest, KeepsTime, Standing, live_at, standing_at}
+use Rattle.transactions.specs.Slots.{AreSame, KeepsTime, Standing, live_at, standing_at}
 use Rattle.transactions.specs.State.{LiveState, past}
-use Rattle.transactions.specs.Turning.{HadPart, HadTurn, Stopped, StoppedAfter, Turned, TurnedUpTo}
+use Rattle.transactions.specs.Turning.{HadTurn, Stopped, StoppedAfter, Turned, TurnedUpTo}
 use Rattle.transactions.proofs.Driving.{chain_both}
 use Rattle.transactions.proofs.Entering.{call_writes, some_same}
 use Rattle.all_or_nothing.specs.Marks.{Place}
 use Rattle.all_or_nothing.specs.Objects.{AreHolders}
 use Rattle.all_or_nothing.specs.Whole.{IsAllOrNothing, IsCall}
-use Rattle.all_or_nothing.proofs.Called.{TellsLaw, VotesLaw}
+use Rattle.all_or_nothing.proofs.Called.{EpochLaw, TellsLaw, VotesLaw}
 use Rattle.all_or_nothing.proofs.Calls.{IsMoved, called, given_up, moved_on}
-use Rattle.all_or_nothing.proofs.Chain.{Gives}
+use Rattle.transactions.proofs.Driving.{Gives}
 
 -- ---- where nothing was done
 
@@ -37,6 +36,7 @@ pub unchanged : {D C O : Type 0} (image : D → List ℕ → Type 0) (place : O 
     → ((u : TxId) → live_at u n.lives ≡ live_at u m.lives) → n.log ≡ m.log → n.last ≡ m.last → IsAllOrNothing image place keeps leaves sound m o → IsAllOrNothing image place keeps leaves sound n o
 unchanged image place keeps leaves sound m n o same log last all = record {
   whole = λ rs may. all.whole rs (subst (λ l. MayHold image l rs) log may);
+  ordered = λ rs may. all.ordered rs (subst (λ l. MayHold image l rs) log may);
   tied = λ u y at. all.tied u y (sym (same u) ∙ at);
   routed = λ u y at. all.routed u y (sym (same u) ∙ at);
   begun = λ u y at. subst (λ k. number_of u ≤ k) (sym last) (all.begun u y (sym (same u) ∙ at));
@@ -113,6 +113,7 @@ pub record Laws {O : Type 0} (gives : Gives O) (place : O → Enlistment → Pla
   pub holders : AreHolders gives place keeps leaves sound
   pub votes : VotesLaw
   pub tells : TellsLaw
+  pub epochs : EpochLaw
 
 turned : {D C O : Type 0} (faults : D → ℕ) (honest : Bool) (image : D → List ℕ → Type 0) (gives : Gives O) (place : O → Enlistment → Place) (keeps : O → Enlistment → Type 0) (leaves : O → List Site → Type 0) (sound : O → Type 0)
     → Laws gives place keeps leaves sound → (t : TxId) (old new : Standing D C) (a b : O) → IsTrue honest → IsAllOrNothing image place keeps leaves sound old a → Turned faults honest image gives t old new a b
@@ -127,7 +128,7 @@ turned {D} {C} {O} faults honest image gives place keeps leaves sound laws t old
     by (Some x) at =
         let h = turn.0 x at in
         let moved = turn_moved faults honest image gives t x h.passed h.done old new a b _ at h.ticked h.heard (ended x h) h.run_before h.run h.logged others time in
-        moved_on honest image gives place keeps leaves sound laws.holders laws.votes laws.tells [] t old new a b is all moved (all.tied t x at)
+        moved_on honest image gives place keeps leaves sound laws.holders laws.votes laws.tells laws.epochs [] t old new a b is all moved (all.tied t x at)
     by None at =
         let same = turn.1 at in
         subst (λ (s : Standing D C). IsAllOrNothing image place keeps leaves sound s b) (sym same.0) (subst (λ (o : O). IsAllOrNothing image place keeps leaves sound old o) (sym same.1) all)
@@ -152,7 +153,7 @@ unfolding turn_moved
 stopped {D} {C} {O} faults honest image gives place keeps leaves sound laws t old new a b is all stop others time = elim stop.2 [
   | inl same ↦ subst (λ (o : O). IsAllOrNothing image place keeps leaves sound new o) (sym same.2)
       (unchanged image place keeps leaves sound old new a (all_same t old.lives new.lives others (same.0 ∙ sym stop.1)) same.1 time.1 all)
-  | inr h ↦ moved_on honest image gives place keeps leaves sound laws.holders laws.votes laws.tells [] t old new a b is all
+  | inr h ↦ moved_on honest image gives place keeps leaves sound laws.holders laws.votes laws.tells laws.epochs [] t old new a b is all
       (turn_moved faults honest image gives t stop.0 h.passed h.done old new a b _ stop.1 h.ticked h.heard (λ y at. some_same (live_at t new.lives) y h.done at h.on) h.run_before h.run h.logged others time) (all.tied t stop.0 stop.1)
 ]
 
@@ -188,7 +189,7 @@ concluded {D} {C} {O} honest image gives place keeps leaves sound laws t old new
         let z = h.heard x at in
         let call : IsCall honest image gives [] t old new a b =
         record { before = x; was = at; after = z.0; now = z.1; run_before = h.run_before x at; run = h.run z.0 z.1; heard = h.heard; others = h.others; last = h.time.1 } in
-        called honest image gives place keeps leaves sound laws.holders laws.votes laws.tells [] t old new a b is all call (all.tied t)
+        called honest image gives place keeps leaves sound laws.holders laws.votes laws.tells laws.epochs [] t old new a b is all call (all.tied t)
     by None at =
         let none = h.nobody at in
         subst (λ (o : O). IsAllOrNothing image place keeps leaves sound new o) (sym none.2)

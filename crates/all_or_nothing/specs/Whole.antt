@@ -21,11 +21,12 @@ use Rattle.resource_managers.specs.declared.enlistment.Enlistment.{Enlistment}
 use Rattle.transactions.specs.Calling.{IsCalled}
 use Rattle.transactions.specs.Doing.{HeardAt}
 use Rattle.transactions.specs.Enlisting.{Clones, Enlists}
-use Rattle.transactions.specs.Hearing.{Given}
+use Rattle.transactions.specs.Hearing.{Advances, Given}
 use Rattle.transactions.specs.Keeping.{HasRun}
-use Rattle.transactions.specs.Logged.{KeepsRecord, MayHold}
+use Rattle.transactions.specs.Logged.{AreInOrder, KeepsCommits, KeepsRecords, MayHold}
 use Rattle.transactions.specs.Slots.{AreSame, KeepsRest, Standing, live_at}
 use Rattle.transactions.specs.State.{LiveState, blank, past}
+use Rattle.transactions.specs.declared.event.Event.{Event}
 use Rattle.transactions.specs.declared.kind.Kind.{Kind}
 use Rattle.all_or_nothing.specs.Marks.{At, Nowhere, Passing, Place, marks_of}
 use Rattle.all_or_nothing.specs.Tying.{IsTied}
@@ -44,10 +45,11 @@ IsRouted w e (At m) = IsOf w m e
 IsRouted w e Passing = IsVolatile w e
 IsRouted w e Nowhere = Unit {0}
 
--- All or nothing: whatever a crash may leave of the log and of all that the objects hold, each transaction is whole; what is held of each that goes on is tied to its history, and each of its
--- enlistments is heard where it may be; nothing is held of a transaction that is still to come, whose number is above the last; and the objects' memory is sound.
+-- All or nothing: whatever a crash may leave of the log and of all that the objects hold, each transaction is whole, and the log's records are in order; what is held of each transaction that goes on is tied to
+-- its history, and each of its enlistments is heard where it may be; nothing is held of a transaction that is still to come, whose number is above the last; and the objects' memory is sound.
 pub record IsAllOrNothing {D C O : Type 0} (image : D → List ℕ → Type 0) (place : O → Enlistment → Place) (keeps : O → Enlistment → Type 0) (leaves : O → List Site → Type 0) (sound : O → Type 0) (m : Standing D C) (o : O) : Type 0 where
   pub whole : (rs : List CommitRecord) → MayHold image m.log rs → (ss : List Site) → leaves o ss → (t : TxId) → is_whole rs ss (number_of t) ≡ true
+  pub ordered : (rs : List CommitRecord) → MayHold image m.log rs → AreInOrder rs
   pub tied : (t : TxId) (x : LiveState) → live_at t m.lives ≡ Some x → IsTiedTo place keeps leaves [] x o
   pub routed : (t : TxId) (x : LiveState) → live_at t m.lives ≡ Some x → (e : EnlNo) → IsRouted x.tx.world e.value (place o (enlistment t e))
   pub begun : (t : TxId) (x : LiveState) → live_at t m.lives ≡ Some x → number_of t ≤ m.last
@@ -67,6 +69,19 @@ pub record IsCall {D C O : Type 0} (honest : Bool) (image : D → List ℕ → T
   pub run_before : HasRun honest image m.log before
   pub run : HasRun honest image n.log after
   pub heard : HeardAt honest image gives given t m n o p
+  pub others : AreSame t m.lives n.lives
+  pub last : n.last ≡ m.last
+
+-- A program asked what comes next in transaction t: it went on, and this event was heard, or none; no other's record of the log was touched; and what holds of its run before and after that is known.
+pub record IsAsked {D C : Type 0} (honest : Bool) (image : D → List ℕ → Type 0) (e : Option Event) (t : TxId) (m n : Standing D C) : Type 0 where
+  pub before : LiveState
+  pub was : live_at t m.lives ≡ Some before
+  pub after : LiveState
+  pub now : live_at t n.lives ≡ Some after
+  pub advances : Advances e before after
+  pub run_before : HasRun honest image m.log before
+  pub run : HasRun honest image n.log after
+  pub records : KeepsRecords honest image (identifier_of_id t) m.log n.log
   pub others : AreSame t m.lives n.lives
   pub last : n.last ≡ m.last
 
@@ -109,14 +124,14 @@ pub record IsBeginning {D C O : Type 0} (honest : Bool) (image : D → List ℕ 
   pub above : m.last < number_of t
   pub unheard : (e : EnlNo) → place o (enlistment t e) ≡ Nowhere
   pub last : n.last ≡ number_of t
-  pub records : (u : TxId) → KeepsRecord image (identifier_of_id u) m.log n.log
+  pub records : KeepsCommits image m.log n.log
   pub others : AreSame t m.lives n.lives
 
 -- No transaction was begun: those that go on are as they were; the last number is, or is higher; and no transaction's record of the log was touched.
 pub record IsNumbering {D C : Type 0} (image : D → List ℕ → Type 0) (m n : Standing D C) : Type 0 where
   pub same : n.lives ≡ m.lives
   pub rises : m.last ≤ n.last
-  pub records : (u : TxId) → KeepsRecord image (identifier_of_id u) m.log n.log
+  pub records : KeepsCommits image m.log n.log
 
 -- From now on an enlistment is heard where it was; or it was heard nowhere, and now is where it may be.
 abbrev pub IsHeardOn : World → ℕ → Place → Place → Type 0

@@ -9,7 +9,8 @@ mod law;
 
 pub use holder::Holder;
 pub use law::{
-    beginning_keeps_all_or_nothing, call_keeps_all_or_nothing, end_keeps_all_or_nothing,
-    entry_keeps_all_or_nothing, objects_keep_all_or_nothing, pump_keeps_all_or_nothing,
-    refusal_keeps_all_or_nothing, reply_keeps_all_or_nothing, scope_keeps_all_or_nothing,
+    asking_keeps_all_or_nothing, beginning_keeps_all_or_nothing, call_keeps_all_or_nothing,
+    end_keeps_all_or_nothing, entry_keeps_all_or_nothing, hearing_keeps_all_or_nothing,
+    objects_keep_all_or_nothing, pump_keeps_all_or_nothing, refusal_keeps_all_or_nothing,
+    reply_keeps_all_or_nothing, scope_keeps_all_or_nothing,
 };

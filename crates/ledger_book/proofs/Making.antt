@@ -11,9 +11,10 @@ use Rattle.kv_resource.specs.Images.{AllHold}
 use Rattle.kv_resource.specs.Store.{KvState, open_records}
 use Rattle.recovery_laws.specs.Whole.{Site, is_whole}
 use Rattle.resource_managers.specs.Holding.{Holding}
-use Rattle.transactions.specs.Logged.{MayHold}
+use Rattle.transactions.specs.Logged.{AreInOrder, MayHold}
 use Rattle.transactions.specs.Slots.{Standing, live_at, live_in}
 use Rattle.transactions.specs.State.{LiveState}
+use Rattle.transactions.proofs.InOrder.{order_of_none}
 use Rattle.all_or_nothing.specs.Marks.{marks_of}
 use Rattle.kv_holding.specs.Holding.{IsAsStored, KvLeaves, KvSound}
 use Rattle.kv_holding.specs.TwoStores.{TwoLeave, two_sites}
@@ -70,6 +71,7 @@ unfolding is_whole
 made honest image b opened lives none images no_left as_left no_right as_right = record {
   whole = λ rs may ss l t. subst (λ qs. is_whole qs ss (number_of t) ≡ true) (sym (none_logged image b.manager rs none images may))
       (subst (λ ks. is_whole [] ks (number_of t) ≡ true) (sym (none_left honest image b.stores.left b.stores.right ss no_left as_left no_right as_right l)) refl);
+  ordered = λ rs may. subst AreInOrder (sym (none_logged image b.manager rs none images may)) order_of_none;
   tied = λ t x at. absurd (none_live b.manager.lives lives t x at);
   routed = λ t x at. absurd (none_live b.manager.lives lives t x at);
   begun = λ t x at. absurd (none_live b.manager.lives lives t x at);

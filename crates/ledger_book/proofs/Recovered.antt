@@ -26,12 +26,13 @@ use Rattle.recovery_laws.specs.OneByOne.{IsRecoveredOneByOne, RecoversOne, Stand
 use Rattle.recovery_laws.specs.Steps.{at_site}
 use Rattle.recovery_laws.specs.Whole.{Site, has_here, is_of_number, is_whole}
 use Rattle.resource_managers.specs.Holding.{Holding, as_found, found_one, pair_held}
-use Rattle.transactions.specs.Logged.{MayHold}
+use Rattle.transactions.specs.Logged.{AreInOrder, AreUnique, MayHold}
 use Rattle.transactions.specs.Recovering.{OnlyFrees}
-use Rattle.transactions.specs.Recovery.{AreUnique, IsOneOf, Later, Obstacle, first_obstacle, number_of_manager, obstacle_to, or_else}
+use Rattle.transactions.specs.Recovery.{IsOneOf, Later, Obstacle, first_obstacle, number_of_manager, obstacle_to, or_else}
 use Rattle.transactions.specs.Slots.{Standing}
 use Rattle.transactions.specs.State.{LiveState}
 use Rattle.transactions.proofs.Covering.{one_of}
+use Rattle.transactions.proofs.InOrder.{order_of_freed}
 use Rattle.all_or_nothing.specs.Marks.{marks_in, marks_of}
 use Rattle.kv_holding.specs.Holding.{IsAsStored, KvLeaves, KvSound, memory_held}
 use Rattle.kv_holding.specs.TwoStores.{TwoLeave, two_sites}
@@ -119,7 +120,11 @@ whole_found honest image faults b f whole t =
     let o = first_of (identifier_of n) rs in
     whole_at rs n hs ks (holdings_of l) (holdings_of r) (subst (λ xs. Stays o n 1 xs (holdings_of l)) (found-holdings l.earlier 0 l.memory.slots) (unfound o n 1 (holdings_of l)))
     (subst (λ xs. Stays o n 2 xs (holdings_of r)) (found-holdings r.earlier 0 r.memory.slots) (unfound o n 2 (holdings_of r)))
-    (whole rs (inr (f.up, refl)) (two_sites 1 2 hs ks) (hs, ks, inr (f.left.up, refl), inr (f.right.up, refl), refl) t)
+    (whole.whole rs (inr (f.up, refl)) (two_sites 1 2 hs ks) (hs, ks, inr (f.left.up, refl), inr (f.right.up, refl), refl) t)
+
+-- and the log's records are in order there
+found_order : {D C : Type 0} (honest : Bool) (image : D → List ℕ → Type 0) (faults : D → ℕ) (b : Book D C) → IsFound honest image faults b → LeavesWhole honest image b → AreInOrder (logged b.manager.log.slots)
+found_order honest image faults b f whole = whole.ordered (logged b.manager.log.slots) (inr (f.up, refl))
 
 -- What is known of a transaction before a store is recovered: by the records of the log, and what both stores hold.
 pub record Known (rs : List CommitRecord) (n : ℕ) (a b : List Holding) : Type 0 where
@@ -181,26 +186,37 @@ abbrev with_left : {D C : Type 0} → Book D C → Standing D C → KvState D �
 with_left b n s = record b { manager = n; stores = record b.stores { left = s } }
 
 pub left_leaves : {D C : Type 0} (honest : Bool) (image : D → List ℕ → Type 0) (faults : D → ℕ) (law : IsRecoveredOneByOne) (b : Book D C) (desk : List RmNo) (rm : RmNo) (n : Standing D C) (s : KvState D) → IsTrue honest
-    → IsFound honest image faults b → AreUnique (logged b.manager.log.slots) → LeavesWhole honest image b → map number_of_manager desk ≡ [] → rm.value ≡ 1 → LeavesOne honest image faults desk rm b.manager n b.stores.left s
+    → IsFound honest image faults b → LeavesWhole honest image b → map number_of_manager desk ≡ [] → rm.value ≡ 1 → LeavesOne honest image faults desk rm b.manager n b.stores.left s
     → LeavesWhole honest image (with_left b n s)
-left_leaves {D} {C} honest image faults law b desk rm n s is f unique whole on numbered k rs may ss l t = elim k.log [
-  | inl same ↦ subst (λ qs. is_whole qs ss (number_of t) ≡ true) (sym (log_same image b.manager.log rs f.images (subst (λ (g : LogState D). MayHold image g rs) same may)))
-      (left_whole honest image rs0 (number_of t) b.stores.left s b.stores.right ss known f.left f.right (subst (λ m. LeavesStore honest image rs0 m b.stores.left s) numbered k.store) l)
-  | inr done ↦ (
-      let settles = subst (λ m. SettlesStore honest image faults rs0 m b.stores.left s) numbered done.0 in
-      let store = subst (λ m. LeavesStore honest image rs0 m b.stores.left s) numbered k.store in
-      let freed = log_freed honest image (desk ++ rm ∷ []) b.manager.lives b.manager.log n.log rs is f.up done.1 may in
-      let first = left_call desk rm b.manager.lives rs0 rs b.stores.left b.stores.right s on numbered unique freed settles.settled in
-      let stays = law.stays (1 ∷ []) (standing rs0 (sites_of b.stores.left b.stores.right)) (standing rs (sites_of s b.stores.right)) (number_of t) (standing rs (sites_of s b.stores.right), first.call, refl) known.whole known.early in
-      stored_whole honest image rs (number_of t) s b.stores.right ss stays.0
-      (settled_stored honest image faults rs0 1 b.stores.left s f.left store settles (settles.up f.counted.0 f.left.up)) f.right l)
-]
+left_leaves {D} {C} honest image faults law b desk rm n s is f whole on numbered k = record {
+  whole = λ rs may ss l t. whole_after rs may ss l t;
+  ordered = λ rs may. elim k.log [
+    | inl same ↦ whole.ordered rs (subst (λ (g : LogState D). MayHold image g rs) same may)
+    | inr done ↦ order_of_freed (desk ++ rm ∷ []) b.manager.lives rs rs0 (freed rs may done.1) (found_order honest image faults b f whole)
+  ];
+}
   where
     rs0 : List CommitRecord
     rs0 = logged b.manager.log.slots
 
-    known : Known rs0 (number_of t) (holdings_of b.stores.left) (holdings_of b.stores.right)
-    known = record { whole = whole_found honest image faults b f whole t; early = f.early (number_of t) }
+    known : (t : TxId) → Known rs0 (number_of t) (holdings_of b.stores.left) (holdings_of b.stores.right)
+    known t = record { whole = whole_found honest image faults b f whole t; early = f.early (number_of t) }
+
+    freed : (rs : List CommitRecord) → MayHold image n.log rs → FreesFor honest image (desk ++ rm ∷ []) b.manager.lives b.manager.log n.log → OnlyFrees (desk ++ rm ∷ []) b.manager.lives rs0 rs
+    freed rs may frees = log_freed honest image (desk ++ rm ∷ []) b.manager.lives b.manager.log n.log rs is f.up frees may
+
+    whole_after : (rs : List CommitRecord) → MayHold image n.log rs → (ss : List Site) → TwoLeave honest image 1 2 s b.stores.right ss → (t : TxId) → is_whole rs ss (number_of t) ≡ true
+    whole_after rs may ss l t = elim k.log [
+      | inl same ↦ subst (λ qs. is_whole qs ss (number_of t) ≡ true) (sym (log_same image b.manager.log rs f.images (subst (λ (g : LogState D). MayHold image g rs) same may)))
+          (left_whole honest image rs0 (number_of t) b.stores.left s b.stores.right ss (known t) f.left f.right (subst (λ m. LeavesStore honest image rs0 m b.stores.left s) numbered k.store) l)
+      | inr done ↦ (
+          let settles = subst (λ m. SettlesStore honest image faults rs0 m b.stores.left s) numbered done.0 in
+          let store = subst (λ m. LeavesStore honest image rs0 m b.stores.left s) numbered k.store in
+          let first = left_call desk rm b.manager.lives rs0 rs b.stores.left b.stores.right s on numbered (found_order honest image faults b f whole).unique (freed rs may done.1) settles.settled in
+          let stays = law.stays (1 ∷ []) (standing rs0 (sites_of b.stores.left b.stores.right)) (standing rs (sites_of s b.stores.right)) (number_of t) (standing rs (sites_of s b.stores.right), first.call, refl) (known t).whole (known t).early in
+          stored_whole honest image rs (number_of t) s b.stores.right ss stays.0
+          (settled_stored honest image faults rs0 1 b.stores.left s f.left store settles (settles.up f.counted.0 f.left.up)) f.right l)
+    ]
 
 -- ---- the right store, after it
 
@@ -210,15 +226,16 @@ pub record LeftDone {D C : Type 0} (honest : Bool) (image : D → List ℕ → T
   pub last : n.last ≡ b.manager.last
   pub up : IsTrue n.log.is_up
   pub images : LogHolds (image n.log.disk) (logged n.log.slots)
-  pub unique : AreUnique (logged n.log.slots)
+  pub ordered : AreInOrder (logged n.log.slots)
   pub left : IsAsStored honest image s
   pub first : FirstDone (logged b.manager.log.slots) (logged n.log.slots) b.stores.left b.stores.right s
 
 pub left_done : {D C : Type 0} (honest : Bool) (image : D → List ℕ → Type 0) (faults : D → ℕ) (b : Book D C) (desk desk_now : List RmNo) (rm : RmNo) (n : Standing D C) (s : KvState D) → IsTrue honest → IsFound honest image faults b
-    → AreUnique (logged b.manager.log.slots) → map number_of_manager desk ≡ [] → rm.value ≡ 1 → LeavesOne honest image faults desk rm b.manager n b.stores.left s → EndsOne honest image faults desk desk_now rm b.manager n b.stores.left s
+    → LeavesWhole honest image b → map number_of_manager desk ≡ [] → rm.value ≡ 1 → LeavesOne honest image faults desk rm b.manager n b.stores.left s → EndsOne honest image faults desk desk_now rm b.manager n b.stores.left s
     → LeftDone honest image faults b n s
-left_done {D} {C} honest image faults b desk desk_now rm n s is f unique on numbered k e =
+left_done {D} {C} honest image faults b desk desk_now rm n s is f whole on numbered k e =
     let rs0 = logged b.manager.log.slots in
+    let order = found_order honest image faults b f whole in
     let settles = subst (λ m. SettlesStore honest image faults rs0 m b.stores.left s) numbered e.settles in
     let store = subst (λ m. LeavesStore honest image rs0 m b.stores.left s) numbered k.store in
     record {
@@ -226,9 +243,9 @@ left_done {D} {C} honest image faults b desk desk_now rm n s is f unique on numb
       last = ap (λ (m : Standing D C). m.last) k.rest;
       up = subst (λ u. IsTrue u) (sym e.up) f.up;
       images = e.durable is f.up;
-      unique = (e.one unique).0;
+      ordered = order_of_freed (desk ++ rm ∷ []) b.manager.lives (logged n.log.slots) rs0 e.frees.records order;
       left = settled_stored honest image faults rs0 1 b.stores.left s f.left store settles (settles.up f.counted.0 f.left.up);
-      first = left_call desk rm b.manager.lives rs0 (logged n.log.slots) b.stores.left b.stores.right s on numbered unique e.frees.records settles.settled;
+      first = left_call desk rm b.manager.lives rs0 (logged n.log.slots) b.stores.left b.stores.right s on numbered order.unique e.frees.records settles.settled;
     }
 
 abbrev with_both : {D C : Type 0} → Book D C → Standing D C → KvState D → KvState D → Book D C
@@ -237,17 +254,13 @@ with_both b n s r = record b { manager = n; stores = record b.stores { left = s;
 pub right_leaves : {D C : Type 0} (honest : Bool) (image : D → List ℕ → Type 0) (faults : D → ℕ) (law : IsRecoveredOneByOne) (b : Book D C) (n : Standing D C) (s : KvState D) (desk : List RmNo) (rm : RmNo) (q : Standing D C) (r : KvState D)
     → IsTrue honest → IsFound honest image faults b → LeavesWhole honest image b → LeftDone honest image faults b n s → map number_of_manager desk ≡ 1 ∷ [] → rm.value ≡ 2 → LeavesOne honest image faults desk rm n q b.stores.right r
     → LeavesWhole honest image (with_both b q s r)
-right_leaves {D} {C} honest image faults law b n s desk rm q r is f whole d on numbered k rs may ss l t = elim k.log [
-  | inl same ↦ subst (λ ps. is_whole ps ss (number_of t) ≡ true) (sym (log_same image n.log rs d.images (subst (λ (g : LogState D). MayHold image g rs) same may)))
-      (right_whole honest image rs1 (number_of t) s b.stores.right r ss known d.left f.right (subst (λ m. LeavesStore honest image rs1 m b.stores.right r) numbered k.store) l)
-  | inr done ↦ (
-      let settles = subst (λ m. SettlesStore honest image faults rs1 m b.stores.right r) numbered done.0 in
-      let store = subst (λ m. LeavesStore honest image rs1 m b.stores.right r) numbered k.store in
-      let freed = log_freed honest image (desk ++ rm ∷ []) n.lives n.log q.log rs is d.up done.1 may in
-      let second = right_call desk rm n.lives rs1 rs s b.stores.right r on numbered d.unique freed settles.settled in
-      let stays = law.stays (1 ∷ 2 ∷ []) start (standing rs (sites_of s r)) (number_of t) (standing rs1 (sites_of s b.stores.right), d.first.call, (standing rs (sites_of s r), second, refl)) before (f.early (number_of t)) in
-      stored_whole honest image rs (number_of t) s r ss stays.0 d.left (settled_stored honest image faults rs1 2 b.stores.right r f.right store settles (settles.up f.counted.1 f.right.up)) l)
-]
+right_leaves {D} {C} honest image faults law b n s desk rm q r is f whole d on numbered k = record {
+  whole = λ rs may ss l t. whole_after rs may ss l t;
+  ordered = λ rs may. elim k.log [
+    | inl same ↦ subst AreInOrder (sym (as_was rs may same)) d.ordered
+    | inr done ↦ order_of_freed (desk ++ rm ∷ []) n.lives rs rs1 (freed rs may done.1) d.ordered
+  ];
+}
   where
     rs0 : List CommitRecord
     rs0 = logged b.manager.log.slots
@@ -258,13 +271,31 @@ right_leaves {D} {C} honest image faults law b n s desk rm q r is f whole d on n
     start : Before
     start = standing rs0 (sites_of b.stores.left b.stores.right)
 
-    before : is_whole rs0 (sites_of b.stores.left b.stores.right) (number_of t) ≡ true
-    before = whole_found honest image faults b f whole t
+    before : (t : TxId) → is_whole rs0 (sites_of b.stores.left b.stores.right) (number_of t) ≡ true
+    before t = whole_found honest image faults b f whole t
 
-    known : Known rs1 (number_of t) (holdings_of s) (holdings_of b.stores.right)
-    known =
-        let stays = law.stays (1 ∷ []) start (standing rs1 (sites_of s b.stores.right)) (number_of t) (standing rs1 (sites_of s b.stores.right), d.first.call, refl) before (f.early (number_of t)) in
+    known : (t : TxId) → Known rs1 (number_of t) (holdings_of s) (holdings_of b.stores.right)
+    known t =
+        let stays = law.stays (1 ∷ []) start (standing rs1 (sites_of s b.stores.right)) (number_of t) (standing rs1 (sites_of s b.stores.right), d.first.call, refl) (before t) (f.early (number_of t)) in
         record { whole = stays.0; early = stays.1 }
+
+    as_was : (rs : List CommitRecord) → MayHold image q.log rs → q.log ≡ n.log → rs ≡ rs1
+    as_was rs may same = log_same image n.log rs d.images (subst (λ (g : LogState D). MayHold image g rs) same may)
+
+    freed : (rs : List CommitRecord) → MayHold image q.log rs → FreesFor honest image (desk ++ rm ∷ []) n.lives n.log q.log → OnlyFrees (desk ++ rm ∷ []) n.lives rs1 rs
+    freed rs may frees = log_freed honest image (desk ++ rm ∷ []) n.lives n.log q.log rs is d.up frees may
+
+    whole_after : (rs : List CommitRecord) → MayHold image q.log rs → (ss : List Site) → TwoLeave honest image 1 2 s r ss → (t : TxId) → is_whole rs ss (number_of t) ≡ true
+    whole_after rs may ss l t = elim k.log [
+      | inl same ↦ subst (λ ps. is_whole ps ss (number_of t) ≡ true) (sym (as_was rs may same))
+          (right_whole honest image rs1 (number_of t) s b.stores.right r ss (known t) d.left f.right (subst (λ m. LeavesStore honest image rs1 m b.stores.right r) numbered k.store) l)
+      | inr done ↦ (
+          let settles = subst (λ m. SettlesStore honest image faults rs1 m b.stores.right r) numbered done.0 in
+          let store = subst (λ m. LeavesStore honest image rs1 m b.stores.right r) numbered k.store in
+          let second = right_call desk rm n.lives rs1 rs s b.stores.right r on numbered d.ordered.unique (freed rs may done.1) settles.settled in
+          let stays = law.stays (1 ∷ 2 ∷ []) start (standing rs (sites_of s r)) (number_of t) (standing rs1 (sites_of s b.stores.right), d.first.call, (standing rs (sites_of s r), second, refl)) (before t) (f.early (number_of t)) in
+          stored_whole honest image rs (number_of t) s r ss stays.0 d.left (settled_stored honest image faults rs1 2 b.stores.right r f.right store settles (settles.up f.counted.1 f.right.up)) l)
+    ]
 
 -- ---- once both are recovered
 
@@ -333,7 +364,8 @@ pub both_whole : {D C : Type 0} (honest : Bool) (image : D → List ℕ → Type
     → LeavesOne honest image faults desk rm b.manager n b.stores.left s → EndsOne honest image faults desk desk_now rm b.manager n b.stores.left s → LeavesOne honest image faults desk2 rm2 n q b.stores.right r
     → EndsOne honest image faults desk2 desk_now2 rm2 n q b.stores.right r → LeavesWhole honest image (with_both b q s r) → IsWholeBook honest image (with_both b q s r)
 both_whole {D} {C} honest image faults b desk desk_now rm n s desk2 desk_now2 rm2 q r opened f d numbered numbered2 k e k2 e2 whole = record {
-  whole = whole;
+  whole = whole.whole;
+  ordered = whole.ordered;
   tied = λ t x at. absurd (none_live q.lives none t x at);
   routed = λ t x at. absurd (none_live q.lives none t x at);
   begun = λ t x at. absurd (none_live q.lives none t x at);

@@ -8,7 +8,8 @@ use Rattle.recovery_laws.specs.Finding.{settled}
 use Rattle.recovery_laws.specs.OneByOne.{IsRecoveredOneByOne, RecoversOne, Standing}
 use Rattle.recovery_laws.specs.Steps.{at_site}
 use Rattle.recovery_laws.specs.Whole.{Site}
-use Rattle.transactions.specs.Recovery.{AreUnique, number_of_manager}
+use Rattle.transactions.specs.Logged.{AreUnique}
+use Rattle.transactions.specs.Recovery.{number_of_manager}
 use Rattle.transactions.specs.Recovery.{IsOneOf}
 use Rattle.ledger_book.specs.Accounts.{at_side, manager_of}
 use Rattle.ledger_book.specs.Recovered.{AreEnded, sites_of}

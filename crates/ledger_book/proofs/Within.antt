@@ -1,7 +1,7 @@
 -- The write of a transaction in a book: all or nothing holds after each of its parts.
 use Rattle.std.specs.Prelude.{◌≢◌, IsTrue, IsSome, OnErr, OnOk}
 use Rattle.std.proofs.Common.{◌≡◌, ◌⊎◌, inl, inr, ℕ, ◌==◌, ◌<◌, ◌≤◌, Bool, true, false, List, [], ◌∷◌, Option, Some, None, Result, Ok, Err, refl, ap, subst, sym, ◌∙◌}
-use Rattle.dtx_values.specs.TxIds.{identifier_of_id, number_of}
+use Rattle.dtx_values.specs.TxIds.{number_of}
 use Rattle.dtx_values.specs.declared.call.Call.TheVariants.{Begin}
 use Rattle.dtx_values.specs.declared.entry.Answer.TheVariants.{Fine}
 use Rattle.dtx_values.specs.declared.note.Note.{Note}
@@ -21,7 +21,7 @@ use Rattle.transactions.specs.Doing.{HasRunAt, HeardAt}
 use Rattle.transactions.specs.Ending.{IsLeft}
 use Rattle.transactions.specs.Events.{note_in}
 use Rattle.transactions.specs.Hearing.{Given, Hears, HearsNote}
-use Rattle.transactions.specs.Logged.{KeepsRecord}
+use Rattle.transactions.specs.Logged.{KeepsCommits}
 use Rattle.transactions.specs.Slots.{AreSame, KeepsRest, KeepsTime, Standing, live_at}
 use Rattle.transactions.specs.State.{LiveState, blank}
 use Rattle.transactions.specs.declared.event.Event.{Event}
@@ -298,7 +298,7 @@ BeginLaw D C honest image faults =
 
 pub begun : {D C : Type 0} (honest : Bool) (image : D → List ℕ → Type 0) (faults : D → ℕ) (t : TxId) (timeout : Timeout) (m n : Standing D C) (o : Stores D) → BeginLaw D C honest image faults → IsTrue honest → AreFree Left o
     → ((y : LiveState) × (live_at t n.lives ≡ Some y) × IsCalled faults n.log (Begin t.t timeout) 1 Fine (blank t m.reading) y) → HasRunAt honest image t n → (m.last < number_of t) × (n.last ≡ number_of t)
-    → ((u : TxId) → KeepsRecord image (identifier_of_id u) m.log n.log) → AreSame t m.lives n.lives → AllOrNothing honest image m o → IsWriting honest image t (record { manager = n; stores = o })
+    → KeepsCommits image m.log n.log → AreSame t m.lives n.lives → AllOrNothing honest image m o → IsWriting honest image t (record { manager = n; stores = o })
 begun honest image faults t timeout m n o law is free y run number records others all = record {
   whole = law t m n o is all (record {
     time = m.reading;
@@ -329,7 +329,7 @@ abbrev pub RefusalLaw : (D C : Type 0) → Bool → (D → List ℕ → Type 0) 
 RefusalLaw D C honest image = (m n : Standing D C) (o : Stores D) → AllOrNothing honest image m o → IsNumbering image m n → AllOrNothing honest image n o
 
 pub not_begun : {D C : Type 0} (honest : Bool) (image : D → List ℕ → Type 0) (m n : Standing D C) (o : Stores D) → RefusalLaw D C honest image → n.lives ≡ m.lives → m.last ≤ n.last
-    → ((u : TxId) → KeepsRecord image (identifier_of_id u) m.log n.log) → AllOrNothing honest image m o → AllOrNothing honest image n o
+    → KeepsCommits image m.log n.log → AllOrNothing honest image m o → AllOrNothing honest image n o
 not_begun honest image m n o law same rises records all = law m n o all (record { same = same; rises = rises; records = records })
 
 -- ---- the end

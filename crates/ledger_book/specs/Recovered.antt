@@ -13,7 +13,8 @@ use Rattle.kv_resource.specs.Store.{KvState, open_records}
 use Rattle.recovery_laws.specs.Finding.{settled}
 use Rattle.recovery_laws.specs.Whole.{IsEnded, Site, has_here, is_whole}
 use Rattle.transactions.specs.Recovering.{OnlyFrees}
-use Rattle.transactions.specs.Recovery.{AreUnique, IsFoundPartly, IsOneOf, IsPartly, first_obstacle}
+use Rattle.transactions.specs.Logged.{AreUnique}
+use Rattle.transactions.specs.Recovery.{IsFoundPartly, IsOneOf, IsPartly, first_obstacle}
 use Rattle.transactions.specs.Slots.{Standing}
 use Rattle.transactions.specs.State.{LiveState}
 

@@ -10,7 +10,7 @@ use Rattle.log_epochs.specs.Epochs.{epoch_of}
 use Rattle.recovery_laws.specs.Whole.{Site, has_here, is_whole}
 use Rattle.all_or_nothing.specs.Whole.{IsAllOrNothing}
 use Rattle.kv_holding.specs.Holding.{IsAsStored}
-use Rattle.transactions.specs.Logged.{MayHold}
+use Rattle.transactions.specs.Logged.{AreInOrder, MayHold}
 use Rattle.transactions.specs.Slots.{live_at}
 use Rattle.transactions.specs.State.{LiveState}
 use Rattle.ledger_book.specs.Holding.{stores_keep, stores_leave, stores_place, stores_sound}
@@ -41,9 +41,10 @@ pub record IsWriting {D C : Type 0} (honest : Bool) (image : D → List ℕ → 
   pub left : IsOfTransaction t b.stores.left_as
   pub right : IsOfTransaction t b.stores.right_as
 
--- Whatever a crash may leave of the three disks of a book, each transaction is whole in it.
-abbrev pub LeavesWhole : {D C : Type 0} → Bool → (D → List ℕ → Type 0) → Book D C → Type 0
-LeavesWhole honest image b = (rs : List CommitRecord) → MayHold image b.manager.log rs → (ss : List Site) → stores_leave honest image b.stores ss → (t : TxId) → is_whole rs ss (number_of t) ≡ true
+-- Whatever a crash may leave of the three disks of a book, each transaction is whole in it, and the records of the log are in order.
+pub record LeavesWhole {D C : Type 0} (honest : Bool) (image : D → List ℕ → Type 0) (b : Book D C) : Type 0 where
+  pub whole : (rs : List CommitRecord) → MayHold image b.manager.log rs → (ss : List Site) → stores_leave honest image b.stores ss → (t : TxId) → is_whole rs ss (number_of t) ≡ true
+  pub ordered : (rs : List CommitRecord) → MayHold image b.manager.log rs → AreInOrder rs
 
 -- What a book is when it is opened: no transaction goes on, and no store is enlisted; the log is up, and all numbers of its epoch count as given; each disk has what is in memory; and no call of this process
 -- prepared any of it. The counts of failed calls aren't at their greatest.

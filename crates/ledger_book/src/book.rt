@@ -3,7 +3,6 @@ ghost use Rattle.std.specs.Prelude.{◌≡◌, ◌≤◌, ◌<◌, ◌-◌, ◌^
 ghost use Rattle.coordinator_log.specs.Slots.{open_records as logged};
 ghost use Rattle.kv_resource.specs.Store.{open_records, table_of};
 ghost use Rattle.ledger_book.specs.Accounts.{CanMove, amount_of, at_side};
-ghost use Rattle.transactions.specs.Recovery.{AreUnique};
 ghost use Rattle.ledger_book.specs.Recovered.{AreEnded, EndsOne, LeavesOne};
 ghost use Rattle.ledger_book.specs.Whole.{AreFree, IsFound, IsWholeBook, LeavesWhole};
 ghost use Rattle.ledger_book.specs.declared.account.Side.TheVariants.{Left};
@@ -141,8 +140,8 @@ impl<D: Disk + Drop, C: Clock + Drop> Book<D, C> {
     ///
     /// Any [`Trouble`] but [`Trouble::NotOne`].
     pub fn recover(&mut self, alloc: Global) -> Result<Recovery, Trouble>
-        ensures leaves { IsTrue D.honest → IsFound D.honest D.image D.faults self.old → AreUnique (logged self.old.manager.log.slots) → LeavesWhole D.honest D.image self.old → LeavesWhole D.honest D.image self.new }
-        ensures whole { IsTrue D.honest → IsFound D.honest D.image D.faults self.old → AreUnique (logged self.old.manager.log.slots) → LeavesWhole D.honest D.image self.old → OnOk result (IsWholeBook D.honest D.image self.new) }
+        ensures leaves { IsTrue D.honest → IsFound D.honest D.image D.faults self.old → LeavesWhole D.honest D.image self.old → LeavesWhole D.honest D.image self.new }
+        ensures whole { IsTrue D.honest → IsFound D.honest D.image D.faults self.old → LeavesWhole D.honest D.image self.old → OnOk result (IsWholeBook D.honest D.image self.new) }
         ensures ended { OnOk result (AreEnded (logged self.old.manager.log.slots) self.old.stores.left self.old.stores.right self.new.stores.left self.new.stores.right) }
     {
         recovery_one_by_one();

@@ -14,7 +14,6 @@ use all_or_nothing::{
 use dtx_values::Timeout;
 use kv_holding::kv_holds;
 use kv_resource::KvRefusal;
-use log_epochs::no_transaction_is_an_epoch;
 use outside::{Clock, Disk};
 use transactions::{CommitError, CommittableTransaction, Phases, TxError};
 
@@ -41,7 +40,6 @@ impl<D: Disk + Drop, C: Clock + Drop> Book<D, C> {
         ensures refused { OnErr result (IsTrue D.honest → IsWholeBook D.honest D.image self.old → IsWholeBook D.honest D.image self.new) }
         ensures stores { self.new.stores ≡ self.old.stores }
     {
-        no_transaction_is_an_epoch();
         beginning_keeps_all_or_nothing::<D, C, Stores<D>>();
         refusal_keeps_all_or_nothing::<D, C, Stores<D>>();
         let tx = match self.manager.begin(Timeout::Default) {

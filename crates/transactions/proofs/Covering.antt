@@ -10,7 +10,8 @@ use Rattle.log_epochs.specs.Epochs.{is_epoch_record}
 use Rattle.recovery_laws.specs.OneByOne.{covers, is_among}
 use Rattle.recovery_laws.proofs.Changing.{each_same}
 use Rattle.transactions.specs.Recovering.{OnlyFrees, has_place, has_recovered, is_covered, may_be_freed}
-use Rattle.transactions.specs.Recovery.{AreUnique, IsOneOf, number_of_manager}
+use Rattle.transactions.specs.Logged.{AreUnique}
+use Rattle.transactions.specs.Recovery.{IsOneOf, number_of_manager}
 use Rattle.transactions.specs.State.{LiveState}
 use Rattle.transactions.proofs.Freeing.{list_any-map}
 
@@ -55,7 +56,7 @@ none_there id (x ∷ rs) r none there is = elim (cases_Bool (eqb x.id id)) [
     by ih other (suc k, lt, at) = ih (k, omega (arith, lt), at)
 
 -- of the records that are left no transaction has two
-unique_among : (rs qs : List CommitRecord) → AreUnique rs → All (Contains rs) qs → AreUnique qs
+pub unique_among : (rs qs : List CommitRecord) → AreUnique rs → All (Contains rs) qs → AreUnique qs
 unique_among rs qs unique among = All-weaker (Contains qs) (λ r. first_of r.id qs ≡ Some r) (λ r there. by r there (first_of r.id qs) refl) qs (All-contains_itself qs)
   where
     first_in : (r : CommitRecord) → Contains qs r → first_of r.id rs ≡ Some r

@@ -32,3 +32,4 @@ pub mod Turning
 pub mod Obstacles
 pub mod Partly
 pub mod Covering
+pub mod InOrder

@@ -102,7 +102,7 @@ numbers_same honest image faults log = record {
   imaged = λ is up c i. inl i;
   still = λ up. up;
   grows = omega arith;
-  untouched = λ is other off rs h. (rs, h, refl);
+  untouched = λ is rs h. (rs, h, refl);
 }
 
 -- a number of the epoch that all images have is recorded

@@ -9,8 +9,8 @@ use Rattle.coordinator_log.specs.State.{LogState}
 use Rattle.coordinator_log.specs.declared.refusal.LogRefusal.{LogRefusal}
 use Rattle.coordinator_log.specs.declared.refusal.LogRefusal.TheVariants.{Full, NoSuch as NoRecord, Memory as LogMemory}
 use Rattle.log_epochs.specs.Beginning.{AllAre, IsSameOrNext}
-use Rattle.log_epochs.specs.Epochs.{epoch_of, is_epoch}
-use Rattle.transactions.specs.Logged.{KeepsRecord}
+use Rattle.log_epochs.specs.Epochs.{epoch_of}
+use Rattle.transactions.specs.Logged.{KeepsCommits}
 use Rattle.outside.specs.Faults.{Rose}
 use Rattle.transactions.specs.declared.error.TxError.{TxError}
 use Rattle.transactions.specs.declared.error.TxError.TheVariants.{Many, Memory, LogFull, LogStopped, NoEpoch}
@@ -49,7 +49,7 @@ pub record NumbersLog {D : Type 0} (honest : Bool) (image : D → List ℕ → T
   pub imaged : IsTrue honest → IsTrue from.is_up → (c : List ℕ) → image to.disk c → image from.disk c ⊎ IsOkAnd (log_has c) (IsSameOrNext (open_records from.slots))
   pub still : IsTrue to.is_up → IsTrue from.is_up
   pub grows : faults from.disk ≤ faults to.disk
-  pub untouched : IsTrue honest → (other : ℕ) → is_epoch other ≡ false → KeepsRecord image other from to
+  pub untouched : IsTrue honest → KeepsCommits image from to
 
 -- why no epoch begins, where the log refused so
 abbrev pub number_refusal : LogRefusal → TxError

@@ -1,9 +1,9 @@
 -- The recovery of a resource: what keeps it from being recovered, and what becomes of what it holds.
-use Rattle.std.specs.Prelude.{ℕ, ◌≡◌, ◌++◌, Bool, true, false, ◌&&◌, not, All, List, [], ◌∷◌, map, Option, Some, None, Result, Ok, Err, if◌then◌else◌}
+use Rattle.std.specs.Prelude.{ℕ, ◌≡◌, ◌++◌, Bool, true, false, ◌&&◌, not, List, [], ◌∷◌, map, Option, Some, None, Result, Ok, Err, if◌then◌else◌}
 use Rattle.dtx_values.specs.declared.words.Outcome.{Outcome}
 use Rattle.dtx_values.specs.declared.words.Outcome.TheVariants.{Committed, Aborted}
 use Rattle.dtx_values.specs.declared.number.RmNo.{RmNo}
-use Rattle.dtx_model.specs.Log.{CommitRecord, first_of}
+use Rattle.dtx_model.specs.Log.{CommitRecord}
 use Rattle.dtx_model.specs.Promotes.{identifier_of}
 use Rattle.dtx_model.specs.Words.{all_of}
 use Rattle.recovery_laws.specs.OneByOne.{RecoversOne}
@@ -18,6 +18,7 @@ use Rattle.transactions.specs.declared.recovered.Finished.{Finished}
 use Rattle.transactions.specs.declared.recovered.RecoverRefusal.{RecoverRefusal}
 use Rattle.transactions.specs.declared.recovered.RecoverRefusal.TheVariants.{Later as LaterRefusal, GoesOn as GoesOnRefusal, NotNamed as NotNamedRefusal, Failed as FailedRefusal, LogStopped as StoppedRefusal}
 use Rattle.transactions.specs.declared.recovered.Recovered.{Recovered}
+use Rattle.transactions.specs.Logged.{AreUnique}
 use Rattle.transactions.specs.Recovering.{has_place}
 use Rattle.transactions.specs.State.{LiveState}
 
@@ -92,10 +93,6 @@ finishes rs m hs = all_of (finish_of rs m) hs
 -- what a recovery tells of one
 abbrev pub finish_told : Finished → Pair × Outcome
 finish_told f = (pair_of f.enlistment, f.outcome)
-
--- no transaction has two records: each is the first of its transaction
-abbrev pub AreUnique : List CommitRecord → Type 0
-AreUnique rs = All (λ r. first_of r.id rs ≡ Some r) rs
 
 -- managers by their numbers
 abbrev pub number_of_manager : RmNo → ℕ

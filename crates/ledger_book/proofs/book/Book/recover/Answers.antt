@@ -4,7 +4,7 @@ use Rattle.dtx_values.specs.declared.number.RmNo.{RmNo}
 use Rattle.coordinator_log.specs.Slots.{open_records}
 use Rattle.kv_resource.specs.Held.{holdings_of}
 use Rattle.recovery_laws.specs.Finding.{settled}
-use Rattle.transactions.specs.Recovery.{AreUnique, number_of_manager}
+use Rattle.transactions.specs.Recovery.{number_of_manager}
 use Rattle.ledger_book.specs.Whole.{IsFound, LeavesWhole}
 use Rattle.ledger_book.proofs.Recovered.{LeftDone, both_whole, left_done, left_leaves, right_leaves}
 use Rattle.ledger_book.proofs.Recovering.{both_ended}
@@ -12,38 +12,38 @@ use Rattle.ledger_book.proofs.Within.{from_ok}
 use Rattle.ledger_book.proofs.book.Book.recover.Goals as goal
 
 pub returns-in-Err-clause-leaves : goal.returns-in-Err-clause-leaves
-returns-in-Err-clause-leaves g c = λ honest f unique whole.
-    left_leaves g.D.Disk.honest g.D.Disk.image g.D.Disk.faults c.recovery_one_by_one.ensures c.args.self.now c.new-desk.result c.manager-rm.result c.recover_store.new.manager c.recover_store.new.store honest f unique whole (ap (map number_of_manager) c.new-desk.ensures) c.manager-rm.ensures c.recover_store.ensures.leaves
+returns-in-Err-clause-leaves g c = λ honest f whole.
+    left_leaves g.D.Disk.honest g.D.Disk.image g.D.Disk.faults c.recovery_one_by_one.ensures c.args.self.now c.new-desk.result c.manager-rm.result c.recover_store.new.manager c.recover_store.new.store honest f whole (ap (map number_of_manager) c.new-desk.ensures) c.manager-rm.ensures c.recover_store.ensures.leaves
 
 pub returns-in_err-add-clause-leaves : goal.returns-in_err-add-clause-leaves
-returns-in_err-add-clause-leaves g c = λ honest f unique whole.
-    left_leaves g.D.Disk.honest g.D.Disk.image g.D.Disk.faults c.recovery_one_by_one.ensures c.args.self.now c.new-desk.result c.manager-rm.result c.recover_store.new.manager c.recover_store.new.store honest f unique whole (ap (map number_of_manager) c.new-desk.ensures) c.manager-rm.ensures c.recover_store.ensures.leaves
+returns-in_err-add-clause-leaves g c = λ honest f whole.
+    left_leaves g.D.Disk.honest g.D.Disk.image g.D.Disk.faults c.recovery_one_by_one.ensures c.args.self.now c.new-desk.result c.manager-rm.result c.recover_store.new.manager c.recover_store.new.store honest f whole (ap (map number_of_manager) c.new-desk.ensures) c.manager-rm.ensures c.recover_store.ensures.leaves
 
 pub returns-in-Err-recover_store-clause-leaves : goal.returns-in-Err-recover_store-clause-leaves
-returns-in-Err-recover_store-clause-leaves g c = λ honest f unique whole.
+returns-in-Err-recover_store-clause-leaves g c = λ honest f whole.
     let d =
-    left_done g.D.Disk.honest g.D.Disk.image g.D.Disk.faults c.args.self.now c.new-desk.result c.recover_store.new.desk c.manager-rm.result c.recover_store.new.manager c.recover_store.new.store honest f unique (ap (map number_of_manager) c.new-desk.ensures) c.manager-rm.ensures c.recover_store.ensures.leaves c.in-Ok.ensures.ends in
+    left_done g.D.Disk.honest g.D.Disk.image g.D.Disk.faults c.args.self.now c.new-desk.result c.recover_store.new.desk c.manager-rm.result c.recover_store.new.manager c.recover_store.new.store honest f whole (ap (map number_of_manager) c.new-desk.ensures) c.manager-rm.ensures c.recover_store.ensures.leaves c.in-Ok.ensures.ends in
     right_leaves g.D.Disk.honest g.D.Disk.image g.D.Disk.faults c.recovery_one_by_one.ensures c.args.self.now c.recover_store.new.manager c.recover_store.new.store c.recover_store.new.desk c.manager-rm-2.result c.recover_store-2.new.manager c.recover_store-2.new.store honest f whole d
     (ap (map number_of_manager) (c.in-Ok.ensures.ends.added ∙ ap (λ (d : List RmNo). d ++ c.manager-rm.result ∷ []) c.new-desk.ensures) ∙ ap (λ m. m ∷ []) c.manager-rm.ensures) c.manager-rm-2.ensures c.recover_store-2.ensures.leaves
 
 pub returns-in_err-add-2-clause-leaves : goal.returns-in_err-add-2-clause-leaves
-returns-in_err-add-2-clause-leaves g c = λ honest f unique whole.
+returns-in_err-add-2-clause-leaves g c = λ honest f whole.
     let d =
-    left_done g.D.Disk.honest g.D.Disk.image g.D.Disk.faults c.args.self.now c.new-desk.result c.recover_store.new.desk c.manager-rm.result c.recover_store.new.manager c.recover_store.new.store honest f unique (ap (map number_of_manager) c.new-desk.ensures) c.manager-rm.ensures c.recover_store.ensures.leaves c.in-Ok.ensures.ends in
+    left_done g.D.Disk.honest g.D.Disk.image g.D.Disk.faults c.args.self.now c.new-desk.result c.recover_store.new.desk c.manager-rm.result c.recover_store.new.manager c.recover_store.new.store honest f whole (ap (map number_of_manager) c.new-desk.ensures) c.manager-rm.ensures c.recover_store.ensures.leaves c.in-Ok.ensures.ends in
     right_leaves g.D.Disk.honest g.D.Disk.image g.D.Disk.faults c.recovery_one_by_one.ensures c.args.self.now c.recover_store.new.manager c.recover_store.new.store c.recover_store.new.desk c.manager-rm-2.result c.recover_store-2.new.manager c.recover_store-2.new.store honest f whole d
     (ap (map number_of_manager) (c.in-Ok.ensures.ends.added ∙ ap (λ (d : List RmNo). d ++ c.manager-rm.result ∷ []) c.new-desk.ensures) ∙ ap (λ m. m ∷ []) c.manager-rm.ensures) c.manager-rm-2.ensures c.recover_store-2.ensures.leaves
 
 pub returns-clause-leaves : goal.returns-clause-leaves
-returns-clause-leaves g c = λ honest f unique whole.
+returns-clause-leaves g c = λ honest f whole.
     let d =
-    left_done g.D.Disk.honest g.D.Disk.image g.D.Disk.faults c.args.self.now c.new-desk.result c.recover_store.new.desk c.manager-rm.result c.recover_store.new.manager c.recover_store.new.store honest f unique (ap (map number_of_manager) c.new-desk.ensures) c.manager-rm.ensures c.recover_store.ensures.leaves c.in-Ok.ensures.ends in
+    left_done g.D.Disk.honest g.D.Disk.image g.D.Disk.faults c.args.self.now c.new-desk.result c.recover_store.new.desk c.manager-rm.result c.recover_store.new.manager c.recover_store.new.store honest f whole (ap (map number_of_manager) c.new-desk.ensures) c.manager-rm.ensures c.recover_store.ensures.leaves c.in-Ok.ensures.ends in
     right_leaves g.D.Disk.honest g.D.Disk.image g.D.Disk.faults c.recovery_one_by_one.ensures c.args.self.now c.recover_store.new.manager c.recover_store.new.store c.recover_store.new.desk c.manager-rm-2.result c.recover_store-2.new.manager c.recover_store-2.new.store honest f whole d
     (ap (map number_of_manager) (c.in-Ok.ensures.ends.added ∙ ap (λ (d : List RmNo). d ++ c.manager-rm.result ∷ []) c.new-desk.ensures) ∙ ap (λ m. m ∷ []) c.manager-rm.ensures) c.manager-rm-2.ensures c.recover_store-2.ensures.leaves
 
 pub returns-clause-whole : goal.returns-clause-whole
-returns-clause-whole g c = λ honest f unique whole.
+returns-clause-whole g c = λ honest f whole.
     let d =
-    left_done g.D.Disk.honest g.D.Disk.image g.D.Disk.faults c.args.self.now c.new-desk.result c.recover_store.new.desk c.manager-rm.result c.recover_store.new.manager c.recover_store.new.store honest f unique (ap (map number_of_manager) c.new-desk.ensures) c.manager-rm.ensures c.recover_store.ensures.leaves c.in-Ok.ensures.ends in
+    left_done g.D.Disk.honest g.D.Disk.image g.D.Disk.faults c.args.self.now c.new-desk.result c.recover_store.new.desk c.manager-rm.result c.recover_store.new.manager c.recover_store.new.store honest f whole (ap (map number_of_manager) c.new-desk.ensures) c.manager-rm.ensures c.recover_store.ensures.leaves c.in-Ok.ensures.ends in
     let leaves =
     right_leaves g.D.Disk.honest g.D.Disk.image g.D.Disk.faults c.recovery_one_by_one.ensures c.args.self.now c.recover_store.new.manager c.recover_store.new.store c.recover_store.new.desk c.manager-rm-2.result c.recover_store-2.new.manager c.recover_store-2.new.store honest f whole d
     (ap (map number_of_manager) (c.in-Ok.ensures.ends.added ∙ ap (λ (d : List RmNo). d ++ c.manager-rm.result ∷ []) c.new-desk.ensures) ∙ ap (λ m. m ∷ []) c.manager-rm.ensures) c.manager-rm-2.ensures c.recover_store-2.ensures.leaves in
